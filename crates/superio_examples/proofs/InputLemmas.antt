@@ -3,9 +3,7 @@ use Rattle.std.proofs.Common.{◌≡◌, ℕ, ◌-◌, ◌≤◌, Bool, true, fa
 use Rattle.std.specs.Prelude.{if◌then◌else◌}
 use Rattle.std.proofs.lemmas.List.{take-append-drop, length-take, drop_min}
 use Rattle.circular_buffer.specs.Buffer.{keep_last}
-use Rattle.superio_core.specs.Serial.{State}
-use Rattle.superio_core.specs.Serial.RegisterMap.{is_loopback}
-use Rattle.superio_core.specs.Serial.Step.Raising.{enqueued_bytes}
+use Rattle.vm_superio.specs.Serial.{State, is_loopback, enqueued_bytes}
 use Rattle.superio_examples.specs.Input.{room_in}
 
 -- the bytes after the accepted ones are those after the room

@@ -4,16 +4,9 @@ use Rattle.std.proofs.Math.Nat.{mod-lt}
 use Rattle.std.proofs.lemmas.Bool.{false≢true}
 use Rattle.std.specs.Int.Bits.{and_mask}
 use Rattle.superio_core.specs.declared.trace.Asked.TheVariants.{Nothing}
-use Rattle.superio_core.specs.Bits.{has_bits, without_bits}
-use Rattle.superio_core.specs.Serial.{State, not_empty}
-use Rattle.superio_core.specs.Serial.Port.{Coherent}
-use Rattle.superio_core.specs.declared.serial.registers.Register.TheVariants.{RbrThr}
-use Rattle.superio_core.specs.Serial.RegisterMap.{register_at, is_dlab, register_read, identification_of}
-use Rattle.superio_core.specs.Serial.Operations.{Read, Response, ByteRead, Event, buffer_read, in_buffer_empty}
 use Rattle.vm_superio.specs.Links.{Link, TriggerAnswer, OutCall}
-use Rattle.vm_superio.specs.Serial.{Port}
+use Rattle.vm_superio.specs.Serial.{Port, has_bits, without_bits, State, not_empty, Coherent, RbrThr, register_at, is_dlab, register_read, identification_of, Read, Response, ByteRead, Event, buffer_read, in_buffer_empty, rbr_read, read_step, step, read_events}
 use Rattle.vm_superio.specs.Serial.Step.{IsReadStep}
-use Rattle.superio_core.specs.Serial.Step.{rbr_read, read_step, step, read_events}
 use Rattle.vm_superio.specs.Serial.Laws.{CoherenceLaw}
 use Rattle.vm_superio.specs.Serial.Laws.OneCall.{RbrDataReadyLaw}
 use Rattle.superio_script.specs.Driver.{IsReady, ReadsWhileReady, bytes_while_ready, without_bytes, drain_events, TakesAll}

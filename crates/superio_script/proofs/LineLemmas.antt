@@ -5,8 +5,6 @@ use Rattle.std.proofs.lemmas.Nat.{from_le_bytes-to_le_bytes_4}
 use Rattle.std.specs.Io.KnownBytes.{Consumes}
 use Rattle.std.proofs.lemmas.List.{length-take-le, take-append-le}
 use Rattle.std.proofs.Math.Seq.{take-append-add}
-use Rattle.superio_core.specs.declared.rtc_pl031.state.RtcState.{RtcState}
-use Rattle.superio_core.specs.Rtc.{write, write_of}
 use Rattle.superio_core.specs.declared.saved.Error.{Error as Fault}
 use Rattle.superio_core.specs.Saved.{serial_form, clock_form, IsClock}
 use Rattle.vm_superio.specs.declared.saved.Error.{Error}
@@ -16,10 +14,8 @@ use Rattle.superio_core.specs.Serial.{State}
 use Rattle.superio_core.proofs.Lemmas.Saved.{numbers_in-form, serial_form_has_no_fault, clock_form_has_no_fault}
 use Rattle.superio_script.specs.Loading.{unless_fault, port_in, loaded_port, clock_in, loaded_clock, PortFormLoads, ClockFormLoads}
 use Rattle.vm_superio.specs.Links.FoldsEvents.{FoldsEvents}
-use Rattle.vm_superio.specs.Rtc.{invalid_write, GoesOnByHistory}
-use Rattle.vm_superio.specs.Rtc.History.{clock_of_history}
-use Rattle.superio_script.specs.Objects.{no_counts, counts_after_clock_event}
-use Rattle.superio_script.specs.declared.counts.Counts.{Counts}
+use Rattle.vm_superio.specs.Rtc.{invalid_write, GoesOnByHistory, RtcState, write, write_of, clock_of_history}
+use Rattle.superio_script.specs.Objects.{no_counts, counts_after_clock_event, Counts}
 use Rattle.superio_script.specs.ClockScript.{ClockSession, clock_session_state, clock_session_after_access}
 
 -- ---- the laws

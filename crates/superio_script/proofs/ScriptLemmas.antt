@@ -8,18 +8,13 @@ use Rattle.vm_superio.specs.Rtc.{ClockDevice}
 use Rattle.vm_superio.specs.Serial.{Port}
 use Rattle.vm_superio.proofs.Lemmas.{Appends-nothing, Appends-append}
 use Rattle.vm_superio.proofs.Lemmas.Rtc.{fresh_clock-history}
-use Rattle.superio_script.specs.Objects.{written_bytes}
-use Rattle.superio_script.specs.declared.trigger.Line.{Line}
-use Rattle.superio_script.specs.declared.counts.Counts.{Counts}
-use Rattle.superio_script.specs.Command.{command_of, TakesMemory}
+use Rattle.superio_script.specs.Objects.{written_bytes, Line, Counts, Output}
+use Rattle.superio_script.specs.Command.{command_of, TakesMemory, Command, Serial, Clock, Controller}
 use Rattle.superio_script.specs.Reply.{controller_reply}
 use Rattle.superio_script.specs.SerialScript.{Session, fresh_session, session_after_line}
 use Rattle.superio_script.specs.ClockScript.{ClockSession, fresh_clock_session, clock_session_state, clock_reply, clock_session_after_line}
 use Rattle.superio_script.specs.Board.{Devices, IsAt, IsFresh, IsSerialLineStep, IsLineStep}
 use Rattle.superio_script.specs.Script.{has_form, until_bad, good_commands, first_bad_line, IsTextFrom, IsText, PrintsLines, WritesFirst, WritesPart, StopsWithoutMemory}
-use Rattle.superio_script.specs.declared.output.Output.{Output}
-use Rattle.superio_script.specs.declared.command.Command.{Command}
-use Rattle.superio_script.specs.declared.command.Command.TheVariants.{Serial, Clock, Controller}
 
 -- ---- a line of the board
 

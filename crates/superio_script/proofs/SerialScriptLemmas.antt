@@ -6,39 +6,23 @@ use Rattle.std.proofs.lemmas.Bool.{and_parts, false≢true}
 use Rattle.std.proofs.lemmas.Bool.Decides.{nat_tests}
 use Rattle.superio_core.specs.declared.saved.Error.{Error as Fault}
 use Rattle.superio_core.specs.Saved.{serial_form}
-use Rattle.superio_core.specs.declared.trace.Asked.{Asked}
-use Rattle.superio_core.specs.declared.trace.Sent.{Sent}
-use Rattle.superio_core.specs.Serial.Operations.{Op, Read, Trace, Response, is_sent, is_lost, answer_count, ends_in_refusal, kind_of, sent_by}
 use Rattle.superio_core.specs.declared.trace.Asked.TheVariants.{Nothing, Took, Refused, TookTook, TookRefused}
 use Rattle.superio_core.specs.declared.trace.Sent.TheVariants as sent
-use Rattle.superio_core.specs.Serial.{State, not_empty, fresh_state}
-use Rattle.superio_core.specs.Bits.{has_bits, only_bits}
-use Rattle.superio_core.specs.Serial.Port.{Coherent}
-use Rattle.superio_core.specs.declared.serial.registers.Condition.{Condition}
-use Rattle.superio_core.specs.Serial.RegisterMap.{register_at, is_dlab, is_loopback, pending_in_order}
-use Rattle.superio_core.specs.Serial.Step.{step, step_response, read_step, rbr_read}
-use Rattle.superio_core.specs.Serial.Step.Admissible.{answers_all, step_calls, sends_byte, kind_in_state}
-use Rattle.superio_core.specs.Serial.Step.Raising.{restore_calls}
 use Rattle.vm_superio.specs.Serial.Step.{RefusesRestore, IsPortStep}
-use Rattle.vm_superio.specs.Serial.History.Registers.{kind_at, dlab}
-use Rattle.vm_superio.specs.Serial.History.{none_lost, output}
+use Rattle.vm_superio.specs.Serial.History.{none_lost, output, kind_at, dlab}
 use Rattle.vm_superio.specs.Serial.Laws.{state_after, StateLaw, RegisterLaw, CoherenceLaw}
 use Rattle.vm_superio.specs.Links.{Link, answers_of, all_ok, StopsAtRefusal, OutCall, Put, Flush, WriterCalls}
 use Rattle.vm_superio.specs.Links.Writer.{PortLinks, port_links, bytes_sent, outcome_of, AreSendings, OutLink}
+use Rattle.vm_superio.specs.Serial.{Port, failure_response, Asked, Sent, Op, Read, Trace, Response, is_sent, is_lost, answer_count, ends_in_refusal, kind_of, sent_by, State, not_empty, fresh_state, has_bits, only_bits, Coherent, Condition, register_at, is_dlab, is_loopback, pending_in_order, step, step_response, read_step, rbr_read, answers_all, step_calls, sends_byte, kind_in_state, restore_calls}
 use Rattle.vm_superio.specs.declared.serial.errors.Error.{Error}
 use Rattle.vm_superio.specs.declared.serial.errors.Error.TheVariants.{Trigger, IOError, FullFifo, Memory}
-use Rattle.vm_superio.specs.Serial.{Port, failure_response}
 use Rattle.vm_superio.specs.Links.FoldsEvents.{FoldsEvents}
-use Rattle.superio_script.specs.Objects.{fresh_interrupt_line, InterruptLineLink, no_counts, counts_after_event, written_bytes}
-use Rattle.superio_script.specs.declared.trigger.Line.{Line}
-use Rattle.superio_script.specs.declared.counts.Counts.{Counts}
+use Rattle.superio_script.specs.Objects.{fresh_interrupt_line, InterruptLineLink, no_counts, counts_after_event, written_bytes, Line, Counts, Output, LineRefused}
 use Rattle.superio_script.specs.Reply.{with_lf, response_reply, digits_reply, count_digits, counts_reply}
 use Rattle.superio_script.specs.Loading.{loaded_port, fault_words}
 use Rattle.superio_script.specs.SerialScript.{Session, fresh_session, Choice, trigger_answers, interrupt_line_after_calls, output_after, session_after_step, session_answers, session_outcome, call_reply, session_after_call, drained_bytes, session_after_reads, restore_answers, is_restore_refused, restore_reply, session_after_restore, load_reply, session_after_load, output_or_chosen, session_after_calls, session_trace, SessionStateLaw, DrainLaw, SessionOutputLaw}
 use Rattle.superio_script.specs.Driver.{ReadsWhileReady, bytes_while_ready}
 use Rattle.superio_script.specs.Board.{IsAt, IsRestore, IsSerialLineStep}
-use Rattle.superio_script.specs.declared.output.Output.{Output}
-use Rattle.superio_script.specs.declared.trigger.LineRefused.{LineRefused}
 use Rattle.superio_script.specs.declared.command.SerialCommand.TheVariants as line
 use Rattle.superio_script.proofs.DriverLemmas.{reads-are_stepped}
 

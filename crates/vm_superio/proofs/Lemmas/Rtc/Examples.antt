@@ -1,12 +1,8 @@
 -- Worked examples of the clock, each computed by the steps of the accesses and by the history.
-use Rattle.superio_core.specs.declared.rtc_pl031.state.RtcState.{RtcState}
-use Rattle.superio_core.specs.Rtc.{Access, read, write, bytes_left, fresh_clock, host_time}
 use Rattle.superio_core.specs.Bits.{with_bits}
-use Rattle.vm_superio.specs.Rtc.{RtcEvent, invalid_read, invalid_write, clock_events}
+use Rattle.vm_superio.specs.Rtc.{RtcEvent, invalid_read, invalid_write, clock_events, RtcState, Access, read, write, bytes_left, fresh_clock, host_time, is_alarm_reached, clock_response, clock_step, is_line_up, IsDueIn, clock_history_response}
 use Rattle.std.specs.List.{flat_map}
 use Rattle.std.proofs.Common.{zero, suc, arith, ◌≡◌, ℕ, ◌+◌, ◌-◌, ◌^◌, ◌<◌, ℤ, Bool, true, false, pos, negsuc, List, [], ◌∷◌, Option, Some, None, map, refl}
-use Rattle.superio_core.specs.Rtc.Step.{is_alarm_reached, clock_response, clock_step, is_line_up, IsDueIn}
-use Rattle.vm_superio.specs.Rtc.History.{clock_history_response}
 
 -- ---- accesses with their answers, oldest first
 

@@ -7,9 +7,7 @@ use Rattle.superio_core.specs.declared.trace.Asked.TheVariants.{Nothing, Took, R
 use Rattle.superio_core.specs.declared.trace.Sent.TheVariants as sent
 use Rattle.vm_superio.specs.Claims.{is_fresh, shows_data, is_outside, is_inside, is_masked}
 use Rattle.vm_superio.specs.Links.{Link, TriggerAnswer}
-use Rattle.vm_superio.specs.Serial.History.{history_response}
-use Rattle.vm_superio.specs.Serial.History.Interrupts.{op_kinds, shows_waiting_bytes, is_well_formed_entry}
-use Rattle.vm_superio.specs.Serial.History.Registers.{held_bytes, taken_bytes}
+use Rattle.vm_superio.specs.Serial.History.{history_response, op_kinds, shows_waiting_bytes, is_well_formed_entry, held_bytes, taken_bytes}
 use Rattle.vm_superio.specs.Serial.Laws.Consequences.{polls, polls_after_data_ready}
 use Rattle.vm_superio.specs.Serial.Laws.Line.{RunsAtInterrupts, TakenAfterRunsLaw, may_lower_line}
 use Rattle.vm_superio.specs.Serial.Laws.PortRun.{PortCall, PortCallsFollow, ops_of_calls, trace_with, interrupts_told, PortBoundLaw}

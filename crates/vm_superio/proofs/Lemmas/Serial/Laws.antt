@@ -12,8 +12,7 @@ use Rattle.std.proofs.Common.{rules, ◌≡◌, ℕ, Bool, List, [], ◌∷◌, 
 use Rattle.std.specs.Option.{option_or, option_map_or}
 use Rattle.std.proofs.Math.Seq.{drop-append-add}
 use Rattle.vm_superio.specs.Serial.{Asked, Op, TraceEntry, OpKind, kind_of, State, not_empty, only_bits, has_bits, is_dlab, is_loopback, step, kind_in_state}
-use Rattle.vm_superio.specs.Serial.History.Registers.{value_written_at, last_found, dlab, kind_at, accepted_by, taken_by, remaining_bytes, accepted_bytes, taken_bytes, held_bytes}
-use Rattle.vm_superio.specs.Serial.History.{state_of_history, with_data_ready, line_status}
+use Rattle.vm_superio.specs.Serial.History.{state_of_history, with_data_ready, line_status, value_written_at, last_found, dlab, kind_at, accepted_by, taken_by, remaining_bytes, accepted_bytes, taken_bytes, held_bytes}
 use Rattle.vm_superio.specs.Serial.Laws.{RegisterLaw, state_after, HeldBytesLaw, LineStatusLaw}
 use Rattle.superio_core.proofs.Lemmas.Serial.Step.{SameBytes, by_kind, next_by_kind}
 use Rattle.vm_superio.specs.Serial.Laws.Consequences.{TakenThenHeldLaw}

@@ -9,9 +9,7 @@ use Rattle.vm_superio.specs.Links.{Link, ObjectCall, answers_of, all_ok, Refuses
 use Rattle.vm_superio.specs.Serial.Step.ObjectStep.{OnePort, IsCallStep, IsRun, Sending, NotSent, sent_in, out_calls, calls_of, IsObjectStep}
 use Rattle.vm_superio.specs.Serial.{Asked, Sent, Op, TraceEntry, Response, State, Coherent, step, step_response, step_events, is_admissible, restore_calls}
 use Rattle.vm_superio.specs.declared.run.Call.TheVariants.{Read, Write, Enqueue, CharacterTimeout, Restore}
-use Rattle.vm_superio.specs.Serial.History.Registers.{taken_bytes}
-use Rattle.vm_superio.specs.Serial.History.Interrupts.{restore_calls_due}
-use Rattle.vm_superio.specs.Serial.History.{ResponsesAre, history_response, bytes_read, state_of_history}
+use Rattle.vm_superio.specs.Serial.History.{ResponsesAre, history_response, bytes_read, state_of_history, taken_bytes, restore_calls_due}
 use Rattle.vm_superio.specs.Serial.Run.HistoryTheorem.{calls_at, ObjectSegment, ObjectAtRestore, next_object_segment, ObjectsAre, HistoryTheorem}
 use Rattle.vm_superio.specs.Serial.Laws.{StepsFollow}
 use Rattle.vm_superio.specs.Serial.Laws.Consequences.{op_and_asked, ops_and_asked}

@@ -5,10 +5,8 @@ use Rattle.vm_superio.specs.declared.run.Call.TheVariants.{Restore}
 use Rattle.vm_superio.specs.Serial.{OnePort, State, Trace, TraceEntry, Coherent}
 use Rattle.vm_superio.specs.Links.{Link, answers_of, all_ok, RefusesOwnState, ObjectCall, ToTrigger, ToOut, ToEvents, raised, Sending, sent_in, out_calls}
 use Rattle.vm_superio.specs.Links.Writer.{AnsweredFault}
-use Rattle.vm_superio.specs.Serial.History.{history_events, ResponsesAre, bytes_read, state_of_history}
-use Rattle.vm_superio.specs.Serial.History.Interrupts.{restore_calls_due, is_well_formed, IsWithinBound, WaitingBytesShow, TimeoutsShow}
+use Rattle.vm_superio.specs.Serial.History.{history_events, ResponsesAre, bytes_read, state_of_history, restore_calls_due, is_well_formed, IsWithinBound, WaitingBytesShow, TimeoutsShow, taken_bytes, accepted_bytes}
 use Rattle.vm_superio.specs.Serial.Run.{Call, Reply, Restored, NotRestored, Done, op_of, entry_of, refusal_in_reply, fault_in_reply, RecordsOf, entries_of, trace_of, without_restores, ReadsAre}
-use Rattle.vm_superio.specs.Serial.History.Registers.{taken_bytes, accepted_bytes}
 
 -- the calls of one entry at its point of the trace: its byte is put and flushed, its events are reported, and its
 -- interrupts are raised. The answers are how its byte was sent, and what the interrupts were answered

@@ -7,8 +7,7 @@ use Rattle.vm_superio.specs.Serial.{Three, WriterOut, Port, one_port, State, Ask
 use Rattle.vm_superio.specs.Links.{Link, TriggerAnswer, answers_of, all_ok, RefusesOwnState, OutCall, WriterCalls}
 use Rattle.vm_superio.specs.Links.Three.{ThreeLink}
 use Rattle.vm_superio.specs.Links.Writer.{WriterLink, OutLink}
-use Rattle.vm_superio.specs.Serial.History.Interrupts.{restore_calls_due}
-use Rattle.vm_superio.specs.Serial.History.{output, outcomes}
+use Rattle.vm_superio.specs.Serial.History.{output, outcomes, restore_calls_due}
 use Rattle.vm_superio.specs.Serial.Run.{Call, Reply, Restored, NotRestored, Done, entry_of, refusal_in_reply}
 use Rattle.vm_superio.specs.Serial.Run.HistoryTheorem.{HistoryTheorem}
 

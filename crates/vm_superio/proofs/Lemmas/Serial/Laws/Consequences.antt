@@ -4,8 +4,6 @@ use Rattle.std.proofs.lemmas.Bool.{and_parts, false≢true, eqb-true}
 use Rattle.std.specs.Bool.{IsFalse, beq}
 use Rattle.std.proofs.lemmas.List.Sums.{sum_by-cons}
 use Rattle.vm_superio.specs.Serial.{State, not_empty, has_bits, Asked, Sent, TraceEntry, OpKind, count_if, answer_count, is_iir_read, is_rbr_read, Op, is_sent, kind_of, sent_by, Condition, Rda, Thre, iir_bit}
-use Rattle.vm_superio.specs.Serial.History.Registers.{kind_at, held_bytes, interrupt_enable, dlab, loopback}
-use Rattle.vm_superio.specs.Serial.History.Interrupts.{pending_since, is_raised, acknowledges, NoneAcknowledges, trigger_calls, is_pending, is_well_formed_entry, is_well_formed, op_kinds, shows_waiting_bytes}
 use Rattle.vm_superio.specs.Serial.Laws.Consequences.{PendingByPrefixesLaw, TriggerBoundLaw, WaitingBytesLaw, OutputLaw}
 use Rattle.vm_superio.specs.Serial.Laws.{state_after}
 use Rattle.superio_core.proofs.Lemmas.Serial.{enables_rda}
@@ -13,7 +11,7 @@ use Rattle.superio_core.proofs.Lemmas.Serial.Step.{by_kind}
 use Rattle.vm_superio.proofs.Lemmas.Serial.Laws.{next_at_point, register_law, held_bytes_law}
 use Rattle.vm_superio.proofs.Lemmas.Serial.Laws.Interrupts.{rda_next}
 use Rattle.vm_superio.specs.Links.Writer.{bytes_sent}
-use Rattle.vm_superio.specs.Serial.History.{output}
+use Rattle.vm_superio.specs.Serial.History.{output, kind_at, held_bytes, interrupt_enable, dlab, loopback, pending_since, is_raised, acknowledges, NoneAcknowledges, trigger_calls, is_pending, is_well_formed_entry, is_well_formed, op_kinds, shows_waiting_bytes}
 
 -- ---- the newest entry, and the others
 

@@ -2,9 +2,7 @@
 use Rattle.std.proofs.Common.{arith, ◌≡◌, ℕ, ◌+◌, Bool, false, not, ◌==◌, ◌&&◌, ◌||◌, List, [], ◌∷◌, ap, sym, ◌∙◌}
 use Rattle.std.specs.Bool.{beq}
 use Rattle.vm_superio.specs.Serial.{Asked, TraceEntry, is_refused_at_once, is_sent, count_if, answer_count, OpKind, RbrRead, sent_by, is_iir_read, State, not_empty, has_bits, Thre, Rda, identification_of, pending_in_order, restore_calls, kind_calls, answers_all, step_calls, is_admissible, Coherent}
-use Rattle.vm_superio.specs.Serial.History.Registers.{kind_at, held_bytes}
-use Rattle.vm_superio.specs.Serial.History.Interrupts.{raises_rda, acknowledges, is_pending, raises_thre, is_well_formed_entry}
-use Rattle.vm_superio.specs.Serial.History.{interrupt_identification}
+use Rattle.vm_superio.specs.Serial.History.{interrupt_identification, kind_at, held_bytes, raises_rda, acknowledges, is_pending, raises_thre, is_well_formed_entry}
 use Rattle.vm_superio.specs.Serial.Laws.{state_after, InterruptLaw}
 use Rattle.superio_core.proofs.Lemmas.Serial.Step.{rda_bit, thre_bit, answers_counted, by_kind}
 use Rattle.superio_core.proofs.Lemmas.Serial.{enables_rda, enables_thre}

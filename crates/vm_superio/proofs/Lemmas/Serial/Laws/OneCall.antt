@@ -4,8 +4,7 @@ use Rattle.std.proofs.Math.Bool.{and-true, and-false}
 use Rattle.std.specs.Bool.{beq}
 use Rattle.std.proofs.lemmas.Bool.{and_parts}
 use Rattle.vm_superio.specs.Serial.{Asked, Sent, Op, Read, Write, ByteRead, WriteOk, WriterFailed, TriggerRefused, is_sent, is_lost, ends_in_refusal, OpKind, RbrRead, IirRead, Arrival, read_kind, sent_by, State, not_empty, has_bits, without_bits, receive_bytes, bytes_that_fit, raise, kind_in_state, answers_all, step_calls, sends_byte, step, read_step, step_response, step_events, Register, Thre, register_at, is_dlab, is_loopback}
-use Rattle.vm_superio.specs.Serial.History.{line_status, byte_read}
-use Rattle.vm_superio.specs.Serial.History.Registers.{accepted_by, taken_by}
+use Rattle.vm_superio.specs.Serial.History.{line_status, byte_read, accepted_by, taken_by}
 use Rattle.vm_superio.specs.Serial.Laws.OneCall.{OneCallLaw, ReceivedLaw, OneReadLaw, RbrReadLaw, RbrDataReadyLaw, ThrWriteLaw, OutcomeEventsLaw, reports_outcome}
 use Rattle.superio_core.proofs.Lemmas.Serial.{data_ready_cleared}
 use Rattle.superio_core.proofs.Lemmas.Serial.Step.{by_kind, next_by_kind}

@@ -5,12 +5,10 @@ use Rattle.std.proofs.lemmas.Bool.{and_parts}
 use Rattle.std.specs.Bool.{beq}
 use Rattle.std.specs.Cmp.Derive.{both_true}
 use Rattle.vm_superio.specs.Serial.{kind_in_state, Asked, Sent, Op, Restore, TraceEntry, NoResponse, is_sent, count_if, OpKind, Response, State, restore_calls, step_response, step, step_events, Rda, Thre, answers_all, step_calls, sends_byte, is_admissible, Coherent}
-use Rattle.vm_superio.specs.Serial.History.Registers.{loopback, held_bytes, kind_at, dlab, interrupt_enable}
-use Rattle.vm_superio.specs.Serial.History.{history_response, state_of_history, calls_due, kind_events}
+use Rattle.vm_superio.specs.Serial.History.{history_response, state_of_history, calls_due, kind_events, loopback, held_bytes, kind_at, dlab, interrupt_enable, raises_rda, is_pending, raises_thre, is_well_formed}
 use Rattle.vm_superio.specs.Serial.Laws.{state_after, StateLaw, ResponseLaw, StepLaw, CallLaw, RetryLaw, StepsFollow, RunAgrees, WholeRunLaw}
 use Rattle.vm_superio.proofs.Lemmas.Serial.Laws.{state_of_history-by_state, held_bytes_law, line_status_law}
 use Rattle.vm_superio.proofs.Lemmas.Serial.Laws.Interrupts.{interrupt_law, due_is, coherent_after}
-use Rattle.vm_superio.specs.Serial.History.Interrupts.{raises_rda, is_pending, raises_thre, is_well_formed}
 use Rattle.vm_superio.proofs.Lemmas.Serial.Laws.Consequences.{call_written}
 use Rattle.superio_core.specs.declared.trace.Sent.TheVariants as sent
 

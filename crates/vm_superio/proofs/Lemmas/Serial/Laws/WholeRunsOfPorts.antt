@@ -3,8 +3,7 @@ use Rattle.std.proofs.Common.{◌≡◌, ℕ, ◌&&◌, Bool, true, false, List,
 use Rattle.std.specs.Bool.{beq}
 use Rattle.superio_core.specs.declared.trace.Asked.TheVariants.{Nothing}
 use Rattle.vm_superio.specs.Serial.{Sent, Other, Arrival, read_kind, sent_by, Write, Enqueue, CharacterTimeout, Response, ByteRead, Trace, is_sent, Read, State, not_empty, Register, is_dlab, register_at, Coherent, bytes_that_fit, step, kind_calls, answers_all}
-use Rattle.vm_superio.specs.Serial.History.Registers.{kind_at, loopback, accepted_by, held_bytes}
-use Rattle.vm_superio.specs.Serial.History.{output, state_of_history, calls_due}
+use Rattle.vm_superio.specs.Serial.History.{output, state_of_history, calls_due, kind_at, loopback, accepted_by, held_bytes}
 use Rattle.vm_superio.specs.Serial.Laws.PortRun.{PortCall, PortRead, PortWrite, PortEnqueue, PortTimeout, PortRestore, IsPortCall, PortCallsFollow, op_of_call, ops_of_calls, unasked, trace_with, EffectsAre, AllEffectsAre, PortRunLaw, told_by, bytes_told, PortOutputLaw, interrupts_of, interrupts_told, PortBoundLaw}
 use Rattle.vm_superio.proofs.Lemmas.Serial.Laws.Interrupts.{coherent_after}
 use Rattle.vm_superio.proofs.Lemmas.Serial.Laws.StepsOfHistory.{state_law, step_law}

@@ -7,9 +7,7 @@ use Rattle.vm_superio.specs.Links.{Link, TriggerAnswer, answers_of, all_ok, Refu
 use Rattle.vm_superio.specs.Links.Three.{ThreeLink, answers_in-append, out_calls_in-append}
 use Rattle.vm_superio.specs.Links.Writer.{WriterLink, outcome_of, AreSendings}
 use Rattle.vm_superio.specs.Serial.Step.ObjectStep.{Sending, sent_in, out_calls, one_port, IsRun}
-use Rattle.vm_superio.specs.Serial.History.{history_events, output, outcomes}
-use Rattle.vm_superio.specs.Serial.History.Registers.{dlab, loopback, kind_at}
-use Rattle.vm_superio.specs.Serial.History.Interrupts.{is_well_formed, is_well_formed_entry, restore_calls_due, trigger_calls}
+use Rattle.vm_superio.specs.Serial.History.{history_events, output, outcomes, dlab, loopback, kind_at, is_well_formed, is_well_formed_entry, restore_calls_due, trigger_calls}
 use Rattle.vm_superio.specs.Serial.Run.HistoryTheorem.{calls_at, ObjectSegment, ObjectAtRestore, next_object_segment, ObjectsAre}
 use Rattle.vm_superio.specs.Serial.Run.Three.{WriterSegment, OutputIs, KnownOutputIs, OutputAtRestore, next_writer_segment, OutputsAre, TriggerSegment, TriggerAtRestore, next_trigger_segment, TriggersAre, ThreeHistory}
 use Rattle.vm_superio.proofs.Lemmas.{AreSendings-append, known_output_law}
