@@ -1,4 +1,5 @@
 -- Lemmas on the bits of LSR, and on the output of a writer.
+pub mod Examples
 pub mod Rtc
 pub mod Serial
 use Rattle.std.proofs.Common.{◌≡◌, ◌≢◌, lit<, ℕ, ◌<◌, Bool, true, false, ◌==◌, refl, sym, ap, ◌∙◌, arith, List, [], ◌∷◌, ◌++◌, Option, Some, None, subst, append_assoc, append-nil, bit_and, IsTrue, not, Ok, Err}

@@ -130,7 +130,7 @@ pub fn interrupt_driver()
 /// line up. The line goes up in such a call, or in an IER write that enables a pending condition, for which the trigger
 /// is not called again. It goes down only in a read of IIR or RBR, or in an IER write. From a start whose IIR is 1, 2, 4
 /// or 6, the line is up exactly while the trace has a condition pending that IER enables.
-#[tactic(auto, using(crate::proofs::Lemmas::Serial::Laws::InterruptLine::interrupt_line_laws))]
+#[tactic(auto, using(crate::proofs::Lemmas::Serial::Laws::Interrupts::interrupt_line_laws))]
 pub fn interrupt_line()
     ensures after { LineAfterLaw }
     ensures called { UpAfterCallLaw }
@@ -206,7 +206,7 @@ pub fn outcome_events()
 
 /// One call in any state: it calls the trigger once for each of the two pending bits of IIR that it turns from clear to
 /// set.
-#[tactic(auto, using(crate::proofs::Lemmas::Serial::Laws::TurnedBits::turned_bits_law))]
+#[tactic(auto, using(crate::proofs::Lemmas::Serial::Laws::OneCall::turned_bits_law))]
 pub fn turned_bits()
     ensures { TurnedBitsLaw }
 {}

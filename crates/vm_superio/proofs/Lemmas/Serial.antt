@@ -1,5 +1,4 @@
 -- What a step of a port says about the trigger's calls.
-pub mod Examples
 pub mod Laws
 pub mod Run
 pub mod Step
@@ -14,7 +13,7 @@ use Rattle.vm_superio.specs.Links.{answers_of, Link, TriggerAnswer, OutCall, Wri
 use Rattle.vm_superio.specs.Links.Writer.{PortLinks, WriterLink, port_links, bytes_sent, outcome_of, AreSendings}
 use Rattle.vm_superio.specs.Serial.Step.{turned_on_count, IsPortStep, IsWriteStep, IsTimeoutStep}
 use Rattle.vm_superio.proofs.Lemmas.Serial.Laws.Consequences.{call_written}
-use Rattle.vm_superio.proofs.Lemmas.Serial.Laws.TurnedBits.{turned_bits_law}
+use Rattle.vm_superio.proofs.Lemmas.Serial.Laws.OneCall.{turned_bits_law}
 use Rattle.vm_superio.specs.Links.Three.{ThreeLink}
 use Rattle.vm_superio.specs.Serial.Step.ObjectStep.{Sending, sent_in, out_calls, OnePort, IsObjectStep, port_of}
 use Rattle.vm_superio.specs.declared.serial.errors.Error as failure

@@ -1,12 +1,10 @@
 -- The register law: one call leaves in each register what it wrote there, and otherwise what was there.
 pub mod Consequences
 pub mod InterruptDriver
-pub mod InterruptLine
 pub mod Interrupts
 pub mod OneCall
 pub mod Reads
 pub mod StepsOfHistory
-pub mod TurnedBits
 pub mod WholeRunsOfPorts
 use Rattle.std.proofs.Common.{rules, ◌≡◌, ℕ, Bool, List, [], ◌∷◌, Option, Some, None, refl, ap, sym, ◌∙◌, arith, subst, ◌++◌, length, drop, append_assoc, append-nil, length-append, if◌then◌else◌, unwrap_or}
 use Rattle.std.specs.Option.{option_or, option_map_or}

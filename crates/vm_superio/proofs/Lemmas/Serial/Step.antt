@@ -13,7 +13,7 @@ use Rattle.superio_core.specs.declared.trace.Sent.TheVariants as was
 use Rattle.std.proofs.lemmas.Bool.{and_parts, false≢true}
 use Rattle.vm_superio.specs.Serial.Laws.Line.{is_called}
 use Rattle.vm_superio.proofs.Lemmas.Serial.Laws.Consequences.{call_written}
-use Rattle.vm_superio.proofs.Lemmas.Serial.Laws.InterruptLine.{up_after_call}
+use Rattle.vm_superio.proofs.Lemmas.Serial.Laws.Interrupts.{up_after_call}
 use Rattle.superio_core.proofs.Lemmas.Serial.Coherence.{coherence_law}
 
 -- received bytes leave every setting, IER among them
