@@ -1,11 +1,9 @@
 -- A driver that reads while LSR shows data ready takes all bytes of a port in a coherent state, and stops in any state.
-use Rattle.std.proofs.Common.{◌≡◌, ◌≢◌, lit<, ℕ, zero, suc, ◌+◌, ◌-◌, ◌<◌, ◌≤◌, Bool, true, false, ◌==◌, List, [], ◌∷◌, ◌++◌, length, refl, ap, sym, ◌∙◌, subst, arith, ◌↔◌, IsTrue, bit_and, drop, slice_index, if◌then◌else◌, ◌&&◌}
-use Rattle.std.proofs.Math.Nat.{mod-lt}
+use Rattle.std.proofs.Common.{◌≡◌, ◌≢◌, lit<, ℕ, zero, suc, ◌+◌, ◌-◌, ◌<◌, ◌≤◌, Bool, true, false, ◌==◌, List, [], ◌∷◌, ◌++◌, length, refl, ap, sym, ◌∙◌, subst, arith, ◌↔◌, IsTrue, bit_and, drop, slice_index, if◌then◌else◌, ◌&&◌, mod-lt}
 use Rattle.std.proofs.lemmas.Bool.{false≢true}
 use Rattle.std.specs.Int.Bits.{and_mask}
-use Rattle.superio_core.specs.declared.trace.Asked.TheVariants.{Nothing}
 use Rattle.vm_superio.specs.Links.{Link, TriggerAnswer, OutCall}
-use Rattle.vm_superio.specs.Serial.{Port, has_bits, without_bits, State, not_empty, Coherent, RbrThr, register_at, is_dlab, register_read, identification_of, Read, Response, ByteRead, Event, buffer_read, in_buffer_empty, rbr_read, read_step, step, read_events}
+use Rattle.vm_superio.specs.Serial.{Port, has_bits, without_bits, State, not_empty, Coherent, RbrThr, register_at, is_dlab, register_read, identification_of, Read, Response, ByteRead, Event, buffer_read, in_buffer_empty, rbr_read, read_step, step, read_events, Asked}
 use Rattle.vm_superio.specs.Serial.Step.{IsReadStep}
 use Rattle.vm_superio.specs.Serial.Laws.{CoherenceLaw}
 use Rattle.vm_superio.specs.Serial.Laws.OneCall.{RbrDataReadyLaw}
@@ -75,7 +73,7 @@ module _ {T E EV W : Type 0} {trigger : Link T (TriggerAnswer E)} {events : Link
       let state = (rbr_read-from_step hidden made).state in
       let left = ap (λ (s : State). s.in_buffer) state in
       let still = ap (λ (s : State). has_bits s.line_status 0x01) made.state ∙ law old.state hidden
-      ∙ ap (λ shown. shown && not_empty (step old.state (Read 0) Nothing).in_buffer) ready
+      ∙ ap (λ shown. shown && not_empty (step old.state (Read 0) Asked.Nothing).in_buffer) ready
       ∙ ap (λ (s : State). not_empty s.in_buffer) (sym made.state) ∙ ap not_empty left in
       record {
         ready = ready;
@@ -186,7 +184,7 @@ module _
       → ReadsWhileReady trigger events out bytes old new → Coherent new.state
   coherent_after [] old new is same = subst (λ (port : Port T EV W). Coherent port.state) (sym same) is
   coherent_after (byte ∷ bytes) old new is (ready, (middle, made, later)) =
-      coherent_after bytes middle new (subst Coherent (sym made.state) (coherence old.state (Read 0) Nothing is)) later
+      coherent_after bytes middle new (subst Coherent (sym made.state) (coherence old.state (Read 0) Asked.Nothing is)) later
 
   pub takes_all : (bytes : List ℕ) (old new : Port T EV W) → Coherent old.state → is_dlab old.state.line_control ≡ false
       → ReadsWhileReady trigger events out bytes old new → has_bits new.state.line_status 0x01 ≡ false
@@ -200,7 +198,7 @@ module _
   takes_all (byte ∷ bytes) old new is hidden (ready, (middle, made, later)) clear =
       let read = rbr_read-from_step hidden made in
       let after = subst Coherent read.state
-      (subst Coherent (sym made.state) (coherence old.state (Read 0) Nothing is)) in
+      (subst Coherent (sym made.state) (coherence old.state (Read 0) Asked.Nothing is)) in
       let is_middle = subst Coherent (sym read.state) after in
       let rest = takes_all bytes middle new is_middle
       (ap (λ (s : State). is_dlab s.line_control) read.state ∙ hidden) later clear in

@@ -1,13 +1,10 @@
 -- A line of the serial port is a step of its session.
-use Rattle.std.proofs.Common.{◌≡◌, ℕ, zero, suc, ◌-◌, ◌≤◌, Bool, true, false, List, [], ◌∷◌, ◌++◌, length, drop, slice_index, Option, Some, None, Result, Ok, Err, refl, ap, sym, ◌∙◌, subst, arith, append_assoc, append-nil, inl, inr, ◌≢◌, IsTrue, IfSome, if◌then◌else◌, not, codes, ◌&&◌, is_some, length-drop}
-use Rattle.std.specs.Option.{option_map}
+use Rattle.std.proofs.Common.{◌≡◌, ℕ, zero, suc, ◌-◌, ◌≤◌, Bool, true, false, List, [], ◌∷◌, ◌++◌, length, drop, slice_index, Option, Some, None, Result, Ok, Err, refl, ap, sym, ◌∙◌, subst, arith, append_assoc, append-nil, inl, inr, ◌≢◌, IsTrue, IfSome, if◌then◌else◌, not, codes, ◌&&◌, is_some, length-drop, option_map}
 use Rattle.std.specs.Bool.{beq}
 use Rattle.std.proofs.lemmas.Bool.{and_parts, false≢true}
 use Rattle.std.proofs.lemmas.Bool.Decides.{nat_tests}
 use Rattle.superio_core.specs.declared.saved.Error.{Error as Fault}
 use Rattle.superio_core.specs.Saved.{serial_form}
-use Rattle.superio_core.specs.declared.trace.Asked.TheVariants.{Nothing, Took, Refused, TookTook, TookRefused}
-use Rattle.superio_core.specs.declared.trace.Sent.TheVariants as sent
 use Rattle.vm_superio.specs.Serial.Step.{RefusesRestore, IsPortStep}
 use Rattle.vm_superio.specs.Serial.History.{none_lost, output, kind_at, dlab}
 use Rattle.vm_superio.specs.Serial.Laws.{state_after, StateLaw, RegisterLaw, CoherenceLaw}
@@ -45,21 +42,21 @@ trigger_answers-from_link :
     (line new : Line) (calls : ℕ) (asked : Asked) (refusal : Option LineRefused) →
     IsTrue (answers_all calls asked) → is_some refusal ≡ ends_in_refusal asked → InterruptLineLink line (answers_of asked refusal) new →
     (asked ≡ trigger_answers line calls) × (new ≡ interrupt_line_after_calls (answer_count asked) line)
-trigger_answers-from_link line new calls Nothing refusal fits some link =
+trigger_answers-from_link line new calls Asked.Nothing refusal fits some link =
     let none : calls ≡ 0 = grind (arith, nat_tests) in
     (ap (trigger_answers line) (sym none), sym link)
-trigger_answers-from_link line new calls Took refusal fits some link =
+trigger_answers-from_link line new calls Asked.Took refusal fits some link =
     let one : calls ≡ 1 = grind (arith, nat_tests) in
     (rw one (grind (arith, link.0)), sym link.1)
-trigger_answers-from_link line new calls TookTook refusal fits some link =
+trigger_answers-from_link line new calls Asked.TookTook refusal fits some link =
     let two : calls ≡ 2 = grind (arith, nat_tests) in
     (rw two (grind (arith, link.0, link.1.0)), sym link.1.1)
-trigger_answers-from_link line new calls Refused None fits some link = absurd (false≢true some)
-trigger_answers-from_link line new zero Refused (Some refusal) fits some link = absurd (false≢true fits)
-trigger_answers-from_link line new (suc zero) Refused (Some refusal) fits some link = (grind (arith, link.0), sym link.1)
-trigger_answers-from_link line new (suc (suc more)) Refused (Some refusal) fits some link = (grind (arith, link.0), sym link.1)
-trigger_answers-from_link line new calls TookRefused None fits some link = absurd (false≢true some)
-trigger_answers-from_link line new calls TookRefused (Some refusal) fits some link =
+trigger_answers-from_link line new calls Asked.Refused None fits some link = absurd (false≢true some)
+trigger_answers-from_link line new zero Asked.Refused (Some refusal) fits some link = absurd (false≢true fits)
+trigger_answers-from_link line new (suc zero) Asked.Refused (Some refusal) fits some link = (grind (arith, link.0), sym link.1)
+trigger_answers-from_link line new (suc (suc more)) Asked.Refused (Some refusal) fits some link = (grind (arith, link.0), sym link.1)
+trigger_answers-from_link line new calls Asked.TookRefused None fits some link = absurd (false≢true some)
+trigger_answers-from_link line new calls Asked.TookRefused (Some refusal) fits some link =
     let two : calls ≡ 2 = grind (arith, nat_tests) in
     (rw two (grind (arith, link.0, link.1.0)), sym link.1.1)
 
@@ -67,7 +64,7 @@ trigger_answers-from_link line new calls TookRefused (Some refusal) fits some li
 
 -- there is an outcome exactly if a byte is sent
 outcome-is_chosen : (outcome : Sent) (sends : Bool) → IsTrue (beq (is_sent outcome) sends)
-    → outcome ≡ (if sends then (if is_lost outcome then sent.Lost else sent.Out) else sent.Nothing)
+    → outcome ≡ (if sends then (if is_lost outcome then Sent.Lost else Sent.Out) else Sent.Nothing)
 outcome-is_chosen outcome sends fits = grind arith
 
 -- if no byte is lost, the writer took the one that the call sends
@@ -87,7 +84,7 @@ after_nothing _ _ old new sends linked = absurd sends
 
 after_out :
     (accepted : List ℕ) (calls : List OutCall) (old new : Output) →
-    AreSendings (sent.Out ∷ []) accepted calls → output_link old calls new → written_bytes new ≡ written_bytes old ++ accepted
+    AreSendings (Sent.Out ∷ []) accepted calls → output_link old calls new → written_bytes new ≡ written_bytes old ++ accepted
 after_out (byte ∷ bytes) (Put put (Ok done) ∷ Flush (Ok flushed) ∷ calls) old new sends linked =
     let after : Output = linked.2.0 in
     let one = linked.2.1 ∙ linked.1 ∙ ap (λ byte. written_bytes old ++ byte ∷ []) sends.0 in
@@ -98,12 +95,12 @@ written_bytes-after_call :
     (known : Option (List ℕ)) (outcome : Sent) (accepted bytes : List ℕ) (old new : Output) →
     OutLink output_link (outcome_of outcome) accepted old new → (IsTrue (not (is_lost outcome)) → accepted ≡ bytes) →
     IfSome known (λ all. written_bytes old ≡ all) → IfSome (output_after known outcome bytes) (λ all. written_bytes new ≡ all)
-written_bytes-after_call known sent.Lost accepted bytes old new link same was = tt
-written_bytes-after_call None sent.Nothing accepted bytes old new link same was = tt
-written_bytes-after_call None sent.Out accepted bytes old new link same was = tt
-written_bytes-after_call (Some all) sent.Nothing accepted bytes old new link same was =
+written_bytes-after_call known Sent.Lost accepted bytes old new link same was = tt
+written_bytes-after_call None Sent.Nothing accepted bytes old new link same was = tt
+written_bytes-after_call None Sent.Out accepted bytes old new link same was = tt
+written_bytes-after_call (Some all) Sent.Nothing accepted bytes old new link same was =
     after_nothing accepted link.calls old new link.sends link.linked ∙ ap (λ xs. xs ++ accepted) was ∙ ap (λ xs. all ++ xs) (same refl)
-written_bytes-after_call (Some all) sent.Out accepted bytes old new link same was =
+written_bytes-after_call (Some all) Sent.Out accepted bytes old new link same was =
     after_out accepted link.calls old new link.sends link.linked ∙ ap (λ xs. xs ++ accepted) was ∙ ap (λ xs. all ++ xs) (same refl)
 
 -- ---- a call
@@ -229,20 +226,20 @@ AreAnswered due refusal responses refused =
     × (responses ≡ answers_of asked refusal) × (ends_in_refusal asked ≡ refused)
 
 accepted-answers : (thre rda : Bool) → AreAnswered (pending_in_order thre rda) None (all_ok (pending_in_order thre rda)) false
-accepted-answers false false = (Nothing, refl, refl, refl, refl)
-accepted-answers true false = (Took, refl, refl, refl, refl)
-accepted-answers false true = (Took, refl, refl, refl, refl)
-accepted-answers true true = (TookTook, refl, refl, refl, refl)
+accepted-answers false false = (Asked.Nothing, refl, refl, refl, refl)
+accepted-answers true false = (Asked.Took, refl, refl, refl, refl)
+accepted-answers false true = (Asked.Took, refl, refl, refl, refl)
+accepted-answers true true = (Asked.TookTook, refl, refl, refl, refl)
 
 refused-answers : (refusal : LineRefused) (due : List Condition) (responses : List (Result (Unit {0}) LineRefused)) → length due ≤ 2 →
     StopsAtRefusal due refusal responses → AreAnswered due (Some refusal) responses true
 refused-answers refusal [] responses few stops = absurd stops
 refused-answers refusal (first ∷ due) [] few stops = absurd stops
-refused-answers refusal (first ∷ []) (response ∷ responses) few (inl (is, ended)) = (Refused, refl, refl, cc, refl)
+refused-answers refusal (first ∷ []) (response ∷ responses) few (inl (is, ended)) = (Asked.Refused, refl, refl, cc, refl)
 refused-answers refusal (first ∷ []) (response ∷ responses) few (inr (is, ended)) = absurd ended
-refused-answers refusal (first ∷ second ∷ []) (response ∷ responses) few (inl (is, ended)) = (Refused, refl, refl, cc, refl)
+refused-answers refusal (first ∷ second ∷ []) (response ∷ responses) few (inl (is, ended)) = (Asked.Refused, refl, refl, cc, refl)
 refused-answers refusal (first ∷ second ∷ []) (response ∷ []) few (inr (is, ended)) = absurd ended
-refused-answers refusal (first ∷ second ∷ []) (response ∷ next ∷ responses) few (inr (is, inl (refused, ended))) = (TookRefused, refl, refl, cc, refl)
+refused-answers refusal (first ∷ second ∷ []) (response ∷ next ∷ responses) few (inr (is, inl (refused, ended))) = (Asked.TookRefused, refl, refl, cc, refl)
 refused-answers refusal (first ∷ second ∷ []) (response ∷ next ∷ responses) few (inr (is, inr (accepted, ended))) = absurd ended
 refused-answers refusal (first ∷ second ∷ third ∷ due) responses few stops = absurd (omega (arith, few))
 
@@ -352,13 +349,13 @@ output-is_of_history registers session (call ∷ calls) =
     joined : (kept : Bool) (outcome : Sent) (earlier : Option (List ℕ)) (out : List ℕ) {bytes all : List ℕ} → bytes ≡ all →
         output_after (if kept then option_map (λ before. before ++ out) earlier else None) outcome bytes
         ≡ (if not (is_lost outcome) && kept then option_map (λ before. before ++ (out ++ all)) earlier else None)
-    joined kept sent.Lost earlier out same = refl
-    joined false sent.Nothing earlier out same = refl
-    joined false sent.Out earlier out same = refl
-    joined true sent.Nothing None out same = refl
-    joined true sent.Out None out same = refl
-    joined true sent.Nothing (Some before) out same = ap Some (ap (λ bytes. (before ++ out) ++ bytes) same ∙ append_assoc before out _)
-    joined true sent.Out (Some before) out same = ap Some (ap (λ bytes. (before ++ out) ++ bytes) same ∙ append_assoc before out _)
+    joined kept Sent.Lost earlier out same = refl
+    joined false Sent.Nothing earlier out same = refl
+    joined false Sent.Out earlier out same = refl
+    joined true Sent.Nothing None out same = refl
+    joined true Sent.Out None out same = refl
+    joined true Sent.Nothing (Some before) out same = ap Some (ap (λ bytes. (before ++ out) ++ bytes) same ∙ append_assoc before out _)
+    joined true Sent.Out (Some before) out same = ap Some (ap (λ bytes. (before ++ out) ++ bytes) same ∙ append_assoc before out _)
 
 -- a driver reads what is held
 while_ready-are_held : CoherenceLaw → (most : ℕ) (s : State) → is_dlab s.line_control ≡ false → Coherent s → length s.in_buffer ≤ most
@@ -370,7 +367,7 @@ while_ready-are_held coherence zero s hidden is few = none s.in_buffer few
     none (byte ∷ held) few = absurd (omega (arith, few))
 while_ready-are_held coherence (suc most) s hidden is few =
     let read = rbr_read s in
-    let after = subst Coherent (ap (λ latch. read_step (register_at latch 0) s) hidden) (coherence s (Read 0) Nothing is) in
+    let after = subst Coherent (ap (λ latch. read_step (register_at latch 0) s) hidden) (coherence s (Read 0) Asked.Nothing is) in
     oldest s.in_buffer (has_bits s.line_status 0x01) is.data_ready
     (while_ready-are_held coherence most read hidden after (omega (arith, few, length-drop 1 s.in_buffer)))
   where

@@ -1,7 +1,5 @@
 -- The forms of a line: what a line asks for.
-use Rattle.std.specs.Prelude.{◌≡◌, ℕ, ◌==◌, Bool, true, false, List, [], ◌∷◌, if◌then◌else◌, codes, Option, Some, None, IsTrue}
-use Rattle.std.specs.Option.{option_map}
-use Rattle.std.specs.Str.{bytes_eq}
+use Rattle.std.specs.Prelude.{◌≡◌, ℕ, ◌==◌, Bool, true, false, List, [], ◌∷◌, if◌then◌else◌, codes, Option, Some, None, IsTrue, option_map, bytes_eq}
 use Rattle.std.specs.Int.{w8, w16, w32, w64}
 use Rattle.superio_script.specs.Fields.{number, bytes, end, fields_of}
 pub use Rattle.superio_script.specs.declared.command.Command.{Command}

@@ -1,7 +1,6 @@
 -- The serial port's part of a script: the replies to its lines. They depend on these lines alone, and on what a script
 -- leaves open.
-use Rattle.std.specs.Prelude.{◌≡◌, ℕ, zero, suc, ◌-◌, ◌≤◌, Bool, false, if◌then◌else◌, List, [], ◌∷◌, ◌++◌, length, fold, codes, Option, Some, None, IfSome, Result, Ok, Err, ⊤}
-use Rattle.std.specs.Option.{option_map}
+use Rattle.std.specs.Prelude.{◌≡◌, ℕ, zero, suc, ◌-◌, ◌≤◌, Bool, false, if◌then◌else◌, List, [], ◌∷◌, ◌++◌, length, fold, codes, Option, Some, None, IfSome, Result, Ok, Err, ⊤, option_map}
 use Rattle.superio_core.specs.declared.saved.Error.{Error}
 use Rattle.superio_core.specs.Saved.{serial_form}
 use Rattle.vm_superio.specs.Serial.{Asked, Sent, Op, Read, Write, Enqueue, CharacterTimeout, Trace, is_lost, answer_count, ends_in_refusal, sent_by, State, fresh_state, Coherent, is_dlab, step, step_response, step_events, kind_in_state, step_calls, sends_byte, restore_calls}

@@ -2,8 +2,7 @@
 pub mod Examples
 pub mod Rtc
 pub mod Serial
-use Rattle.std.proofs.Common.{◌≡◌, ◌≢◌, lit<, ℕ, ◌<◌, Bool, true, false, ◌==◌, refl, sym, ap, ◌∙◌, arith, List, [], ◌∷◌, ◌++◌, Option, Some, None, subst, append_assoc, append-nil, bit_and, IsTrue, not, Ok, Err}
-use Rattle.std.proofs.Math.Nat.{mod-lt}
+use Rattle.std.proofs.Common.{◌≡◌, ◌≢◌, lit<, ℕ, ◌<◌, Bool, true, false, ◌==◌, refl, sym, ap, ◌∙◌, arith, List, [], ◌∷◌, ◌++◌, Option, Some, None, subst, append_assoc, append-nil, bit_and, IsTrue, not, Ok, Err, mod-lt}
 use Rattle.std.proofs.lemmas.Bool.{false≢true, eqb-true}
 use Rattle.std.specs.Int.Bits.{and_mask, or_add_and}
 use Rattle.std.specs.List.{list_all}
@@ -11,7 +10,6 @@ use Rattle.std.specs.Io.KnownBytes.{Keeps, Appends}
 use Rattle.vm_superio.specs.Serial.{has_bits, with_bits, Sent, is_lost}
 use Rattle.vm_superio.specs.Serial.History.{with_data_ready}
 use Rattle.superio_core.proofs.Lemmas.{or-twice, or-without, without-or, without-twice}
-use Rattle.superio_core.specs.declared.trace.Sent.TheVariants.{Out, Lost}
 use Rattle.vm_superio.specs.Links.{OutCall, Put, Flush, WriterCalls}
 use Rattle.vm_superio.specs.Links.Writer.{AreSendings, KnownOutputLaw}
 
@@ -56,11 +54,11 @@ pub AreSendings-append :
     AreSendings outcomes bytes calls → AreSendings more_outcomes more more_calls →
     AreSendings (outcomes ++ more_outcomes) (bytes ++ more) (calls ++ more_calls)
 AreSendings-append [] more_outcomes [] more [] more_calls first second = second
-AreSendings-append (Out ∷ outcomes) more_outcomes (byte ∷ bytes) more (Put put (Ok done) ∷ Flush (Ok flushed) ∷ calls) more_calls first second =
+AreSendings-append (Sent.Out ∷ outcomes) more_outcomes (byte ∷ bytes) more (Put put (Ok done) ∷ Flush (Ok flushed) ∷ calls) more_calls first second =
     (first.0, AreSendings-append outcomes more_outcomes bytes more calls more_calls first.1 second)
-AreSendings-append (Lost ∷ outcomes) more_outcomes (byte ∷ bytes) more (Put put (Err fault) ∷ calls) more_calls first second =
+AreSendings-append (Sent.Lost ∷ outcomes) more_outcomes (byte ∷ bytes) more (Put put (Err fault) ∷ calls) more_calls first second =
     (first.0, AreSendings-append outcomes more_outcomes bytes more calls more_calls first.1 second)
-AreSendings-append (Lost ∷ outcomes) more_outcomes (byte ∷ bytes) more (Put put (Ok done) ∷ Flush (Err fault) ∷ calls) more_calls first second =
+AreSendings-append (Sent.Lost ∷ outcomes) more_outcomes (byte ∷ bytes) more (Put put (Ok done) ∷ Flush (Err fault) ∷ calls) more_calls first second =
     (first.0, AreSendings-append outcomes more_outcomes bytes more calls more_calls first.1 second)
 AreSendings-append _ more_outcomes _ more _ more_calls first second = absurd first
 
@@ -77,14 +75,14 @@ module _ {W : Type 0} (contents : W → Option (List ℕ)) where
       IsTrue (list_all (λ outcome. not (is_lost outcome)) outcomes) → Appends (contents old) (contents new) bytes
   known old new [] [] [] sends linked kept =
       subst (λ writer. Appends (contents old) (contents writer) []) linked (Appends-nothing (contents old))
-  known old new (Out ∷ outcomes) (byte ∷ bytes) (Put put (Ok done) ∷ Flush (Ok flushed) ∷ calls) sends linked kept =
+  known old new (Sent.Out ∷ outcomes) (byte ∷ bytes) (Put put (Ok done) ∷ Flush (Ok flushed) ∷ calls) sends linked kept =
       let taken = linked.0 in
       let after = linked.2.0 in
       let one = Appends-append (contents old) (contents taken) (contents after) (put ∷ []) [] linked.1 (Appends-kept _ _ linked.2.1) in
       Appends-append (contents old) (contents after) (contents new) (byte ∷ []) bytes
       (subst (λ put. Appends (contents old) (contents after) (put ∷ [])) sends.0 one)
       (known after new outcomes bytes calls sends.1 linked.2.2 kept)
-  known old new (Lost ∷ outcomes) bytes calls sends linked kept = absurd (false≢true kept)
+  known old new (Sent.Lost ∷ outcomes) bytes calls sends linked kept = absurd (false≢true kept)
   known old new _ _ _ sends linked kept = absurd sends
 
   pub known_output_law : KnownOutputLaw contents

@@ -4,8 +4,7 @@ pub mod History
 pub mod Laws
 pub mod Run
 pub mod Step
-use Rattle.std.specs.Prelude.{ℕ, Option, Some, None, Result, Ok, Err, List, ◌++◌, codes}
-use Rattle.std.specs.Option.{option_map}
+use Rattle.std.specs.Prelude.{ℕ, Option, Some, None, Result, Ok, Err, List, ◌++◌, codes, option_map}
 use Rattle.std.specs.declared.io.Error as io
 pub use Rattle.vm_superio.specs.declared.serial.errors.Error.{Error}
 pub use Rattle.vm_superio.specs.declared.serial.errors.Error.TheVariants.{Trigger, IOError, FullFifo, Memory}

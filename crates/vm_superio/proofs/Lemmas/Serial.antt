@@ -8,7 +8,6 @@ use Rattle.std.proofs.Common.{Bool, None, ◌≡◌, length, Option, refl, ap, s
 use Rattle.std.specs.declared.io.Error.{Error as Fault}
 use Rattle.superio_core.proofs.Lemmas.Serial.Coherence.{coherence_law}
 use Rattle.vm_superio.specs.Serial.{Coherent, answers_all, step_calls, is_dlab, is_loopback, is_sent, not_empty, sent_by, kind_of, timeout_response, Port, write_response, refusal_in_result, fault_in_result, Error, Three, WriterOut, Asked, Sent, Op, Response, ends_in_refusal, answer_count, Write, CharacterTimeout, Event, step_events}
-use Rattle.superio_core.specs.declared.trace.Asked.TheVariants.{Nothing}
 use Rattle.vm_superio.specs.Links.{answers_of, Link, TriggerAnswer, OutCall, WriterCalls, ObjectCall, ToTrigger, ToOut, ToEvents, answers_in, out_calls_in, events_in}
 use Rattle.vm_superio.specs.Links.Writer.{PortLinks, WriterLink, port_links, bytes_sent, outcome_of, AreSendings}
 use Rattle.vm_superio.specs.Serial.Step.{turned_on_count, IsPortStep, IsWriteStep, IsTimeoutStep}

@@ -1,6 +1,5 @@
 -- What was saved is one machine.
-use Rattle.std.proofs.Common.{◌≡◌, Result, Ok, Err, sym, ◌∙◌}
-use Rattle.std.specs.Prelude.{IfOk}
+use Rattle.std.proofs.Common.{◌≡◌, Result, Ok, Err, sym, ◌∙◌, IfOk}
 use Rattle.superio_core.specs.Saved.{IsClock}
 use Rattle.superio_core.proofs.Lemmas.Saved.{one_serial_state, one_clock_state}
 use Rattle.vm_superio.specs.declared.saved.Error.{Error}

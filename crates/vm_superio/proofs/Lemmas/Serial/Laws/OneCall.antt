@@ -9,9 +9,6 @@ use Rattle.vm_superio.specs.Serial.History.{line_status, byte_read, accepted_by,
 use Rattle.vm_superio.specs.Serial.Laws.OneCall.{OneCallLaw, ReceivedLaw, OneReadLaw, RbrReadLaw, RbrDataReadyLaw, ThrWriteLaw, OutcomeEventsLaw, reports_outcome, TurnedBitsLaw}
 use Rattle.superio_core.proofs.Lemmas.Serial.{data_ready_cleared}
 use Rattle.superio_core.proofs.Lemmas.Serial.Step.{by_kind, next_by_kind, answers_counted, rda_sets}
-use Rattle.superio_core.specs.declared.trace.Asked.TheVariants.{Nothing}
-use Rattle.superio_core.specs.declared.trace.Sent.TheVariants.{Nothing, Out}
-use Rattle.superio_core.specs.declared.trace.Sent.TheVariants as sent
 use Rattle.std.proofs.lemmas.Nat.{and_or_self, and_or_apart}
 use Rattle.vm_superio.specs.Serial.Step.{turns_on}
 use Rattle.superio_core.proofs.Lemmas.{and-without, and-without-apart}
@@ -76,9 +73,9 @@ kept register s = grind arith
 pub rbr_read : RbrReadLaw
 rbr_read s byte hidden some response = record {
   bytes = is_oldest s.in_buffer _ byte some
-      (subst (λ kind. byte_read kind s.in_buffer (ByteRead byte) ++ (step s (Read 0) Nothing).in_buffer
+      (subst (λ kind. byte_read kind s.in_buffer (ByteRead byte) ++ (step s (Read 0) Asked.Nothing).in_buffer
       ≡ s.in_buffer ++ accepted_by kind s.in_buffer) (ap (λ latch. read_kind (register_at latch 0)) hidden)
-      (rw response (one_read s (Read 0) Nothing sent.Nothing)));
+      (rw response (one_read s (Read 0) Asked.Nothing Sent.Nothing)));
   rest_unchanged = kept (register_at (is_dlab s.line_control) 0) s;
 }
 
@@ -100,7 +97,7 @@ rbr_data_ready s hidden = subst
 -- `Ok` is no failure of the writer
 taken : (is_refused : Bool) (sent : Sent) → IsTrue (is_sent sent)
     → WriteOk ≡ (if is_refused then TriggerRefused else (if is_lost sent then WriterFailed else WriteOk))
-    → sent ≡ Out
+    → sent ≡ Sent.Out
 taken is_refused sent outcome ok = grind arith
 
 -- if a byte is sent, an admissible call has an outcome of it

@@ -10,7 +10,6 @@ use Rattle.vm_superio.specs.Serial.Laws.{state_after, StateLaw, ResponseLaw, Ste
 use Rattle.vm_superio.proofs.Lemmas.Serial.Laws.{state_of_history-by_state, held_bytes_law, line_status_law}
 use Rattle.vm_superio.proofs.Lemmas.Serial.Laws.Interrupts.{interrupt_law, due_is, coherent_after}
 use Rattle.vm_superio.proofs.Lemmas.Serial.Laws.Consequences.{call_written}
-use Rattle.superio_core.specs.declared.trace.Sent.TheVariants as sent
 
 pub state_law : StateLaw
 state_law start trace coherent =
@@ -101,7 +100,7 @@ pub retry_law : RetryLaw
 retry_law start trace s coherent here = record {
   calls = ap restore_calls here ∙ (step_law start trace coherent).restoring;
   counted =
-      call_law start trace (record { op = Restore; asked = Asked.Nothing; sent = sent.Nothing }) NoResponse s s coherent here
+      call_law start trace (record { op = Restore; asked = Asked.Nothing; sent = Sent.Nothing }) NoResponse s s coherent here
       refl refl refl;
 }
 

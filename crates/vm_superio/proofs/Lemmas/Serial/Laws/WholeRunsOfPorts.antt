@@ -1,8 +1,7 @@
 -- The calls of a port without objects, by the history.
 use Rattle.std.proofs.Common.{◌≡◌, ℕ, ◌&&◌, Bool, true, false, List, [], ◌∷◌, ◌++◌, length, refl, sym, ap, ◌∙◌, subst, append_assoc, append-nil, arith, ◌+◌, if◌then◌else◌, IsTrue}
 use Rattle.std.specs.Bool.{beq}
-use Rattle.superio_core.specs.declared.trace.Asked.TheVariants.{Nothing}
-use Rattle.vm_superio.specs.Serial.{Sent, Other, Arrival, read_kind, sent_by, Write, Enqueue, CharacterTimeout, Response, ByteRead, Trace, is_sent, Read, State, not_empty, Register, is_dlab, register_at, Coherent, bytes_that_fit, step, kind_calls, answers_all}
+use Rattle.vm_superio.specs.Serial.{Sent, Other, Arrival, read_kind, sent_by, Write, Enqueue, CharacterTimeout, Response, ByteRead, Trace, is_sent, Read, State, not_empty, Register, is_dlab, register_at, Coherent, bytes_that_fit, step, kind_calls, answers_all, Asked}
 use Rattle.vm_superio.specs.Serial.History.{output, state_of_history, calls_due, kind_at, loopback, accepted_by, held_bytes}
 use Rattle.vm_superio.specs.Serial.Laws.PortRun.{PortCall, PortRead, PortWrite, PortEnqueue, PortTimeout, PortRestore, IsPortCall, PortCallsFollow, op_of_call, ops_of_calls, unasked, trace_with, EffectsAre, AllEffectsAre, PortRunLaw, told_by, bytes_told, PortOutputLaw, interrupts_of, interrupts_told, PortBoundLaw}
 use Rattle.vm_superio.proofs.Lemmas.Serial.Laws.Interrupts.{coherent_after}
@@ -12,12 +11,12 @@ use Rattle.vm_superio.proofs.Lemmas.Serial.Laws.Consequences.{due_so_far, due-wi
 -- ---- one call
 
 -- it is a step without a refusal
-step-of-call : (call : PortCall) (old new : State) → IsPortCall call old new → new ≡ step old (op_of_call call) Nothing
+step-of-call : (call : PortCall) (old new : State) → IsPortCall call old new → new ≡ step old (op_of_call call) Asked.Nothing
 step-of-call call old new is = grind arith
 
 read-possible :
     (register : Register) (s : State)
-    → IsTrue (answers_all (kind_calls (read_kind register) s) Nothing
+    → IsTrue (answers_all (kind_calls (read_kind register) s) Asked.Nothing
     && beq (is_sent Sent.Nothing) (not_empty (sent_by (read_kind register))))
 read-possible register s = grind arith
 
@@ -57,7 +56,7 @@ module _ (start : State) (coherent : Coherent start) where
       → new ≡ state_of_history start (unasked (op_of_call call) ∷ trace)
   state-at-point trace call new is =
       step-of-call call (state_of_history start trace) new is
-      ∙ ap (λ (s : State). step s (op_of_call call) Nothing) (sym (state_law start trace coherent))
+      ∙ ap (λ (s : State). step s (op_of_call call) Asked.Nothing) (sym (state_law start trace coherent))
       ∙ state_law start (unasked (op_of_call call) ∷ trace) coherent
 
   -- calls that follow each other
