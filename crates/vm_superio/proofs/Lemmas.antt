@@ -30,23 +30,16 @@ data_ready_right byte = right_where byte (bit_and byte 0x01 == 0x01) refl
 pub data_ready_twice : (byte : ℕ) (one other : Bool)
     → with_data_ready (with_data_ready byte one) other ≡ with_data_ready byte other
 unfolding with_bits
-data_ready_twice byte true true = or-twice byte 0x01
-data_ready_twice byte true false = without-or byte 0x01
-data_ready_twice byte false true = or-without byte 0x01
-data_ready_twice byte false false = without-twice byte 0x01 0x01
+data_ready_twice byte one other = grind (arith, or-twice, without-or, or-without, without-twice)
 
 -- ---- what a writer took over several calls
 
 -- a writer that took nothing
 pub Appends-nothing : (known : Option (List ℕ)) → Appends known known []
-Appends-nothing None = tt
-Appends-nothing (Some xs) = sym (append-nil xs)
+Appends-nothing known = grind (arith, append-nil)
 
 pub Appends-append : (before middle after : Option (List ℕ)) (xs ys : List ℕ) → Appends before middle xs → Appends middle after ys → Appends before after (xs ++ ys)
-Appends-append None middle after xs ys first second = tt
-Appends-append (Some a) None after xs ys first second = absurd first
-Appends-append (Some a) (Some b) None xs ys first second = second
-Appends-append (Some a) (Some b) (Some c) xs ys first second = second ∙ ap (λ bytes. bytes ++ ys) first ∙ append_assoc a xs ys
+Appends-append before middle after xs ys first second = grind (arith, append_assoc)
 
 -- bytes sent, and then bytes sent
 pub AreSendings-append :
@@ -64,9 +57,7 @@ AreSendings-append _ more_outcomes _ more _ more_calls first second = absurd fir
 
 -- a writer whose bytes stayed took nothing
 Appends-kept : (before after : Option (List ℕ)) → Keeps before after → Appends before after []
-Appends-kept None after kept = tt
-Appends-kept (Some xs) None kept = absurd kept
-Appends-kept (Some xs) (Some ys) kept = kept ∙ sym (append-nil xs)
+Appends-kept before after kept = grind (arith, append-nil)
 
 module _ {W : Type 0} (contents : W → Option (List ℕ)) where
   known :

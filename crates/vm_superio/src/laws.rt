@@ -88,7 +88,7 @@ pub fn whole_runs()
 /// alone: the byte and events of each read, the bytes taken, and how often to ask for the interrupt. They end in the
 /// state of the history, which is coherent. The bytes that the caller is told to send are the output. It is told to ask
 /// for the interrupt at most twice, plus twice for each IIR read and once for each RBR read; restores do not count.
-#[tactic(auto, using(crate::proofs::Lemmas::Serial::Laws::WholeRunsOfPorts::port_run_laws))]
+#[tactic(auto, using(crate::proofs::Lemmas::Serial::Laws::StepsOfHistory::port_run_laws))]
 pub fn whole_runs_of_ports()
     ensures run { PortRunLaw }
     ensures output { PortOutputLaw }

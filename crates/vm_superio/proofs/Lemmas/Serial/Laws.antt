@@ -5,7 +5,6 @@ pub mod Interrupts
 pub mod OneCall
 pub mod Reads
 pub mod StepsOfHistory
-pub mod WholeRunsOfPorts
 use Rattle.std.proofs.Common.{rules, ◌≡◌, ℕ, Bool, List, [], ◌∷◌, Option, Some, None, refl, ap, sym, ◌∙◌, arith, subst, ◌++◌, length, drop, append_assoc, append-nil, length-append, if◌then◌else◌, unwrap_or}
 use Rattle.std.specs.Option.{option_or, option_map_or}
 use Rattle.std.proofs.Math.Seq.{drop-append-add}
@@ -45,13 +44,11 @@ call_done s op asked = record {
 
 unwrap_or-or : (one other : Option ℕ) (byte : ℕ)
     → unwrap_or (option_or one other) byte ≡ unwrap_or one (unwrap_or other byte)
-unwrap_or-or None other byte = refl
-unwrap_or-or (Some value) other byte = refl
+unwrap_or-or one other byte = grind arith
 
 option_map_or-or : (f : ℕ → ℕ) (one other : Option ℕ) (byte : ℕ)
     → option_map_or f (option_or one other) byte ≡ option_map_or f one (option_map_or f other byte)
-option_map_or-or f None other byte = refl
-option_map_or-or f (Some value) other byte = refl
+option_map_or-or f one other byte = grind arith
 
 -- what the newest entry left of what the others left is what the whole trace says
 more : (found : List TraceEntry → Op → Option ℕ) (entry : TraceEntry) (trace : List TraceEntry) (byte old new : ℕ)

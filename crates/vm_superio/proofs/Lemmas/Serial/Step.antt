@@ -16,8 +16,7 @@ use Rattle.superio_core.proofs.Lemmas.Serial.Coherence.{coherence_law}
 
 -- received bytes leave every setting, IER among them
 pub settings_kept : (bytes : List ℕ) (s : State) → SameSettings s (receive_bytes bytes s)
-settings_kept [] s = refl
-settings_kept (byte ∷ bytes) s = refl
+settings_kept bytes s = grind arith
 
 -- ---- a call that leaves IER 0 calls no trigger: a call of it would leave the line up
 

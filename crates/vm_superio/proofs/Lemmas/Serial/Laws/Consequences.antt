@@ -41,12 +41,10 @@ pub nowhere : (start : State) (acknowledges : OpKind → Bool) (trace : List Tra
 nowhere start acknowledges trace after before entry absent = absurd (nothing_there after before entry absent)
 
 or_true : (b : Bool) → IsTrue (b || true)
-or_true true = refl
-or_true false = refl
+or_true b = grind arith
 
 not_false : (b : Bool) → IsTrue (not b) → IsFalse b
-not_false true e = absurd (false≢true e)
-not_false false e = refl
+not_false b e = grind arith
 
 -- ---- pending by trace prefixes
 
@@ -139,8 +137,7 @@ acknowledged_by : (k : OpKind)
 acknowledged_by k = grind arith
 
 pub one_at_most : (b : Bool) → count_if b ≤ 1
-one_at_most true = omega arith
-one_at_most false = omega arith
+one_at_most b = grind arith
 
 -- the calls that a trace makes as long as none is refused
 abbrev pub due_so_far : (start : State) (trace : List TraceEntry) → ℕ

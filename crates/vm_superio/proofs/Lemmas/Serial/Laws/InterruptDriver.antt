@@ -95,8 +95,7 @@ abbrev all_bytes : (start : State) (trace : Trace) → List ℕ
 all_bytes start trace = start.in_buffer ++ accepted_bytes start trace
 
 some_held : (held : List ℕ) → 0 < length held → IsTrue (not_empty held)
-some_held [] none = absurd (omega (arith, none))
-some_held (byte ∷ held) some = refl
+some_held held none = grind arith
 
 longer : (bytes all : List ℕ) → Begins bytes all → length bytes ≤ length all
 longer bytes all (more, is) = omega (arith, ap length is, length-append bytes more)

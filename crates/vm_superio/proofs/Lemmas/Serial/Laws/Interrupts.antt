@@ -155,9 +155,7 @@ after_ier_write : (held refused called : Bool) (enable old : ℕ)
     || (becomes_pending Thre enable (if held then raise Rda enable old else old) && not refused))
     → let first = if held then raise Rda enable old else old in
     line enable (if refused then first else raise Thre enable first) ≡ (called || line enable old)
-after_ier_write true true called enable old is = grind (arith, bits)
-after_ier_write true false called enable old is = grind (arith, bits)
-after_ier_write false refused called enable old is = grind (arith, bits)
+after_ier_write held refused called enable old is = grind (arith, bits)
 
 called_if : (first second : Bool) (asked : Asked) → IsTrue (answers_all (count_if first + count_if second) asked)
     → is_called asked ≡ (first || (second && not (first && is_refused_at_once asked)))

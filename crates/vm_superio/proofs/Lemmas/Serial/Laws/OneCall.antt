@@ -21,15 +21,13 @@ pub taken_first : (k : OpKind) (bytes new : List ℕ)
 taken_first k bytes new = grind arith
 
 pub received : ReceivedLaw
-received s [] = ap (λ bytes. record s { in_buffer = bytes }) (sym (append-nil s.in_buffer))
-received s (byte ∷ bytes) = refl
+received s h = grind (arith, append-nil)
 
 pub received_bytes : (new : List ℕ) (s : State) → (receive_bytes new s).in_buffer ≡ s.in_buffer ++ new
 received_bytes new s = ap (λ (left : State). left.in_buffer) (received s new)
 
 first_gone : (bytes : List ℕ) → drop 1 bytes ≡ drop (length (taken_by RbrRead bytes)) (bytes ++ [])
-first_gone [] = refl
-first_gone (byte ∷ bytes) = sym (append-nil bytes)
+first_gone bytes = grind (arith, append-nil)
 
 -- the steps take and accept what the history says
 pub left_by_kind : (k : OpKind) (asked : Asked) (s : State)
@@ -59,8 +57,7 @@ one_read s op asked sent =
 -- while the latch is hidden
 is_oldest : (held left : List ℕ) (byte : ℕ) → 0 < length held
     → byte_read RbrRead held (ByteRead byte) ++ left ≡ held ++ [] → byte ∷ left ≡ held
-is_oldest [] left byte some is = absurd (omega (arith, some))
-is_oldest (oldest ∷ held) left byte some is = is ∙ append-nil (oldest ∷ held)
+is_oldest held left byte some is = grind (arith, append-nil)
 
 -- a read changes no register but LSR and IIR
 pub kept : (register : Register) (s : State) → read_step register s ≡ record s {
@@ -83,8 +80,7 @@ rbr_read s byte hidden some response = record {
 ready_where : (left : List ℕ) (line_status : ℕ)
     → has_bits (if not_empty left then line_status else without_bits line_status 0x01) 0x01
     ≡ (has_bits line_status 0x01 && not_empty left)
-ready_where [] line_status = data_ready_cleared line_status ∙ sym (and-false (has_bits line_status 0x01))
-ready_where (byte ∷ left) line_status = sym (and-true (has_bits line_status 0x01))
+ready_where left line_status = grind (arith, data_ready_cleared)
 
 pub rbr_data_ready : RbrDataReadyLaw
 rbr_data_ready s hidden = subst
@@ -184,9 +180,7 @@ ier_write_turned : (held refused : Bool) (enable old : ℕ)
     → let first = if held then raise Rda enable old else old in
     count_if (held && becomes_pending Rda enable old) + count_if (becomes_pending Thre enable first && not refused)
     ≡ count old (if refused then first else raise Thre enable first)
-ier_write_turned true true enable old = grind (arith, bits)
-ier_write_turned true false enable old = grind (arith, bits)
-ier_write_turned false refused enable old = grind (arith, bits)
+ier_write_turned held refused enable old = grind (arith, bits)
 
 pub turned_by_kind : (k : OpKind) (asked : Asked) (s : State)
     → IsTrue (answers_all (kind_calls k s) asked)
