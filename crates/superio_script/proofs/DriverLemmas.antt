@@ -16,8 +16,7 @@ abbrev pub reads_left : (s : State) → ℕ
 reads_left s = if has_bits s.line_status 0x01 then 1 + (length s.in_buffer - 1) else 0
 
 left-few : (ready : Bool) (held : List ℕ) → length held ≤ 64 → (if ready then 1 + (length held - 1) else 0) ≤ 64
-left-few true held few = omega (arith, few)
-left-few false held few = omega arith
+left-few ready held few = grind arith
 
 pub reads_left-few : (s : State) → length s.in_buffer ≤ 64 → reads_left s ≤ 64
 reads_left-few s few = left-few (has_bits s.line_status 0x01) s.in_buffer few
@@ -129,8 +128,7 @@ ready-cleared : (left : List ℕ) (line_status : ℕ)
     → has_bits (if not_empty left then line_status else without_bits line_status 0x01) 0x01 ≡ not_empty left
     → without_bits (if not_empty left then line_status else without_bits line_status 0x01) 0x01
     ≡ without_bits line_status 0x01
-ready-cleared [] line_status shows = without-clear (without_bits line_status 0x01) shows
-ready-cleared (byte ∷ left) line_status shows = refl
+ready-cleared left line_status shows = grind (arith, without-clear)
 
 -- the read of one byte and then of the others leave the same state as those of all
 without_bytes-after_read : (s : State) → Coherent s → Coherent (rbr_read s) → without_bytes (rbr_read s) ≡ without_bytes s
@@ -147,12 +145,10 @@ without_bytes-after_read s before after =
 
 -- no byte is held if LSR does not show data ready
 none-held : (held : List ℕ) → false ≡ not_empty held → held ≡ []
-none-held [] none = refl
-none-held (byte ∷ held) none = absurd (false≢true none)
+none-held held none = grind arith
 
 none-received : (rda : Bool) (held : List ℕ) → (IsTrue rda → IsTrue (not_empty held)) → false ≡ not_empty held → rda ≡ false
-none-received false held some none = refl
-none-received true held some none = absurd (false≢true (none ∙ some refl))
+none-received rda held some none = grind arith
 
 without_bytes-of_empty : (s : State) → Coherent s → has_bits s.line_status 0x01 ≡ false → without_bytes s ≡ s
 without_bytes-of_empty s is clear =
@@ -165,15 +161,13 @@ without_bytes-of_empty s is clear =
     (none-pending is.thre is.rda (none-received is.rda s.in_buffer is.received none)))
 
 oldest : (held left : List ℕ) (byte : ℕ) → true ≡ not_empty held → byte ≡ slice_index held 0 → left ≡ drop 1 held → byte ∷ left ≡ held
-oldest [] left byte some first rest = absurd (false≢true (sym some))
-oldest (next ∷ held) left byte some first rest = rw (first, rest) refl
+oldest held left byte some first rest = grind arith
 
 -- the events of one read that leaves these bytes, and of the reads of those
 events-of_all : (left : List ℕ) →
     ((if not_empty left then [] else in_buffer_empty ∷ []) ++ buffer_read ∷ []) ++ drain_events (length left)
     ≡ drain_events (suc (length left))
-events-of_all [] = refl
-events-of_all (byte ∷ left) = refl
+events-of_all left = grind arith
 
 module _
     {T E EV W : Type 0} (trigger : Link T (TriggerAnswer E)) (events : Link EV Event) (out : Link W OutCall)

@@ -25,18 +25,6 @@ use Rattle.superio_script.proofs.DriverLemmas.{reads-are_stepped}
 
 -- ---- the interrupt line
 
--- the response to a call, given whether it is refused
-abbrev one_response : (refused : Bool) → Result (Unit {0}) LineRefused
-one_response refused = if refused then Err (record {}) else Ok tt
-
-was_accepted : (refused : Bool) → Ok tt ≡ one_response refused → refused ≡ false
-was_accepted true e = absurd cc
-was_accepted false e = refl
-
-was_refused : (refused : Bool) (refusal : LineRefused) → Err refusal ≡ one_response refused → refused ≡ true
-was_refused true refusal e = refl
-was_refused false refusal e = absurd cc
-
 -- the answers that link an interrupt line are those that its mask gives
 trigger_answers-from_link :
     (line new : Line) (calls : ℕ) (asked : Asked) (refusal : Option LineRefused) →
@@ -79,8 +67,7 @@ output_link = WriterCalls (λ output. Some (written_bytes output))
 after_nothing :
     (accepted : List ℕ) (calls : List OutCall) (old new : Output) →
     AreSendings [] accepted calls → output_link old calls new → written_bytes new ≡ written_bytes old ++ accepted
-after_nothing [] [] old new sends linked = ap written_bytes (sym linked) ∙ sym (append-nil (written_bytes old))
-after_nothing _ _ old new sends linked = absurd sends
+after_nothing accepted calls old new sends linked = grind (arith, append-nil)
 
 after_out :
     (accepted : List ℕ) (calls : List OutCall) (old new : Output) →
@@ -158,8 +145,7 @@ reads-step (byte ∷ bytes) old new before at (ready, (middle, made, later)) =
 
 drained-are : (latch : Bool) (bytes stepped : List ℕ) → (latch ≡ true → bytes ≡ []) → (latch ≡ false → bytes ≡ stepped)
     → bytes ≡ (if latch then [] else stepped)
-drained-are true bytes stepped set clear = set refl
-drained-are false bytes stepped set clear = clear refl
+drained-are latch bytes stepped set clear = grind arith
 
 -- the choice if nothing is left open
 no_choice : Choice
