@@ -40,8 +40,7 @@ sends turns byte output false is_full rest =
 
 few_after : (room : Bool) (kept dropped : Waiting) → kept.dropped < 2 ^ 64 → dropped.dropped < 2 ^ 64
     → (if room then kept else dropped).dropped < 2 ^ 64
-few_after true kept dropped few still_few = few
-few_after false kept dropped few still_few = still_few
+few_after room kept dropped few still_few = grind arith
 
 pub output_law : OutputLaw
 output_law [] output few = record {

@@ -14,8 +14,7 @@ loop-place-preserved g c =
     }
 
 on-true : {P : Type 0} (test : Bool) → P → OnTrue test P
-on-true true holds = holds
-on-true false holds = tt
+on-true test holds = grind arith
 
 pub returns-clause-bytes : goal.returns-clause-bytes
 returns-clause-bytes g c =
