@@ -27,8 +27,7 @@ guest_time-history start trace time = ap (λ counter. guest_time counter time) (
 -- to set a bit that may be set is to set it
 set-again : (kept : ℕ) (raised : Bool) → with_bits (with_bits kept (if raised then 1 else 0)) 1 ≡ with_bits kept 1
 unfolding with_bits
-set-again kept true = or-twice kept 1
-set-again kept false = ap (λ n. bit_or n 1) (or_zero_r kept)
+set-again kept raised = grind (arith, or-twice, or_zero_r)
 
 -- what becomes of an alarm: whether one was set, guest time had passed the match before, and has reached it now
 checked : (set passed come raised : Bool) (lr : ℕ) (offset : ℤ) (mr imsc kept : ℕ) →
@@ -70,12 +69,7 @@ record Means (access : Access) (register : ClockRegister) (value time : ℕ) : T
   cleared : cleared_by access ≡ clear_by register value
 
 means : (offset value now : ℕ) (register : ClockRegister) → clock_register_at offset ≡ register → Means (write offset value now) register value (host_time now)
-means offset value now register at = record {
-  setting = grind (arith, common_steps);
-  matched = grind (arith, common_steps);
-  masked = grind (arith, common_steps);
-  cleared = grind (arith, common_steps);
-}
+means offset value now register at = grind (arith, common_steps)
 
 -- the history of a longer trace, by what its newest access is
 abbrev longer : (start : RtcState) (trace : List Access) (setting : Option Setting) (matched masked : Option ℕ) (clears guest : ℕ) → RtcState

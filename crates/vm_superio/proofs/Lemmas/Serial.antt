@@ -62,23 +62,10 @@ module _ {E : Type 0} where
   events_in_order (call ∷ sending) events answers = events_in_order sending events answers
 
 -- a byte and its outcome are what the output's calls show; only a write sends a byte
-none_sent : (sending : Sending) (bytes : List ℕ) → [] ≡ bytes → IsTrue (beq (is_sent (sent_in sending)) (not_empty bytes))
-    → AreSendings (outcome_of (sent_in sending)) [] []
-none_sent sending bytes none fits = grind arith
-
-sendings : (dlab loopback : Bool) (op : Op) (sending : Sending)
-    → IsTrue (beq (is_sent (sent_in sending)) (not_empty (sent_by (kind_of dlab loopback op))))
-    → AreSendings (outcome_of (sent_in sending)) (bytes_sent op (sent_in sending)) (out_calls op sending)
-sendings dlab loopback (Write offset value) sending fits = grind arith
-sendings dlab loopback op sending fits = none_sent sending _ (call_written dlab loopback op (sent_in sending) fits) fits
-
 pub sendings_of : (dlab loopback : Bool) (op : Op) (sent : Sent) (sending : Sending)
     → IsTrue (beq (is_sent sent) (not_empty (sent_by (kind_of dlab loopback op)))) → sent ≡ sent_in sending
     → AreSendings (outcome_of sent) (bytes_sent op sent) (out_calls op sending)
-sendings_of dlab loopback op sent sending fits same =
-    subst (λ sent. AreSendings (outcome_of sent) (bytes_sent op sent) (out_calls op sending)) (sym same)
-    (sendings dlab loopback op sending
-    (subst (λ sent. IsTrue (beq (is_sent sent) (not_empty (sent_by (kind_of dlab loopback op))))) same fits))
+sendings_of dlab loopback op sent sending fits same = grind arith
 
 module _ {T E EV W : Type 0} (trigger : Link T (TriggerAnswer E)) (events : Link EV Event) (contents : W → Option (List ℕ)) where
   abbrev link : Link (Three T EV (WriterOut W)) (ObjectCall E)

@@ -42,29 +42,17 @@ call_done s op asked = record {
 
 -- ---- any trace
 
-unwrap_or-or : (one other : Option ℕ) (byte : ℕ)
-    → unwrap_or (option_or one other) byte ≡ unwrap_or one (unwrap_or other byte)
-unwrap_or-or one other byte = grind arith
-
-option_map_or-or : (f : ℕ → ℕ) (one other : Option ℕ) (byte : ℕ)
-    → option_map_or f (option_or one other) byte ≡ option_map_or f one (option_map_or f other byte)
-option_map_or-or f one other byte = grind arith
-
 -- what the newest entry left of what the others left is what the whole trace says
 more : (found : List TraceEntry → Op → Option ℕ) (entry : TraceEntry) (trace : List TraceEntry) (byte old new : ℕ)
     → old ≡ unwrap_or (last_found found trace) byte → new ≡ unwrap_or (found trace entry.op) old
     → new ≡ unwrap_or (last_found found (entry ∷ trace)) byte
-more found entry trace byte old new before step =
-    step ∙ ap (unwrap_or (found trace entry.op)) before
-    ∙ sym (unwrap_or-or (found trace entry.op) (last_found found trace) byte)
+more found entry trace byte old new before step = grind arith
 
 more_masked : (found : List TraceEntry → Op → Option ℕ) (entry : TraceEntry) (trace : List TraceEntry) (byte old new : ℕ)
     → old ≡ option_map_or (λ value. only_bits value 0x0F) (last_found found trace) byte
     → new ≡ option_map_or (λ value. only_bits value 0x0F) (found trace entry.op) old
     → new ≡ option_map_or (λ value. only_bits value 0x0F) (last_found found (entry ∷ trace)) byte
-more_masked found entry trace byte old new before step =
-    step ∙ ap (option_map_or (λ value. only_bits value 0x0F) (found trace entry.op)) before
-    ∙ sym (option_map_or-or (λ value. only_bits value 0x0F) (found trace entry.op) (last_found found trace) byte)
+more_masked found entry trace byte old new before step = grind arith
 
 pub register_law : RegisterLaw
 register_law start [] = search rules

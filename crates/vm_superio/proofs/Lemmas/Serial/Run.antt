@@ -40,9 +40,7 @@ ok_follows P Q (Err error) follows holds = tt
 
 -- a restore records no trigger answers and no sent byte
 restore_admissible : (s : State) (asked : Asked) (sent : Sent) → asked ≡ Asked.Nothing → sent ≡ Sent.Nothing → IsTrue (is_admissible s operation.Restore asked sent)
-restore_admissible s asked sent no_call no_byte =
-    subst (λ a. IsTrue (is_admissible s operation.Restore a sent)) (sym no_call)
-    (subst (λ b. IsTrue (is_admissible s operation.Restore Asked.Nothing b)) (sym no_byte) refl)
+restore_admissible s asked sent no_call no_byte = grind arith
 
 -- only a restore counts as one
 op_of-restore : (call : Act) → not (is_restore call) ≡ false → op_of call ≡ operation.Restore

@@ -30,8 +30,7 @@ line_down s off =
     ∙ neither (has_bits s.interrupt_identification 0x02) (has_bits s.interrupt_identification 0x04)
 
 unasked : {E : Type 0} (asked : Asked) (refusal : Option E) → (IsTrue (is_called asked) → ⊥) → answers_of asked refusal ≡ []
-unasked Asked.Nothing refusal silent = refl
-unasked _ refusal silent = absurd (silent refl)
+unasked asked refusal silent = grind arith
 
 pub quiet : {T E EV W : Type 0} {links : PortLinks T E EV W} {op : Op} {asked : Asked} {sent : Sent} {reply : Response}
     {refusal : Option E} {old new : Port T EV W} → IsPortStep links op asked sent reply refusal old new

@@ -32,10 +32,7 @@ first_gone bytes = grind (arith, append-nil)
 -- the steps take and accept what the history says
 pub left_by_kind : (k : OpKind) (asked : Asked) (s : State)
     → (by_kind k asked s).in_buffer ≡ drop (length (taken_by k s.in_buffer)) (s.in_buffer ++ accepted_by k s.in_buffer)
-left_by_kind RbrRead asked s = first_gone s.in_buffer
-left_by_kind (Arrival bytes) asked s = received_bytes (bytes_that_fit s.in_buffer bytes) s
-left_by_kind IirRead asked s = sym (append-nil s.in_buffer)
-left_by_kind _ asked s = sym (append-nil s.in_buffer)
+left_by_kind k asked s = grind (arith, first_gone, received_bytes, append-nil)
 
 pub one_call : OneCallLaw
 one_call s op asked =

@@ -47,8 +47,7 @@ reported s op asked outcome fits = grind arith
 none_refused : (k : OpKind) (enable : ℕ) (called pending : Bool)
     → (raises_thre k enable false && not pending)
     ≡ (raises_thre k enable (called && false) && not pending)
-none_refused k enable called pending =
-    ap (λ refused. raises_thre k enable refused && not pending) (sym (and-false called))
+none_refused k enable called pending = grind arith
 
 calls_at_point : (start : State) (trace : List TraceEntry) (op : Op)
     → step_calls (state_of_history start trace) op ≡ calls_due start trace op
