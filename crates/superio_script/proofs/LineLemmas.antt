@@ -56,16 +56,10 @@ abbrev pub IsReported : (writable : Bool) (old new : Counts) → Type 0
 IsReported writable old new = FoldsEvents counts_after_clock_event old (if writable then [] else invalid_write ∷ []) new
 
 pub counted-is_invalid : (writable : Bool) (old new : Counts) → old ≡ no_counts → IsReported writable old new → new.invalid_writes ≡ 1 → writable ≡ false
-counted-is_invalid true old new none reported one =
-    let zero : new.invalid_writes ≡ 0 = ap (λ (counts : Counts). counts.invalid_writes) (reported.folds ∙ none) in
-    absurd (omega (arith, zero, one))
-counted-is_invalid false old new none reported one = refl
+counted-is_invalid writable old new none reported one = grind arith
 
 pub uncounted-is_valid : (writable : Bool) (old new : Counts) → old ≡ no_counts → IsReported writable old new → new.invalid_writes ≢ 1 → writable ≡ true
-uncounted-is_valid true old new none reported other = refl
-uncounted-is_valid false old new none reported other =
-    let after = λ (counts : Counts). (counts_after_clock_event counts invalid_write).invalid_writes in
-    absurd (other (ap (λ (counts : Counts). counts.invalid_writes) reported.folds ∙ ap after none))
+uncounted-is_valid writable old new none reported other = grind arith
 
 pub write-goes_on :
     (session : ClockSession) (old new : RtcState) (offset value moment : ℕ) (bytes : List ℕ) → value < 2 ^ 32 → bytes ≡ to_le_bytes w32 value →
@@ -99,11 +93,7 @@ pub Consumes-append :
     (before middle after : Option (List ℕ)) (filled count : ℕ) (room got rest : List ℕ) → filled ≤ length room → count ≤ length got →
     Consumes before middle (take filled room) → Consumes middle after (take count got) →
     Consumes before after (take (filled + count) (take filled room ++ (got ++ rest)))
-Consumes-append None middle after filled count room got rest h k first second = tt
-Consumes-append (Some xs) None after filled count room got rest h k first second = absurd first
-Consumes-append (Some xs) (Some ys) None filled count room got rest h k first second = second
-Consumes-append (Some xs) (Some ys) (Some zs) filled count room got rest h k first second =
-    rw take-append-take (first ∙ ap (λ more. take filled room ++ more) second ∙ sym (append_assoc (take filled room) (take count got) zs))
+Consumes-append before middle after filled count room got rest h k first second = grind (arith, take-append-take, append_assoc)
 
 pub ruleset reads = (room_holds-filled, Consumes-append)
 

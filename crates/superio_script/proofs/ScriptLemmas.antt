@@ -31,8 +31,7 @@ pub record Leads (session : Session) (clock_session : ClockSession) (line reply 
 
 -- the output of a session is that of its port, which has at most 256 bytes
 output-few : (output : Option (List ℕ)) (out : Output) → IfSome output (λ all. written_bytes out ≡ all) → IfSome output (λ all. length all ≤ 256)
-output-few None out was = tt
-output-few (Some all) out was = subst (λ bytes. length bytes ≤ 256) was out.few
+output-few output out was = grind (arith, out.few)
 
 module _ (session : Session) (clock_session : ClockSession) (line reply : List ℕ) (old new : Devices)
     (at : IsAt session old.serial) (clock_at : old.clock.state ≡ clock_session_state clock_session) where

@@ -30,23 +30,7 @@ trigger_answers-from_link :
     (line new : Line) (calls : ℕ) (asked : Asked) (refusal : Option LineRefused) →
     IsTrue (answers_all calls asked) → is_some refusal ≡ ends_in_refusal asked → InterruptLineLink line (answers_of asked refusal) new →
     (asked ≡ trigger_answers line calls) × (new ≡ interrupt_line_after_calls (answer_count asked) line)
-trigger_answers-from_link line new calls Asked.Nothing refusal fits some link =
-    let none : calls ≡ 0 = grind (arith, nat_tests) in
-    (ap (trigger_answers line) (sym none), sym link)
-trigger_answers-from_link line new calls Asked.Took refusal fits some link =
-    let one : calls ≡ 1 = grind (arith, nat_tests) in
-    (rw one (grind (arith, link.0)), sym link.1)
-trigger_answers-from_link line new calls Asked.TookTook refusal fits some link =
-    let two : calls ≡ 2 = grind (arith, nat_tests) in
-    (rw two (grind (arith, link.0, link.1.0)), sym link.1.1)
-trigger_answers-from_link line new calls Asked.Refused None fits some link = absurd (false≢true some)
-trigger_answers-from_link line new zero Asked.Refused (Some refusal) fits some link = absurd (false≢true fits)
-trigger_answers-from_link line new (suc zero) Asked.Refused (Some refusal) fits some link = (grind (arith, link.0), sym link.1)
-trigger_answers-from_link line new (suc (suc more)) Asked.Refused (Some refusal) fits some link = (grind (arith, link.0), sym link.1)
-trigger_answers-from_link line new calls Asked.TookRefused None fits some link = absurd (false≢true some)
-trigger_answers-from_link line new calls Asked.TookRefused (Some refusal) fits some link =
-    let two : calls ≡ 2 = grind (arith, nat_tests) in
-    (rw two (grind (arith, link.0, link.1.0)), sym link.1.1)
+trigger_answers-from_link line new calls asked refusal fits some link = grind (arith, nat_tests)
 
 -- ---- the byte that was sent
 
@@ -198,8 +182,7 @@ module _ (port : Port Line Counts Output) (reply : List ℕ) where
     where
       is_printed : (known : Option (List ℕ)) → IfSome known (λ all. written_bytes port.out ≡ all) →
           written_bytes port.out ≡ output_or_chosen known (written_bytes port.out)
-      is_printed None was = refl
-      is_printed (Some all) was = was
+      is_printed known was = grind arith
 
 pub ruleset unchanged_lines = (capacity-step, calls-step, events-step, output-step)
 
@@ -317,8 +300,7 @@ pub output-is_of_history : RegisterLaw → SessionOutputLaw
 output-is_of_history registers session [] = nothing session.output
   where
     nothing : (known : Option (List ℕ)) → known ≡ option_map (λ before. before ++ []) known
-    nothing None = refl
-    nothing (Some bytes) = ap Some (sym (append-nil bytes))
+    nothing known = grind (arith, append-nil)
 output-is_of_history registers session (call ∷ calls) =
     let before = session_after_calls session calls in
     let trace = session_trace session calls in
@@ -335,13 +317,7 @@ output-is_of_history registers session (call ∷ calls) =
     joined : (kept : Bool) (outcome : Sent) (earlier : Option (List ℕ)) (out : List ℕ) {bytes all : List ℕ} → bytes ≡ all →
         output_after (if kept then option_map (λ before. before ++ out) earlier else None) outcome bytes
         ≡ (if not (is_lost outcome) && kept then option_map (λ before. before ++ (out ++ all)) earlier else None)
-    joined kept Sent.Lost earlier out same = refl
-    joined false Sent.Nothing earlier out same = refl
-    joined false Sent.Out earlier out same = refl
-    joined true Sent.Nothing None out same = refl
-    joined true Sent.Out None out same = refl
-    joined true Sent.Nothing (Some before) out same = ap Some (ap (λ bytes. (before ++ out) ++ bytes) same ∙ append_assoc before out _)
-    joined true Sent.Out (Some before) out same = ap Some (ap (λ bytes. (before ++ out) ++ bytes) same ∙ append_assoc before out _)
+    joined kept outcome earlier out same = grind (arith, append_assoc)
 
 -- a driver reads what is held
 while_ready-are_held : CoherenceLaw → (most : ℕ) (s : State) → is_dlab s.line_control ≡ false → Coherent s → length s.in_buffer ≤ most
@@ -359,8 +335,7 @@ while_ready-are_held coherence (suc most) s hidden is few =
   where
     oldest : (held : List ℕ) (ready : Bool) {more : List ℕ} → ready ≡ not_empty held → more ≡ drop 1 held
         → (if ready then slice_index held 0 ∷ more else []) ≡ held
-    oldest [] ready shows same = rw shows refl
-    oldest (byte ∷ held) ready shows same = rw (shows, same) refl
+    oldest held ready shows same = grind arith
 
 pub drain-is_of_held : CoherenceLaw → DrainLaw
 drain-is_of_held coherence s is = by_latch (is_dlab s.line_control) refl
