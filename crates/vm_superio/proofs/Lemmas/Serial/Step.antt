@@ -1,5 +1,5 @@
 -- A call that leaves IER 0 calls no trigger, and one that sends no byte leaves the writer.
-use Rattle.std.proofs.Common.{◌≡◌, ℕ, Bool, true, false, ◌&&◌, List, [], ◌∷◌, refl, ap, sym, ◌∙◌, subst, IsTrue, Option, ◌↔◌, Result, Ok, Err, OnOk, ◌-◌, ◌<◌, min, ◌||◌, ◌==◌, ◌++◌, length, take, arith, Some, IfErr, nat_le, length-append, if◌then◌else◌, leb-true}
+use Rattle.std.proofs.Common.{◌≡◌, ℕ, Bool, true, false, ◌&&◌, List, [], refl, ap, sym, ◌∙◌, subst, IsTrue, Option, ◌↔◌, Result, Ok, Err, OnOk, ◌-◌, ◌<◌, min, ◌||◌, ◌==◌, ◌++◌, length, take, arith, Some, IfErr, nat_le, length-append, if◌then◌else◌, leb-true}
 use Rattle.std.specs.Bool.{beq}
 use Rattle.std.proofs.lemmas.List.{length-take, take_min}
 use Rattle.vm_superio.specs.Serial.{Coherent, is_line_up, Error, Port, write_response, enqueue_response, timeout_response, failure_response, refusal_in_result, Trigger, IOError, FullFifo, Memory, Asked, Sent, Op, Response, Write, Enqueue, CharacterTimeout, is_sent, is_lost, ends_in_refusal, WriteOk, TriggerRefused, WriterFailed, sent_by, write_kind, EnqueueOk, TimeoutOk, FifoFull, OutOfMemory, is_refused_at_once, has_bits, State, not_empty, SameSettings, Register, register_at, is_dlab, is_loopback, receive_bytes, bytes_that_fit, enqueued_bytes, step_calls, kind_in_state, answers_all, sends_byte, step, write_step}
@@ -20,14 +20,9 @@ settings_kept bytes s = grind arith
 
 -- ---- a call that leaves IER 0 calls no trigger: a call of it would leave the line up
 
-neither : (thre rda : Bool) → ((thre && false) || (rda && false)) ≡ false
-neither thre rda = grind arith
-
 line_down : (s : State) → s.interrupt_enable ≡ 0 → is_line_up s ≡ false
 unfolding has_bits
-line_down s off =
-    ap (λ enable. is_line_up (record s { interrupt_enable = enable })) off
-    ∙ neither (has_bits s.interrupt_identification 0x02) (has_bits s.interrupt_identification 0x04)
+line_down s off = grind arith
 
 unasked : {E : Type 0} (asked : Asked) (refusal : Option E) → (IsTrue (is_called asked) → ⊥) → answers_of asked refusal ≡ []
 unasked asked refusal silent = grind arith

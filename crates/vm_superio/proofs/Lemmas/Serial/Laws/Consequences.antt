@@ -1,6 +1,6 @@
 -- A condition is pending by the entries that raised and acknowledged it.
 use Rattle.std.proofs.Common.{◌≡◌, inl, inr, Bool, true, false, not, ◌&&◌, ◌||◌, List, [], ◌∷◌, ◌++◌, refl, ap, sym, subst, append-nil, ℕ, ◌+◌, ◌*◌, ◌≤◌, ◌==◌, arith, ◌∙◌, IsTrue, ◌⊎◌, if◌then◌else◌, sum_by, count_by}
-use Rattle.std.proofs.lemmas.Bool.{and_parts, false≢true, eqb-true}
+use Rattle.std.proofs.lemmas.Bool.{and_parts, eqb-true}
 use Rattle.std.specs.Bool.{IsFalse, beq}
 use Rattle.std.proofs.lemmas.List.Sums.{sum_by-cons}
 use Rattle.vm_superio.specs.Serial.{State, not_empty, has_bits, Asked, Sent, TraceEntry, OpKind, count_if, answer_count, is_iir_read, is_rbr_read, Op, is_sent, kind_of, sent_by, Condition, Rda, Thre, iir_bit}

@@ -1,6 +1,6 @@
 -- The interrupt law: IIR shows the pending conditions, and an entry is admissible exactly if it is well-formed. And the
 -- interrupt line: a call leaves it by the bits of IIR that it turns.
-use Rattle.std.proofs.Common.{arith, ◌≡◌, ℕ, ◌+◌, Bool, false, not, ◌==◌, ◌&&◌, ◌||◌, List, [], ◌∷◌, ap, sym, ◌∙◌, true, length, ◌⊎◌, if◌then◌else◌, IsTrue}
+use Rattle.std.proofs.Common.{arith, ◌≡◌, ℕ, ◌+◌, Bool, false, not, ◌==◌, ◌&&◌, ◌||◌, List, [], ◌∷◌, ap, sym, ◌∙◌, length, ◌⊎◌, if◌then◌else◌, IsTrue}
 use Rattle.std.specs.Bool.{beq, IsFalse}
 use Rattle.vm_superio.specs.Serial.{Asked, TraceEntry, is_refused_at_once, is_sent, count_if, answer_count, OpKind, RbrRead, sent_by, is_iir_read, State, not_empty, has_bits, Thre, Rda, identification_of, pending_in_order, restore_calls, kind_calls, answers_all, step_calls, is_admissible, Coherent, IerWrite, only_bits, becomes_pending, raise, is_line_up, kind_in_state, step}
 use Rattle.vm_superio.specs.Serial.History.{interrupt_identification, kind_at, held_bytes, raises_rda, acknowledges, is_pending, raises_thre, is_well_formed_entry}

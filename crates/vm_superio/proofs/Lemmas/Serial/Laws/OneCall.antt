@@ -1,10 +1,9 @@
 -- One call: the bytes that it takes, accepts and gives, the byte that a THR write sends, and the bits of IIR that it
 -- turns.
 use Rattle.std.proofs.Common.{false, ◌≡◌, ℕ, Bool, true, List, [], ◌∷◌, ◌++◌, length, drop, refl, ap, sym, ◌∙◌, append-nil, ◌<◌, subst, arith, IsTrue, if◌then◌else◌, ◌&&◌, count_by, ◌+◌, not, ◌==◌}
-use Rattle.std.proofs.Math.Bool.{and-true, and-false}
 use Rattle.std.specs.Bool.{beq}
 use Rattle.std.proofs.lemmas.Bool.{and_parts, eqb-true}
-use Rattle.vm_superio.specs.Serial.{Asked, Sent, Op, Read, Write, ByteRead, WriteOk, WriterFailed, TriggerRefused, is_sent, is_lost, ends_in_refusal, OpKind, RbrRead, IirRead, Arrival, read_kind, sent_by, State, not_empty, has_bits, without_bits, receive_bytes, bytes_that_fit, raise, kind_in_state, answers_all, step_calls, sends_byte, step, read_step, step_response, step_events, Register, Thre, register_at, is_dlab, is_loopback, is_refused_at_once, count_if, answer_count, IerWrite, only_bits, with_bits, Rda, kind_calls, becomes_pending}
+use Rattle.vm_superio.specs.Serial.{Asked, Sent, Op, Read, Write, ByteRead, WriteOk, WriterFailed, TriggerRefused, is_sent, is_lost, ends_in_refusal, OpKind, RbrRead, read_kind, sent_by, State, not_empty, has_bits, without_bits, receive_bytes, raise, kind_in_state, answers_all, step_calls, sends_byte, step, read_step, step_response, step_events, Register, Thre, register_at, is_dlab, is_loopback, is_refused_at_once, count_if, answer_count, IerWrite, only_bits, with_bits, Rda, kind_calls, becomes_pending}
 use Rattle.vm_superio.specs.Serial.History.{line_status, byte_read, accepted_by, taken_by}
 use Rattle.vm_superio.specs.Serial.Laws.OneCall.{OneCallLaw, ReceivedLaw, OneReadLaw, RbrReadLaw, RbrDataReadyLaw, ThrWriteLaw, OutcomeEventsLaw, reports_outcome, TurnedBitsLaw}
 use Rattle.superio_core.proofs.Lemmas.Serial.{data_ready_cleared}

@@ -1,8 +1,8 @@
 -- What a guest reads. Neither the writer nor a restore changes a read: operations and the trigger's answers determine it.
-use Rattle.std.proofs.Common.{arith, ◌≡◌, Bool, List, [], ◌∷◌, ◌++◌, refl, ap, sym, ◌∙◌, append_assoc, append-nil, ℕ, true, false, ◌==◌, subst, IsTrue, not, ◌&&◌, ◌||◌, length, drop}
+use Rattle.std.proofs.Common.{arith, ◌≡◌, Bool, List, [], ◌∷◌, ◌++◌, refl, ap, sym, ◌∙◌, append_assoc, append-nil, ℕ, false, ◌==◌, subst, IsTrue, not, ◌&&◌, ◌||◌, length, drop}
 use Rattle.std.proofs.lemmas.Bool.{and_parts, false≢true, eqb-true}
 use Rattle.std.specs.Cmp.Derive.{both_true}
-use Rattle.vm_superio.specs.Serial.{Asked, Sent, Op, Read, Restore, TraceEntry, OpKind, Response, is_rbr_read, State, not_empty, Rda, Thre, register_read, register_at, is_dlab, identification_of, step, kind_in_state, has_bits}
+use Rattle.vm_superio.specs.Serial.{Asked, Sent, Op, Read, TraceEntry, OpKind, Response, is_rbr_read, State, not_empty, Rda, Thre, register_read, register_at, is_dlab, identification_of, step, kind_in_state, has_bits}
 use Rattle.vm_superio.specs.Serial.History.{with_data_ready, state_of_history, history_response, byte_read, bytes_read, guest_read, ResponsesAre, held_bytes, interrupt_enable, kind_at, taken_by, taken_bytes, accepted_by, is_pending}
 use Rattle.vm_superio.specs.Serial.Laws.{state_after}
 use Rattle.vm_superio.specs.Serial.Laws.Consequences.{SameReadsLaw, op_and_asked, ops_and_asked, ReadsAreTakenLaw, ReadThenHeldLaw, driver_byte, driver_bytes, polls, PollingDriverLaw, DriverGetsAllLaw, shows_data_ready, polls_after_data_ready, PollsAfterDataReadyLaw}

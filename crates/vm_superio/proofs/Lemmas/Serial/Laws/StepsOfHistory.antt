@@ -1,7 +1,6 @@
 -- The state after a trace is that of the history, and a call responds as the history says. So whole runs are as it says,
 -- and those of a port without objects.
-use Rattle.std.proofs.Common.{arith, sym, ◌≡◌, ℕ, Bool, false, List, [], refl, ap, ◌∙◌, ◌+◌, not, ◌&&◌, ◌∷◌, subst, IsTrue, true, ◌++◌, length, append_assoc, append-nil, if◌then◌else◌}
-use Rattle.std.proofs.Math.Bool.{and-false}
+use Rattle.std.proofs.Common.{arith, sym, ◌≡◌, ℕ, Bool, false, List, [], refl, ap, ◌∙◌, ◌+◌, not, ◌&&◌, ◌∷◌, subst, IsTrue, ◌++◌, length, append_assoc, append-nil, if◌then◌else◌}
 use Rattle.std.proofs.lemmas.Bool.{and_parts}
 use Rattle.std.specs.Bool.{beq}
 use Rattle.std.specs.Cmp.Derive.{both_true}

@@ -1,5 +1,5 @@
 -- The step of the registers, with THRE taken back if the first of two calls was refused; and the calls in order.
-use Rattle.std.proofs.Common.{arith, ◌≡◌, Bool, true, false, Option, None, List, rules, refl, ap, ◌∙◌, subst, sym, if◌then◌else◌}
+use Rattle.std.proofs.Common.{arith, ◌≡◌, Bool, Option, None, List, rules, refl, ap, ◌∙◌, if◌then◌else◌}
 use Rattle.std.specs.declared.io.Error.{Error}
 use Rattle.vm_superio.specs.Serial.{state_with, write_step}
 use Rattle.superio_core.proofs.Lemmas.Serial.FirstRefused.{write_step-settled}
