@@ -1,5 +1,5 @@
 -- The bytes that a serial port takes are the first of those that it is given.
-use Rattle.std.proofs.Common.{◌≡◌, ℕ, ◌-◌, ◌≤◌, Bool, true, false, List, [], ◌++◌, length, take, drop, refl, ap, ◌∙◌, arith, length-append, if◌then◌else◌}
+use Rattle.std.proofs.Common.{◌≡◌, ℕ, ◌-◌, ◌≤◌, Bool, List, [], ◌++◌, length, take, drop, ap, arith, length-append, if◌then◌else◌}
 use Rattle.std.proofs.lemmas.List.{take-append-drop, length-take, drop_min}
 use Rattle.circular_buffer.specs.Buffer.{keep_last}
 use Rattle.vm_superio.specs.Serial.{State, is_loopback, enqueued_bytes}

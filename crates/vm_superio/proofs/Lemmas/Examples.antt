@@ -1,11 +1,9 @@
 -- Worked examples of words that laws and contracts only assume, or bound by, since with a wrong one they would say less.
-use Rattle.std.proofs.Common.{◌≡◌, ℕ, ◌+◌, ◌-◌, ◌^◌, ◌<◌, ◌≤◌, ℤ, Bool, true, false, zero, suc, pos, negsuc, List, [], ◌∷◌, ◌++◌, length, map, count_by, replicate, refl, sym, ap, ◌∙◌, arith}
+use Rattle.std.proofs.Common.{◌≡◌, ℕ, ◌≤◌, true, false, List, [], ◌∷◌, ◌++◌, length, map, count_by, replicate, refl, sym, ap, ◌∙◌, arith}
 use Rattle.std.proofs.lemmas.Bool.{false≢true}
 use Rattle.vm_superio.specs.Serial.{Asked, Sent, Coherent, State, fresh_state, Port, Memory, Op, Read, Write, Enqueue, Response, ByteRead, WriteOk, EnqueueOk, Trace, TraceEntry, IerWrite, ThrWrite, is_iir_read, is_rbr_read, Rda, Thre, restore_calls, is_dlab, is_loopback, has_bits, only_bits, with_bits}
 use Rattle.vm_superio.specs.Claims.{is_fresh, shows_data, is_outside, is_inside, is_masked}
 use Rattle.vm_superio.specs.Links.{Link, TriggerAnswer}
-use Rattle.vm_superio.specs.Rtc.{RtcState, host_time, is_alarm_reached, IsDueIn}
-use Rattle.vm_superio.specs.Rtc as clock
 use Rattle.vm_superio.specs.Serial.History.{held_bytes, taken_bytes, op_kinds, shows_waiting_bytes}
 use Rattle.vm_superio.specs.Serial.Laws.Consequences.{polls, polls_after_data_ready}
 use Rattle.vm_superio.specs.Serial.Laws.Line.{RunsAtInterrupts, TakenAfterRunsLaw, may_lower_line}
@@ -100,46 +98,3 @@ reads_while_ready :
     ≡ true ∷ false ∷ []
 unfolding has_bits only_bits with_bits
 reads_while_ready = refl
-
--- ---- when a clock's alarm is due, and its line
-
--- a clock by its offset, its match, its mask, its raw status, and whether an alarm is set
-abbrev clock_with : (offset : ℤ) (mr imsc ris : ℕ) (armed : Bool) → RtcState
-clock_with offset mr imsc ris armed = record { lr = 0; offset = offset; mr = mr; imsc = imsc; ris = ris; armed = armed }
-
--- two seconds before the match, and past it
-due : IsDueIn (clock_with (pos 4000) 5003 0 0 true) 1001 2 × IsDueIn (clock_with (pos 4000) 5003 0 0 true) 2000 0
-due = (
-  record { reached = refl; not_sooner = sooner },
-  record { reached = refl; not_sooner = λ sooner less. absurd (omega arith) },
-)
-  where
-    sooner : (seconds : ℕ) → seconds < 2 → is_alarm_reached (clock_with (pos 4000) 5003 0 0 true) (host_time (1001 + seconds)) ≡ false
-    sooner zero less = refl
-    sooner (suc zero) less = refl
-    sooner (suc (suc seconds)) less = absurd (omega arith)
-
--- at the last second before a moment the alarm is not reached, and at the moment it is
-abbrev is_reached_from : RtcState × ℕ → Bool × Bool
-is_reached_from row = (is_alarm_reached row.0 (host_time (row.1 - 1)), is_alarm_reached row.0 (host_time row.1))
-
-reached_from :
-    map is_reached_from (
-    -- after the host's time wraps
-    (clock_with (pos 0) 105 0 0 true, 2 ^ 32 + 105)
-    -- six seconds less than 2 ^ 32 ahead, so the counter leaves 32 bits at 6: by the host's time
-    ∷ (clock_with (pos 4294967290) 100 0 0 true, 100)
-    -- by the host's time before the first second, and again by the counter
-    ∷ (clock_with (negsuc 9) 5 0 0 true, 5)
-    ∷ (clock_with (negsuc 9) 5 0 0 true, 15)
-    ∷ [])
-    ≡ (false, true) ∷ (false, true) ∷ (false, true) ∷ (false, true) ∷ []
-reached_from = refl
-
--- the line is bit 0 under the mask
-the_line :
-    map clock.is_line_up (
-    clock_with (pos 0) 0 1 1 false ∷ clock_with (pos 0) 0 0 1 false ∷ clock_with (pos 0) 0 1 0 false
-    ∷ clock_with (pos 0) 0 5 3 false ∷ clock_with (pos 0) 0 7 6 false ∷ [])
-    ≡ true ∷ false ∷ false ∷ true ∷ false ∷ []
-the_line = refl

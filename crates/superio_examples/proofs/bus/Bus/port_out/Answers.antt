@@ -1,4 +1,4 @@
-use Rattle.std.proofs.Common.{◌≡◌, ◌+◌, ◌<◌, Bool, true, false, Result, Ok, Err, [], ◌∷◌, length, drop, get_or, refl, add-one, drop-cons, arith}
+use Rattle.std.proofs.Common.{◌≡◌, ◌+◌, ◌<◌, Bool, Result, Ok, [], ◌∷◌, length, drop, get_or, refl, add-one, drop-cons, arith}
 use Rattle.std.specs.Bool.{OnTrue}
 use Rattle.std.proofs.Math.Seq.{drop-length}
 use Rattle.std.specs.Result.{result_and}

@@ -7,18 +7,38 @@ use Rattle.vm_superio.proofs.Lemmas.Serial.{IsPortStep-three, IsTimeoutStep-thre
 use Rattle.vm_superio.proofs.Lemmas.Serial.Step.{quiet, silent, keeps_coherent, timeout_fate}
 use Rattle.vm_superio.proofs.serial.Serial.character_timeout.Goals as goal
 
-pub returns : goal.returns
-returns g c =
+pub returns-clause-step : goal.returns-clause-step
+returns-clause-step g c =
+    let call = c.recorded_timeout.ensures in
+    rw (← c.self.view_is) (IsTimeoutStep-three g.T.Trigger.link g.EV.SerialEvents.link g.W.Write.contents call.no_byte call.step)
+
+pub returns-clause-pending : goal.returns-clause-pending
+returns-clause-pending g c =
     let call = c.recorded_timeout in
-    let made = IsPortStep-three g.T.Trigger.link g.EV.SerialEvents.link g.W.Write.contents call.ensures.step in
+    subst ShowsHeldBytes (sym call.ensures.step.state) (shows_held_bytes c.self.inside.port.state call.result.asked)
+
+pub returns-clause-fate : goal.returns-clause-fate
+returns-clause-fate g c =
+    let made = IsPortStep-three g.T.Trigger.link g.EV.SerialEvents.link g.W.Write.contents c.recorded_timeout.ensures.step in
+    rw (← c.self.view_is) (timeout_fate c.recorded_timeout.result.reply made)
+
+pub returns-clause-quiet : goal.returns-clause-quiet
+returns-clause-quiet g c =
+    let made = IsPortStep-three g.T.Trigger.link g.EV.SerialEvents.link g.W.Write.contents c.recorded_timeout.ensures.step in
     let enable = ap (λ (s : State). s.interrupt_enable) made.state in
-    rw (← c.self.view_is) (
-    record {
-      step = IsTimeoutStep-three g.T.Trigger.link g.EV.SerialEvents.link g.W.Write.contents call.ensures.no_byte call.ensures.step;
-      pending = subst ShowsHeldBytes (sym call.ensures.step.state) (shows_held_bytes c.self.inside.port.state call.result.asked);
-      fate = timeout_fate call.result.reply made;
-      quiet = λ off. quiet made g.met.T.Trigger.no_call (enable ∙ off);
-      events = sym ((g.met.EV.SerialEvents.no_event _ _).0 made.events);
-      out = silent made (WriterCalls-nil g.W.Write.contents) refl;
-      coherent = keeps_coherent made;
-    })
+    rw (← c.self.view_is) (λ off. quiet made g.met.T.Trigger.no_call (enable ∙ off))
+
+pub returns-clause-events : goal.returns-clause-events
+returns-clause-events g c =
+    let made = IsPortStep-three g.T.Trigger.link g.EV.SerialEvents.link g.W.Write.contents c.recorded_timeout.ensures.step in
+    rw (← c.self.view_is) (sym ((g.met.EV.SerialEvents.no_event _ _).0 made.events))
+
+pub returns-clause-out : goal.returns-clause-out
+returns-clause-out g c =
+    let made = IsPortStep-three g.T.Trigger.link g.EV.SerialEvents.link g.W.Write.contents c.recorded_timeout.ensures.step in
+    rw (← c.self.view_is) (silent made (WriterCalls-nil g.W.Write.contents) refl)
+
+pub returns-clause-coherent : goal.returns-clause-coherent
+returns-clause-coherent g c =
+    let made = IsPortStep-three g.T.Trigger.link g.EV.SerialEvents.link g.W.Write.contents c.recorded_timeout.ensures.step in
+    rw (← c.self.view_is) (keeps_coherent made)
