@@ -1,18 +1,14 @@
 -- The bytes that a serial port takes are the first of those that it is given.
-use Rattle.std.proofs.Common.{◌≡◌, ℕ, ◌-◌, ◌≤◌, Bool, true, false, List, [], ◌++◌, length, take, drop, refl, ap, ◌∙◌, arith, length-append}
-use Rattle.std.specs.Prelude.{if◌then◌else◌}
+use Rattle.std.proofs.Common.{◌≡◌, ℕ, ◌-◌, ◌≤◌, Bool, List, [], ◌++◌, length, take, drop, ap, arith, length-append, if◌then◌else◌}
 use Rattle.std.proofs.lemmas.List.{take-append-drop, length-take, drop_min}
 use Rattle.circular_buffer.specs.Buffer.{keep_last}
-use Rattle.superio_core.specs.Serial.{State}
-use Rattle.superio_core.specs.Serial.RegisterMap.{is_loopback}
-use Rattle.superio_core.specs.Serial.Step.Raising.{enqueued_bytes}
+use Rattle.vm_superio.specs.Serial.{State, is_loopback, enqueued_bytes}
 use Rattle.superio_examples.specs.Input.{room_in}
 
 -- the bytes after the accepted ones are those after the room
 drop-taken : (none : Bool) (room : ℕ) (bytes : List ℕ) →
     drop (length (if none then [] else take room bytes)) bytes ≡ drop (if none then 0 else room) bytes
-drop-taken true room bytes = refl
-drop-taken false room bytes = ap (λ count. drop count bytes) (length-take room bytes) ∙ drop_min room bytes
+drop-taken none room bytes = grind (arith, length-take, drop_min)
 
 pub drop-accepted : (old : State) (bytes : List ℕ) → drop (length (enqueued_bytes old bytes)) bytes ≡ drop (room_in old) bytes
 drop-accepted old bytes = drop-taken (is_loopback old.modem_control) (64 - length old.in_buffer) bytes
@@ -20,8 +16,7 @@ drop-accepted old bytes = drop-taken (is_loopback old.modem_control) (64 - lengt
 -- none, or as many of the first as there is room for, and then the others
 taken-rest : (none : Bool) (room : ℕ) (bytes : List ℕ) →
     (if none then [] else take room bytes) ++ drop (if none then 0 else room) bytes ≡ bytes
-taken-rest true room bytes = refl
-taken-rest false room bytes = take-append-drop room bytes
+taken-rest none room bytes = grind (arith, take-append-drop)
 
 pub accepted-rest : (old : State) (bytes : List ℕ) → enqueued_bytes old bytes ++ drop (room_in old) bytes ≡ bytes
 accepted-rest old bytes = taken-rest (is_loopback old.modem_control) (64 - length old.in_buffer) bytes

@@ -1,24 +1,12 @@
 -- What one event keeps, and what a list of events keeps.
-use Rattle.std.proofs.Common.{◌≡◌, ℕ, Bool, true, false, List, [], ◌∷◌, ◌++◌, length, refl, sym, ap, subst, ◌∙◌, append_assoc, append-nil, inl, inr}
-use Rattle.std.specs.Prelude.{if◌then◌else◌, Option, Some, None, map, ◌&&◌, ◌==◌, nat_lt}
+use Rattle.std.proofs.Common.{◌≡◌, ℕ, Bool, true, false, List, [], ◌∷◌, ◌++◌, refl, sym, ap, subst, ◌∙◌, append_assoc, append-nil, inl, inr, if◌then◌else◌, Option, Some, None, map, ◌&&◌, arith}
 use Rattle.std.specs.Option.{option_map_or}
-use Rattle.std.proofs.lemmas.Bool.{false≢true, eqb-true, and_parts}
+use Rattle.std.proofs.lemmas.Bool.Decides.{nat_tests}
 use Rattle.circular_buffer.specs.Buffer.{Buffer}
-use Rattle.superio_core.specs.declared.trace.Asked.{Asked}
-use Rattle.superio_core.specs.declared.trace.Sent.{Sent}
-use Rattle.superio_core.specs.Serial.{State, fresh_state}
-use Rattle.superio_core.specs.Serial.Operations.{Op, Read, Write, Enqueue, CharacterTimeout, Restore}
-use Rattle.superio_core.specs.Serial.Step.Raising.{enqueued_bytes}
-use Rattle.superio_core.specs.Serial.Step.{step, step_response}
-use Rattle.superio_core.specs.Serial.Step.Admissible.{kind_in_state}
-use Rattle.vm_superio.specs.Serial.History.{byte_read}
-use Rattle.vm_superio.specs.Serial.History.Registers.{accepted_by}
+use Rattle.vm_superio.specs.Serial.{Asked, Sent, State, fresh_state, Op, enqueued_bytes, step, step_response, kind_in_state}
+use Rattle.vm_superio.specs.Serial.History.{byte_read, accepted_by}
 use Rattle.superio_examples.specs.Output.{Waiting, after_sent, after_byte, IsSplit}
-use Rattle.superio_examples.specs.TimedRead.{shown_at, answers_none}
-use Rattle.superio_examples.specs.declared.monitor.Answer.TheVariants as answer
-use Rattle.superio_examples.specs.declared.monitor.Event.{Event}
-use Rattle.superio_examples.specs.declared.monitor.Event.TheVariants.{PortRead, PortWrite, MemoryRead, MemoryWrite, Typed, Moment, Timer, Refused}
-use Rattle.superio_examples.specs.Monitor.{Machine, call_of, asks_reset, after_call, typed_by, sent_at, act, noticed, is_open, takes_input, fed, after_event, answer_to, after, replies_to, in_each, is_reset_answer, is_reset_reply, left_at, looped_at, KeepsInput, KeepsOut}
+use Rattle.superio_examples.specs.Monitor.{Machine, call_of, asks_reset, after_call, typed_by, sent_at, act, noticed, is_open, takes_input, fed, after_event, answer_to, after, replies_to, in_each, is_reset_answer, is_reset_reply, left_at, looped_at, KeepsInput, KeepsOut, Event}
 use Rattle.superio_examples.proofs.InputLemmas.{accepted-rest}
 use Rattle.vm_superio.proofs.Lemmas.Serial.Laws.OneCall.{one_read, received_bytes}
 
@@ -29,8 +17,7 @@ sent-append [] second output = refl
 sent-append (byte ∷ first) second output = sent-append first second (after_byte byte output)
 
 given-output : (takes : Bool) (m more : Machine) → more.output ≡ m.output → (if takes then more else m).output ≡ m.output
-given-output true m more same = same
-given-output false m more same = refl
+given-output takes m more same = grind arith
 
 pub output-run : (events : List Event) (m : Machine) → (after events m).output ≡ after_sent (in_each sent_at events m) m.output
 output-run [] m = refl
@@ -42,23 +29,8 @@ output-run (event ∷ events) m =
 
 -- ---- resets
 
-reset-choice : (asked : Bool) → is_reset_answer (if asked then answer.Reset else answer.Done) ≡ asked
-reset-choice true = refl
-reset-choice false = refl
-
-no-reset-choice : (room : Bool) → is_reset_answer (if room then answer.Done else answer.Full) ≡ false
-no-reset-choice true = refl
-no-reset-choice false = refl
-
 reset-answer : (event : Event) (m : Machine) → is_reset_answer (answer_to event m) ≡ asks_reset event
-reset-answer (PortRead port) m = refl
-reset-answer (PortWrite port value) m = reset-choice ((port == 0x64) && (value == 0xFE))
-reset-answer (MemoryRead address) m = refl
-reset-answer (MemoryWrite address value) m = refl
-reset-answer (Typed byte) m = no-reset-choice (nat_lt (length m.input.items) m.input.capacity)
-reset-answer (Moment now) m = refl
-reset-answer Timer m = refl
-reset-answer Refused m = refl
+reset-answer event m = grind arith
 
 pub resets-run : (events : List Event) (m : Machine) → map is_reset_reply (replies_to events m) ≡ map asks_reset events
 resets-run [] m = refl
@@ -87,17 +59,8 @@ split-append (byte ∷ all) more first second first_more second_more (inr (other
 -- ---- input: an event alone
 
 -- a character timeout keeps the bytes
-read-held : (none : Bool) (s : State) →
-    (if none then step s CharacterTimeout Asked.Nothing else s).in_buffer ≡ s.in_buffer
-read-held true s = refl
-read-held false s = refl
-
 call-held : (op : Op) (s : State) → (after_call (Some op) s).in_buffer ≡ (step s op Asked.Nothing).in_buffer
-call-held (Read offset) s = read-held (answers_none offset (shown_at offset s)) (step s (Read offset) Asked.Nothing)
-call-held (Write offset value) s = refl
-call-held (Enqueue bytes) s = refl
-call-held CharacterTimeout s = refl
-call-held Restore s = refl
+call-held op s = grind arith
 
 abbrev left_by : (call : Option Op) (s : State) → List ℕ
 left_by call s =
@@ -113,15 +76,7 @@ call-in-order (Some op) s =
 
 -- a reset is no call of the serial port
 reset-call : (event : Event) → asks_reset event ≡ true → call_of event ≡ None
-reset-call (PortRead port) asked = absurd (false≢true asked)
-reset-call (PortWrite port value) asked =
-    ap (λ port. call_of (PortWrite port value)) (eqb-true port 0x64 (and_parts (port == 0x64) (value == 0xFE) asked).0)
-reset-call (MemoryRead address) asked = absurd (false≢true asked)
-reset-call (MemoryWrite address value) asked = absurd (false≢true asked)
-reset-call (Typed byte) asked = absurd (false≢true asked)
-reset-call (Moment now) asked = absurd (false≢true asked)
-reset-call Timer asked = absurd (false≢true asked)
-reset-call Refused asked = absurd (false≢true asked)
+reset-call event asked = grind (arith, nat_tests)
 
 act-choice : (asked : Bool) (call : Option Op) (s : State) → (asked ≡ true → call ≡ None)
     → (if asked then s.in_buffer else left_by call s) ++ (if asked then fresh_state else after_call call s).in_buffer
@@ -214,16 +169,13 @@ keeps-run (event ∷ events) m =
 -- ---- input before the guest is ready
 
 given-open : (takes : Bool) (m more : Machine) → is_open more ≡ is_open m → is_open (if takes then more else m) ≡ is_open m
-given-open true m more same = same
-given-open false m more same = refl
+given-open takes m more same = grind arith
 
 shut-first : (ready empty : Bool) → ready ≡ false → ready && empty ≡ false
-shut-first true empty shut = absurd (false≢true (sym shut))
-shut-first false empty shut = refl
+shut-first ready empty shut = grind arith
 
 given-none : (takes : Bool) (m more : Machine) → takes ≡ false → (if takes then more else m).input ≡ m.input
-given-none true m more none = absurd (false≢true (sym none))
-given-none false m more none = refl
+given-none takes m more none = grind arith
 
 shut-event : (event : Event) (m : Machine) → is_open (after_event event m) ≡ false
     → (after_event event m).input.items ≡ m.input.items ++ typed_by event m

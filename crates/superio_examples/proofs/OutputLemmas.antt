@@ -1,6 +1,5 @@
 -- The order of what goes through an output.
-use Rattle.std.proofs.Common.{arith, ◌≡◌, inl, inr, ℕ, ◌+◌, ◌-◌, ◌^◌, ◌<◌, Bool, true, false, nat_lt, min, suc, if◌then◌else◌, List, [], ◌∷◌, ◌++◌, length, take, drop, refl, sym, ap, ◌∙◌}
-use Rattle.std.proofs.lemmas.List.{append_assoc, append-nil, take-append-drop}
+use Rattle.std.proofs.Common.{arith, ◌≡◌, inl, inr, ℕ, ◌+◌, ◌-◌, ◌^◌, ◌<◌, Bool, true, false, nat_lt, min, suc, if◌then◌else◌, List, [], ◌∷◌, ◌++◌, length, take, drop, refl, sym, ap, ◌∙◌, append_assoc, append-nil, take-append-drop}
 use Rattle.superio_examples.specs.Output.{Waiting, Turn, Sends, Takes, OutputLaw, IsInOrder, after_byte, after_turns, taken_in}
 
 -- one byte more is counted
@@ -41,8 +40,7 @@ sends turns byte output false is_full rest =
 
 few_after : (room : Bool) (kept dropped : Waiting) → kept.dropped < 2 ^ 64 → dropped.dropped < 2 ^ 64
     → (if room then kept else dropped).dropped < 2 ^ 64
-few_after true kept dropped few still_few = few
-few_after false kept dropped few still_few = still_few
+few_after room kept dropped few still_few = grind arith
 
 pub output_law : OutputLaw
 output_law [] output few = record {

@@ -2,12 +2,11 @@
 use Rattle.std.specs.Prelude.{◌≡◌, ℕ, ◌+◌, ◌-◌, ◌%◌, Bool, ◌&&◌, ◌||◌, ◌==◌, nat_le, nat_lt, if◌then◌else◌, List, [], ◌∷◌, Option, Some, None, Result, Ok, Err}
 use Rattle.std.specs.Result.{result_and}
 use Rattle.std.specs.Bool.{OnTrue, OnFalse}
-use Rattle.superio_core.specs.Serial.Operations.{Event}
 use Rattle.vm_superio.specs.Links.{Link, TriggerAnswer, OutCall}
-use Rattle.vm_superio.specs.Serial.{Port}
+use Rattle.vm_superio.specs.Serial.{Port, Event}
 use Rattle.vm_superio.specs.Serial.Step.{IsReadStep, IsWriteStep}
 use Rattle.superio_examples.specs.declared.bus.Bus.{Bus}
-use Rattle.superio_examples.specs.declared.bus.Keyboard.{Keyboard}
+pub use Rattle.superio_examples.specs.declared.bus.Keyboard.{Keyboard}
 use Rattle.superio_examples.specs.declared.bus.BusError.{BusError}
 use Rattle.superio_examples.specs.declared.bus.BusError.TheVariants.{Serial, Reset}
 

@@ -1,7 +1,6 @@
 -- Input that waits for room in a serial port.
 use Rattle.std.specs.Prelude.{ℕ, ◌-◌, ◌==◌, bit_and, Bool, if◌then◌else◌, length}
-use Rattle.superio_core.specs.Serial.{State}
-use Rattle.superio_core.specs.Serial.RegisterMap.{is_loopback}
+use Rattle.vm_superio.specs.Serial.{State, is_loopback}
 
 -- how many bytes a serial port has room for: what is left of its 64, and none in loopback
 abbrev pub room_in : (s : State) → ℕ

@@ -2,31 +2,20 @@
 use Rattle.std.specs.Prelude.{◌≡◌, ◌≤◌, ℕ, ◌+◌, ◌-◌, Bool, true, false, ◌&&◌, ◌||◌, not, nat_lt, if◌then◌else◌, List, [], ◌∷◌, ◌++◌, length, drop, Option, Some, None, unwrap_or, ⊤}
 use Rattle.std.specs.Option.{option_map, option_map_or}
 use Rattle.circular_buffer.specs.Buffer.{Buffer, buffer}
-use Rattle.superio_core.specs.declared.trace.Asked.{Asked}
-use Rattle.superio_core.specs.declared.trace.Sent.{Sent}
-use Rattle.superio_core.specs.declared.rtc_pl031.state.RtcState.{RtcState}
-use Rattle.superio_core.specs.Serial.{State, fresh_state, not_empty}
-use Rattle.superio_core.specs.Serial.Operations.{Op, Read, Write, Enqueue, CharacterTimeout, sent_by}
-use Rattle.superio_core.specs.Serial.Port.{state_of_port}
-use Rattle.superio_core.specs.Serial.Step.{step, step_response}
-use Rattle.superio_core.specs.Serial.Step.Admissible.{kind_in_state, step_calls}
-use Rattle.superio_core.specs.Serial.Step.Raising.{restore_calls}
-use Rattle.superio_core.specs.Rtc.Step.{is_line_up, clock_step, clock_response}
-use Rattle.superio_core.specs.Rtc.{Access, read, write, fresh_clock}
-use Rattle.vm_superio.specs.Serial.History.{byte_read}
-use Rattle.vm_superio.specs.Serial.History.Registers.{accepted_by}
-use Rattle.superio_examples.specs.Bus.{serial_offset, other_byte, is_reset}
+use Rattle.vm_superio.specs.Serial.{Asked, Sent, State, fresh_state, not_empty, Op, Read, Write, Enqueue, CharacterTimeout, sent_by, state_of_port, step, step_response, kind_in_state, step_calls, restore_calls}
+use Rattle.vm_superio.specs.Rtc.{RtcState, is_line_up, clock_step, clock_response, Access, read, write, fresh_clock}
+use Rattle.vm_superio.specs.Serial.History.{byte_read, accepted_by}
+use Rattle.superio_examples.specs.Bus.{serial_offset, other_byte, is_reset, Keyboard}
 use Rattle.superio_examples.specs.Input.{room_in, shows_ready}
 use Rattle.superio_examples.specs.Mmio.{is_inside}
 use Rattle.superio_examples.specs.Output.{Waiting, after_sent, IsSplit}
 use Rattle.superio_examples.specs.TimedRead.{shown_at, state_after_read, calls_after_read}
-use Rattle.superio_examples.specs.declared.bus.Keyboard.{Keyboard}
 use Rattle.superio_examples.specs.declared.monitor.Answer.{Answer}
 use Rattle.superio_examples.specs.declared.monitor.Answer.TheVariants as answer
-use Rattle.superio_examples.specs.declared.monitor.Event.{Event}
+pub use Rattle.superio_examples.specs.declared.monitor.Event.{Event}
 use Rattle.superio_examples.specs.declared.monitor.Event.TheVariants.{PortRead, PortWrite, MemoryRead, MemoryWrite, Typed, Moment, Timer, Refused}
 use Rattle.superio_examples.specs.declared.monitor.Reply.{Reply}
-use Rattle.superio_examples.specs.declared.monitor.Monitor.{Monitor}
+pub use Rattle.superio_examples.specs.declared.monitor.Monitor.{Monitor}
 
 -- ---- the machine
 

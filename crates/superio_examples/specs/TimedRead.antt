@@ -1,13 +1,6 @@
 -- A guest's read, and the character timeout that a monitor makes after it.
 use Rattle.std.specs.Prelude.{ℕ, Bool, ◌==◌, ◌&&◌, if◌then◌else◌}
-use Rattle.superio_core.specs.declared.trace.Asked.{Asked}
-use Rattle.superio_core.specs.Bits.{has_bits}
-use Rattle.superio_core.specs.Serial.{State}
-use Rattle.superio_core.specs.Serial.RegisterMap.{register_at, register_read, is_dlab}
-use Rattle.superio_core.specs.Serial.Operations.{Read, CharacterTimeout}
-use Rattle.superio_core.specs.Serial.Step.Raising.{iir_none_bit}
-use Rattle.superio_core.specs.Serial.Step.{step}
-use Rattle.superio_core.specs.Serial.Step.Admissible.{timeout_calls}
+use Rattle.vm_superio.specs.Serial.{Asked, has_bits, State, register_at, register_read, is_dlab, Read, CharacterTimeout, iir_none_bit, step, timeout_calls}
 
 -- what a guest's read shows
 abbrev pub shown_at : (offset : ℕ) (s : State) → ℕ

@@ -1,11 +1,7 @@
 //! Input for a guest. It waits until the serial port's FIFO has room, and no byte of it is lost.
 ghost use Rattle.std.specs.Prelude.{◌≡◌, ◌≤◌, ◌-◌, ℕ, [], ◌++◌, length, take, drop, max, min, IfOk};
 ghost use Rattle.circular_buffer.specs.Buffer.{Buffer, buffer};
-ghost use Rattle.superio_core.specs.Serial.Port.{state_of_port, CoherentPort};
-ghost use Rattle.superio_core.specs.declared.trace.Asked.{Asked};
-ghost use Rattle.superio_core.specs.Serial.Operations.{Enqueue};
-ghost use Rattle.superio_core.specs.Serial.Step.Admissible.{step_calls};
-ghost use Rattle.superio_core.specs.Serial.Step.{step};
+ghost use Rattle.vm_superio.specs.Serial.{state_of_port, CoherentPort, Asked, Enqueue, step_calls, step};
 ghost use Rattle.superio_examples.specs.Input.{room_in, shows_ready};
 
 use circular_buffer::HeapCircularBuffer;

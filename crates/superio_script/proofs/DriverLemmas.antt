@@ -1,19 +1,10 @@
 -- A driver that reads while LSR shows data ready takes all bytes of a port in a coherent state, and stops in any state.
-use Rattle.std.proofs.Common.{◌≡◌, ◌≢◌, lit<, ℕ, zero, suc, ◌+◌, ◌-◌, ◌<◌, ◌≤◌, Bool, true, false, ◌==◌, List, [], ◌∷◌, ◌++◌, length, refl, ap, sym, ◌∙◌, subst, arith, ◌↔◌, IsTrue, bit_and, drop, slice_index, if◌then◌else◌, ◌&&◌}
-use Rattle.std.proofs.Math.Nat.{mod-lt}
+use Rattle.std.proofs.Common.{◌≡◌, ◌≢◌, lit<, ℕ, zero, suc, ◌+◌, ◌-◌, ◌<◌, ◌≤◌, Bool, true, false, ◌==◌, List, [], ◌∷◌, ◌++◌, length, refl, ap, sym, ◌∙◌, subst, arith, ◌↔◌, IsTrue, bit_and, drop, slice_index, if◌then◌else◌, ◌&&◌, mod-lt}
 use Rattle.std.proofs.lemmas.Bool.{false≢true}
 use Rattle.std.specs.Int.Bits.{and_mask}
-use Rattle.superio_core.specs.declared.trace.Asked.TheVariants.{Nothing}
-use Rattle.superio_core.specs.Bits.{has_bits, without_bits}
-use Rattle.superio_core.specs.Serial.{State, not_empty}
-use Rattle.superio_core.specs.Serial.Port.{Coherent}
-use Rattle.superio_core.specs.declared.serial.registers.Register.TheVariants.{RbrThr}
-use Rattle.superio_core.specs.Serial.RegisterMap.{register_at, is_dlab, register_read, identification_of}
-use Rattle.superio_core.specs.Serial.Operations.{Read, Response, ByteRead, Event, buffer_read, in_buffer_empty}
 use Rattle.vm_superio.specs.Links.{Link, TriggerAnswer, OutCall}
-use Rattle.vm_superio.specs.Serial.{Port}
+use Rattle.vm_superio.specs.Serial.{Port, has_bits, without_bits, State, not_empty, Coherent, RbrThr, register_at, is_dlab, register_read, identification_of, Read, Response, ByteRead, Event, buffer_read, in_buffer_empty, rbr_read, read_step, step, read_events, Asked}
 use Rattle.vm_superio.specs.Serial.Step.{IsReadStep}
-use Rattle.superio_core.specs.Serial.Step.{rbr_read, read_step, step, read_events}
 use Rattle.vm_superio.specs.Serial.Laws.{CoherenceLaw}
 use Rattle.vm_superio.specs.Serial.Laws.OneCall.{RbrDataReadyLaw}
 use Rattle.superio_script.specs.Driver.{IsReady, ReadsWhileReady, bytes_while_ready, without_bytes, drain_events, TakesAll}
@@ -25,8 +16,7 @@ abbrev pub reads_left : (s : State) → ℕ
 reads_left s = if has_bits s.line_status 0x01 then 1 + (length s.in_buffer - 1) else 0
 
 left-few : (ready : Bool) (held : List ℕ) → length held ≤ 64 → (if ready then 1 + (length held - 1) else 0) ≤ 64
-left-few true held few = omega (arith, few)
-left-few false held few = omega arith
+left-few ready held few = grind arith
 
 pub reads_left-few : (s : State) → length s.in_buffer ≤ 64 → reads_left s ≤ 64
 reads_left-few s few = left-few (has_bits s.line_status 0x01) s.in_buffer few
@@ -82,7 +72,7 @@ module _ {T E EV W : Type 0} {trigger : Link T (TriggerAnswer E)} {events : Link
       let state = (rbr_read-from_step hidden made).state in
       let left = ap (λ (s : State). s.in_buffer) state in
       let still = ap (λ (s : State). has_bits s.line_status 0x01) made.state ∙ law old.state hidden
-      ∙ ap (λ shown. shown && not_empty (step old.state (Read 0) Nothing).in_buffer) ready
+      ∙ ap (λ shown. shown && not_empty (step old.state (Read 0) Asked.Nothing).in_buffer) ready
       ∙ ap (λ (s : State). not_empty s.in_buffer) (sym made.state) ∙ ap not_empty left in
       record {
         ready = ready;
@@ -138,8 +128,7 @@ ready-cleared : (left : List ℕ) (line_status : ℕ)
     → has_bits (if not_empty left then line_status else without_bits line_status 0x01) 0x01 ≡ not_empty left
     → without_bits (if not_empty left then line_status else without_bits line_status 0x01) 0x01
     ≡ without_bits line_status 0x01
-ready-cleared [] line_status shows = without-clear (without_bits line_status 0x01) shows
-ready-cleared (byte ∷ left) line_status shows = refl
+ready-cleared left line_status shows = grind (arith, without-clear)
 
 -- the read of one byte and then of the others leave the same state as those of all
 without_bytes-after_read : (s : State) → Coherent s → Coherent (rbr_read s) → without_bytes (rbr_read s) ≡ without_bytes s
@@ -156,12 +145,10 @@ without_bytes-after_read s before after =
 
 -- no byte is held if LSR does not show data ready
 none-held : (held : List ℕ) → false ≡ not_empty held → held ≡ []
-none-held [] none = refl
-none-held (byte ∷ held) none = absurd (false≢true none)
+none-held held none = grind arith
 
 none-received : (rda : Bool) (held : List ℕ) → (IsTrue rda → IsTrue (not_empty held)) → false ≡ not_empty held → rda ≡ false
-none-received false held some none = refl
-none-received true held some none = absurd (false≢true (none ∙ some refl))
+none-received rda held some none = grind arith
 
 without_bytes-of_empty : (s : State) → Coherent s → has_bits s.line_status 0x01 ≡ false → without_bytes s ≡ s
 without_bytes-of_empty s is clear =
@@ -174,15 +161,13 @@ without_bytes-of_empty s is clear =
     (none-pending is.thre is.rda (none-received is.rda s.in_buffer is.received none)))
 
 oldest : (held left : List ℕ) (byte : ℕ) → true ≡ not_empty held → byte ≡ slice_index held 0 → left ≡ drop 1 held → byte ∷ left ≡ held
-oldest [] left byte some first rest = absurd (false≢true (sym some))
-oldest (next ∷ held) left byte some first rest = rw (first, rest) refl
+oldest held left byte some first rest = grind arith
 
 -- the events of one read that leaves these bytes, and of the reads of those
 events-of_all : (left : List ℕ) →
     ((if not_empty left then [] else in_buffer_empty ∷ []) ++ buffer_read ∷ []) ++ drain_events (length left)
     ≡ drain_events (suc (length left))
-events-of_all [] = refl
-events-of_all (byte ∷ left) = refl
+events-of_all left = grind arith
 
 module _
     {T E EV W : Type 0} (trigger : Link T (TriggerAnswer E)) (events : Link EV Event) (out : Link W OutCall)
@@ -193,7 +178,7 @@ module _
       → ReadsWhileReady trigger events out bytes old new → Coherent new.state
   coherent_after [] old new is same = subst (λ (port : Port T EV W). Coherent port.state) (sym same) is
   coherent_after (byte ∷ bytes) old new is (ready, (middle, made, later)) =
-      coherent_after bytes middle new (subst Coherent (sym made.state) (coherence old.state (Read 0) Nothing is)) later
+      coherent_after bytes middle new (subst Coherent (sym made.state) (coherence old.state (Read 0) Asked.Nothing is)) later
 
   pub takes_all : (bytes : List ℕ) (old new : Port T EV W) → Coherent old.state → is_dlab old.state.line_control ≡ false
       → ReadsWhileReady trigger events out bytes old new → has_bits new.state.line_status 0x01 ≡ false
@@ -207,7 +192,7 @@ module _
   takes_all (byte ∷ bytes) old new is hidden (ready, (middle, made, later)) clear =
       let read = rbr_read-from_step hidden made in
       let after = subst Coherent read.state
-      (subst Coherent (sym made.state) (coherence old.state (Read 0) Nothing is)) in
+      (subst Coherent (sym made.state) (coherence old.state (Read 0) Asked.Nothing is)) in
       let is_middle = subst Coherent (sym read.state) after in
       let rest = takes_all bytes middle new is_middle
       (ap (λ (s : State). is_dlab s.line_control) read.state ∙ hidden) later clear in

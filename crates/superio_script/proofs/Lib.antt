@@ -2,4 +2,3 @@ pub mod DriverLemmas
 pub mod LineLemmas
 pub mod ScriptLemmas
 pub mod SerialScriptLemmas
-pub mod SplittingLemmas

@@ -1,12 +1,11 @@
--- Lemmas on the lines that load a saved state, on those of the clock, and on reads.
-use Rattle.std.proofs.Common.{◌≡◌, ℕ, List, length, ◌≤◌, Option, Some, None, Result, Ok, Err, refl, ap, sym, ◌∙◌, ◌<◌, ◌^◌, Bool, true, false, [], ◌∷◌, arith, ◌+◌, ◌++◌, take, subst, append_assoc, length-append, IfErr, IfSome, ◌≢◌, if◌then◌else◌}
+-- Lemmas on how bytes are split into lines and fields, on the lines that load a saved state, on those of the clock, and
+-- on reads.
+use Rattle.std.proofs.Common.{◌≡◌, ℕ, List, length, ◌≤◌, Option, Some, None, Result, Ok, Err, refl, ap, sym, ◌∙◌, ◌<◌, ◌^◌, Bool, true, false, [], ◌∷◌, arith, ◌+◌, ◌++◌, take, subst, append_assoc, length-append, IfErr, IfSome, ◌≢◌, if◌then◌else◌, suc, zero, ◌==◌, ◌-◌, drop, get_or, add-one}
 use Rattle.std.specs.Int.{w32, to_le_bytes, from_le_bytes}
 use Rattle.std.proofs.lemmas.Nat.{from_le_bytes-to_le_bytes_4}
 use Rattle.std.specs.Io.KnownBytes.{Consumes}
-use Rattle.std.proofs.lemmas.List.{length-take-le, take-append-le}
+use Rattle.std.proofs.lemmas.List.{length-take-le, take-append-le, take_rest}
 use Rattle.std.proofs.Math.Seq.{take-append-add}
-use Rattle.superio_core.specs.declared.rtc_pl031.state.RtcState.{RtcState}
-use Rattle.superio_core.specs.Rtc.{write, write_of}
 use Rattle.superio_core.specs.declared.saved.Error.{Error as Fault}
 use Rattle.superio_core.specs.Saved.{serial_form, clock_form, IsClock}
 use Rattle.vm_superio.specs.declared.saved.Error.{Error}
@@ -16,11 +15,13 @@ use Rattle.superio_core.specs.Serial.{State}
 use Rattle.superio_core.proofs.Lemmas.Saved.{numbers_in-form, serial_form_has_no_fault, clock_form_has_no_fault}
 use Rattle.superio_script.specs.Loading.{unless_fault, port_in, loaded_port, clock_in, loaded_clock, PortFormLoads, ClockFormLoads}
 use Rattle.vm_superio.specs.Links.FoldsEvents.{FoldsEvents}
-use Rattle.vm_superio.specs.Rtc.{invalid_write, GoesOnByHistory}
-use Rattle.vm_superio.specs.Rtc.History.{clock_of_history}
-use Rattle.superio_script.specs.Objects.{no_counts, counts_after_clock_event}
-use Rattle.superio_script.specs.declared.counts.Counts.{Counts}
+use Rattle.vm_superio.specs.Rtc.{invalid_write, GoesOnByHistory, RtcState, write, write_of, clock_of_history}
+use Rattle.superio_script.specs.Objects.{no_counts, counts_after_clock_event, Counts}
 use Rattle.superio_script.specs.ClockScript.{ClockSession, clock_session_state, clock_session_after_access}
+use Rattle.std.specs.List.{position, position_from}
+use Rattle.std.proofs.lemmas.Iterator.Adapters.{position_from-zero}
+use Rattle.std.proofs.lemmas.List.Quantifiers.{position-Some}
+use Rattle.superio_script.specs.Fields.{prepend_to_first, pieces_of, lines_of}
 
 -- ---- the laws
 
@@ -55,16 +56,10 @@ abbrev pub IsReported : (writable : Bool) (old new : Counts) → Type 0
 IsReported writable old new = FoldsEvents counts_after_clock_event old (if writable then [] else invalid_write ∷ []) new
 
 pub counted-is_invalid : (writable : Bool) (old new : Counts) → old ≡ no_counts → IsReported writable old new → new.invalid_writes ≡ 1 → writable ≡ false
-counted-is_invalid true old new none reported one =
-    let zero : new.invalid_writes ≡ 0 = ap (λ (counts : Counts). counts.invalid_writes) (reported.folds ∙ none) in
-    absurd (omega (arith, zero, one))
-counted-is_invalid false old new none reported one = refl
+counted-is_invalid writable old new none reported one = grind arith
 
 pub uncounted-is_valid : (writable : Bool) (old new : Counts) → old ≡ no_counts → IsReported writable old new → new.invalid_writes ≢ 1 → writable ≡ true
-uncounted-is_valid true old new none reported other = refl
-uncounted-is_valid false old new none reported other =
-    let after = λ (counts : Counts). (counts_after_clock_event counts invalid_write).invalid_writes in
-    absurd (other (ap (λ (counts : Counts). counts.invalid_writes) reported.folds ∙ ap after none))
+uncounted-is_valid writable old new none reported other = grind arith
 
 pub write-goes_on :
     (session : ClockSession) (old new : RtcState) (offset value moment : ℕ) (bytes : List ℕ) → value < 2 ^ 32 → bytes ≡ to_le_bytes w32 value →
@@ -98,10 +93,63 @@ pub Consumes-append :
     (before middle after : Option (List ℕ)) (filled count : ℕ) (room got rest : List ℕ) → filled ≤ length room → count ≤ length got →
     Consumes before middle (take filled room) → Consumes middle after (take count got) →
     Consumes before after (take (filled + count) (take filled room ++ (got ++ rest)))
-Consumes-append None middle after filled count room got rest h k first second = tt
-Consumes-append (Some xs) None after filled count room got rest h k first second = absurd first
-Consumes-append (Some xs) (Some ys) None filled count room got rest h k first second = second
-Consumes-append (Some xs) (Some ys) (Some zs) filled count room got rest h k first second =
-    rw take-append-take (first ∙ ap (λ more. take filled room ++ more) second ∙ sym (append_assoc (take filled room) (take count got) zs))
+Consumes-append before middle after filled count room got rest h k first second = grind (arith, take-append-take, append_assoc)
 
 pub ruleset reads = (room_holds-filled, Consumes-append)
+
+-- ---- splitting: the first piece ends at the first separator. If there is none, it is all of the bytes
+
+module _ (separator : ℕ) (end : List (List ℕ)) where
+  -- at the first separator
+  split : (xs : List ℕ) (at : ℕ) → at < length xs → (get_or xs at 0 == separator) ≡ true → ((k : ℕ) → k < at → (get_or xs k 0 == separator) ≡ false)
+      → pieces_of separator end xs ≡ take at xs ∷ pieces_of separator end (drop (suc at) xs)
+  split [] at inside is before = absurd (omega arith)
+  split (x ∷ xs) zero inside is before = rw is refl
+  split (x ∷ xs) (suc at) inside is before =
+      rw (before 0 (omega arith), split xs at (omega arith) is (λ k earlier. before (suc k) (omega arith))) refl
+
+  pub pieces_of-at_found :
+      (xs : List ℕ) (at : ℕ) → position (λ b. b == separator) xs ≡ Some at →
+      pieces_of separator end xs ≡ take at xs ∷ pieces_of separator end (take (length xs - (at + 1)) (drop (at + 1) xs))
+  pieces_of-at_found xs at found =
+      let (inside, is, before) = position-Some (λ b. b == separator) xs at 0 found in
+      rw (take_rest, add-one) (split xs at inside is before)
+
+  -- with no separator there is one piece, if there is a byte
+  whole : ((b : ℕ) → prepend_to_first b end ≡ (b ∷ []) ∷ []) → (i x : ℕ) (xs : List ℕ) →
+      position_from (λ b. b == separator) i (x ∷ xs) ≡ None → pieces_of separator end (x ∷ xs) ≡ (x ∷ xs) ∷ []
+  whole one i x [] none = elim (x == separator) as (λ found. (if found then Some i else None) ≡ None → (if found then [] ∷ end else prepend_to_first x end) ≡ (x ∷ []) ∷ []) [
+    | true ↦ λ none. absurd cc
+    | false ↦ λ _. one x
+  ] none
+  whole one i x (y ∷ ys) none = elim (x == separator) as (λ found. (if found then Some i else position_from (λ b. b == separator) (i + 1) (y ∷ ys)) ≡ None
+      → (if found then [] ∷ pieces_of separator end (y ∷ ys) else prepend_to_first x (pieces_of separator end (y ∷ ys))) ≡ (x ∷ y ∷ ys) ∷ []) [
+        | true ↦ λ none. absurd cc
+        | false ↦ λ later. rw (whole one (i + 1) y ys later) refl
+      ] none
+
+-- the last field
+pub pieces_of-last_field :
+    (separator : ℕ) (xs : List ℕ) → position (λ b. b == separator) xs ≡ None → pieces_of separator ([] ∷ []) xs ≡ xs ∷ []
+pieces_of-last_field separator [] none = refl
+pieces_of-last_field separator (x ∷ xs) none = whole separator ([] ∷ []) (λ b. refl) 0 x xs (sym (position_from-zero (λ b. b == separator) (x ∷ xs)) ∙ none)
+
+-- the last line, if it lacks its LF
+pub pieces_of-last_line :
+    (separator : ℕ) (xs : List ℕ) → position (λ b. b == separator) xs ≡ None → xs ≢ [] → pieces_of separator [] xs ≡ xs ∷ []
+pieces_of-last_line separator [] none some = absurd (some refl)
+pieces_of-last_line separator (x ∷ xs) none some = whole separator [] (λ b. refl) 0 x xs (sym (position_from-zero (λ b. b == separator) (x ∷ xs)) ∙ none)
+
+-- there are no more lines than bytes
+pub length-lines_of-le : (xs : List ℕ) → length (lines_of xs) ≤ length xs
+length-lines_of-le [] = omega arith
+length-lines_of-le (x ∷ xs) = elim (x == 10) as (λ found. length (if found then [] ∷ lines_of xs else prepend_to_first x (lines_of xs)) ≤ length (x ∷ xs)) [
+  | true ↦ omega (arith, length-lines_of-le xs)
+  | false ↦ more (lines_of xs) (length-lines_of-le xs)
+]
+  where
+    more : (lines : List (List ℕ)) → length lines ≤ length xs → length (prepend_to_first x lines) ≤ length (x ∷ xs)
+    more [] few = omega arith
+    more (line ∷ lines) few = omega arith
+
+pub ruleset first_pieces = (pieces_of-at_found, pieces_of-last_field, pieces_of-last_line)

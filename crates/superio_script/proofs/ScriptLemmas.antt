@@ -8,18 +8,13 @@ use Rattle.vm_superio.specs.Rtc.{ClockDevice}
 use Rattle.vm_superio.specs.Serial.{Port}
 use Rattle.vm_superio.proofs.Lemmas.{Appends-nothing, Appends-append}
 use Rattle.vm_superio.proofs.Lemmas.Rtc.{fresh_clock-history}
-use Rattle.superio_script.specs.Objects.{written_bytes}
-use Rattle.superio_script.specs.declared.trigger.Line.{Line}
-use Rattle.superio_script.specs.declared.counts.Counts.{Counts}
-use Rattle.superio_script.specs.Command.{command_of, TakesMemory}
+use Rattle.superio_script.specs.Objects.{written_bytes, Line, Counts, Output}
+use Rattle.superio_script.specs.Command.{command_of, TakesMemory, Command, Serial, Clock, Controller}
 use Rattle.superio_script.specs.Reply.{controller_reply}
 use Rattle.superio_script.specs.SerialScript.{Session, fresh_session, session_after_line}
 use Rattle.superio_script.specs.ClockScript.{ClockSession, fresh_clock_session, clock_session_state, clock_reply, clock_session_after_line}
 use Rattle.superio_script.specs.Board.{Devices, IsAt, IsFresh, IsSerialLineStep, IsLineStep}
 use Rattle.superio_script.specs.Script.{has_form, until_bad, good_commands, first_bad_line, IsTextFrom, IsText, PrintsLines, WritesFirst, WritesPart, StopsWithoutMemory}
-use Rattle.superio_script.specs.declared.output.Output.{Output}
-use Rattle.superio_script.specs.declared.command.Command.{Command}
-use Rattle.superio_script.specs.declared.command.Command.TheVariants.{Serial, Clock, Controller}
 
 -- ---- a line of the board
 
@@ -36,8 +31,7 @@ pub record Leads (session : Session) (clock_session : ClockSession) (line reply 
 
 -- the output of a session is that of its port, which has at most 256 bytes
 output-few : (output : Option (List ℕ)) (out : Output) → IfSome output (λ all. written_bytes out ≡ all) → IfSome output (λ all. length all ≤ 256)
-output-few None out was = tt
-output-few (Some all) out was = subst (λ bytes. length bytes ≤ 256) was out.few
+output-few output out was = grind (arith, out.few)
 
 module _ (session : Session) (clock_session : ClockSession) (line reply : List ℕ) (old new : Devices)
     (at : IsAt session old.serial) (clock_at : old.clock.state ≡ clock_session_state clock_session) where

@@ -1,89 +1,42 @@
 -- A line of the serial port is a step of its session.
-use Rattle.std.proofs.Common.{◌≡◌, ℕ, zero, suc, ◌-◌, ◌≤◌, Bool, true, false, List, [], ◌∷◌, ◌++◌, length, drop, slice_index, Option, Some, None, Result, Ok, Err, refl, ap, sym, ◌∙◌, subst, arith, append_assoc, append-nil, inl, inr, ◌≢◌, IsTrue, IfSome, if◌then◌else◌, not, codes, ◌&&◌, is_some, length-drop}
-use Rattle.std.specs.Option.{option_map}
+use Rattle.std.proofs.Common.{◌≡◌, ℕ, zero, suc, ◌-◌, ◌≤◌, Bool, true, false, List, [], ◌∷◌, ◌++◌, length, drop, slice_index, Option, Some, None, Result, Ok, Err, refl, ap, sym, ◌∙◌, subst, arith, append_assoc, append-nil, inl, inr, ◌≢◌, IsTrue, IfSome, if◌then◌else◌, not, codes, ◌&&◌, is_some, length-drop, option_map}
 use Rattle.std.specs.Bool.{beq}
 use Rattle.std.proofs.lemmas.Bool.{and_parts, false≢true}
 use Rattle.std.proofs.lemmas.Bool.Decides.{nat_tests}
 use Rattle.superio_core.specs.declared.saved.Error.{Error as Fault}
 use Rattle.superio_core.specs.Saved.{serial_form}
-use Rattle.superio_core.specs.declared.trace.Asked.{Asked}
-use Rattle.superio_core.specs.declared.trace.Sent.{Sent}
-use Rattle.superio_core.specs.Serial.Operations.{Op, Read, Trace, Response, is_sent, is_lost, answer_count, ends_in_refusal, kind_of, sent_by}
-use Rattle.superio_core.specs.declared.trace.Asked.TheVariants.{Nothing, Took, Refused, TookTook, TookRefused}
-use Rattle.superio_core.specs.declared.trace.Sent.TheVariants as sent
-use Rattle.superio_core.specs.Serial.{State, not_empty, fresh_state}
-use Rattle.superio_core.specs.Bits.{has_bits, only_bits}
-use Rattle.superio_core.specs.Serial.Port.{Coherent}
-use Rattle.superio_core.specs.declared.serial.registers.Condition.{Condition}
-use Rattle.superio_core.specs.Serial.RegisterMap.{register_at, is_dlab, is_loopback, pending_in_order}
-use Rattle.superio_core.specs.Serial.Step.{step, step_response, read_step, rbr_read}
-use Rattle.superio_core.specs.Serial.Step.Admissible.{answers_all, step_calls, sends_byte, kind_in_state}
-use Rattle.superio_core.specs.Serial.Step.Raising.{restore_calls}
 use Rattle.vm_superio.specs.Serial.Step.{RefusesRestore, IsPortStep}
-use Rattle.vm_superio.specs.Serial.History.Registers.{kind_at, dlab}
-use Rattle.vm_superio.specs.Serial.History.{none_lost, output}
+use Rattle.vm_superio.specs.Serial.History.{none_lost, output, kind_at, dlab}
 use Rattle.vm_superio.specs.Serial.Laws.{state_after, StateLaw, RegisterLaw, CoherenceLaw}
 use Rattle.vm_superio.specs.Links.{Link, answers_of, all_ok, StopsAtRefusal, OutCall, Put, Flush, WriterCalls}
 use Rattle.vm_superio.specs.Links.Writer.{PortLinks, port_links, bytes_sent, outcome_of, AreSendings, OutLink}
+use Rattle.vm_superio.specs.Serial.{Port, failure_response, Asked, Sent, Op, Read, Trace, Response, is_sent, is_lost, answer_count, ends_in_refusal, kind_of, sent_by, State, not_empty, fresh_state, has_bits, only_bits, Coherent, Condition, register_at, is_dlab, is_loopback, pending_in_order, step, step_response, read_step, rbr_read, answers_all, step_calls, sends_byte, kind_in_state, restore_calls}
 use Rattle.vm_superio.specs.declared.serial.errors.Error.{Error}
 use Rattle.vm_superio.specs.declared.serial.errors.Error.TheVariants.{Trigger, IOError, FullFifo, Memory}
-use Rattle.vm_superio.specs.Serial.{Port, failure_response}
 use Rattle.vm_superio.specs.Links.FoldsEvents.{FoldsEvents}
-use Rattle.superio_script.specs.Objects.{fresh_interrupt_line, InterruptLineLink, no_counts, counts_after_event, written_bytes}
-use Rattle.superio_script.specs.declared.trigger.Line.{Line}
-use Rattle.superio_script.specs.declared.counts.Counts.{Counts}
+use Rattle.superio_script.specs.Objects.{fresh_interrupt_line, InterruptLineLink, no_counts, counts_after_event, written_bytes, Line, Counts, Output, LineRefused}
 use Rattle.superio_script.specs.Reply.{with_lf, response_reply, digits_reply, count_digits, counts_reply}
 use Rattle.superio_script.specs.Loading.{loaded_port, fault_words}
 use Rattle.superio_script.specs.SerialScript.{Session, fresh_session, Choice, trigger_answers, interrupt_line_after_calls, output_after, session_after_step, session_answers, session_outcome, call_reply, session_after_call, drained_bytes, session_after_reads, restore_answers, is_restore_refused, restore_reply, session_after_restore, load_reply, session_after_load, output_or_chosen, session_after_calls, session_trace, SessionStateLaw, DrainLaw, SessionOutputLaw}
 use Rattle.superio_script.specs.Driver.{ReadsWhileReady, bytes_while_ready}
 use Rattle.superio_script.specs.Board.{IsAt, IsRestore, IsSerialLineStep}
-use Rattle.superio_script.specs.declared.output.Output.{Output}
-use Rattle.superio_script.specs.declared.trigger.LineRefused.{LineRefused}
 use Rattle.superio_script.specs.declared.command.SerialCommand.TheVariants as line
 use Rattle.superio_script.proofs.DriverLemmas.{reads-are_stepped}
 
 -- ---- the interrupt line
-
--- the response to a call, given whether it is refused
-abbrev one_response : (refused : Bool) → Result (Unit {0}) LineRefused
-one_response refused = if refused then Err (record {}) else Ok tt
-
-was_accepted : (refused : Bool) → Ok tt ≡ one_response refused → refused ≡ false
-was_accepted true e = absurd cc
-was_accepted false e = refl
-
-was_refused : (refused : Bool) (refusal : LineRefused) → Err refusal ≡ one_response refused → refused ≡ true
-was_refused true refusal e = refl
-was_refused false refusal e = absurd cc
 
 -- the answers that link an interrupt line are those that its mask gives
 trigger_answers-from_link :
     (line new : Line) (calls : ℕ) (asked : Asked) (refusal : Option LineRefused) →
     IsTrue (answers_all calls asked) → is_some refusal ≡ ends_in_refusal asked → InterruptLineLink line (answers_of asked refusal) new →
     (asked ≡ trigger_answers line calls) × (new ≡ interrupt_line_after_calls (answer_count asked) line)
-trigger_answers-from_link line new calls Nothing refusal fits some link =
-    let none : calls ≡ 0 = grind (arith, nat_tests) in
-    (ap (trigger_answers line) (sym none), sym link)
-trigger_answers-from_link line new calls Took refusal fits some link =
-    let one : calls ≡ 1 = grind (arith, nat_tests) in
-    (rw one (grind (arith, link.0)), sym link.1)
-trigger_answers-from_link line new calls TookTook refusal fits some link =
-    let two : calls ≡ 2 = grind (arith, nat_tests) in
-    (rw two (grind (arith, link.0, link.1.0)), sym link.1.1)
-trigger_answers-from_link line new calls Refused None fits some link = absurd (false≢true some)
-trigger_answers-from_link line new zero Refused (Some refusal) fits some link = absurd (false≢true fits)
-trigger_answers-from_link line new (suc zero) Refused (Some refusal) fits some link = (grind (arith, link.0), sym link.1)
-trigger_answers-from_link line new (suc (suc more)) Refused (Some refusal) fits some link = (grind (arith, link.0), sym link.1)
-trigger_answers-from_link line new calls TookRefused None fits some link = absurd (false≢true some)
-trigger_answers-from_link line new calls TookRefused (Some refusal) fits some link =
-    let two : calls ≡ 2 = grind (arith, nat_tests) in
-    (rw two (grind (arith, link.0, link.1.0)), sym link.1.1)
+trigger_answers-from_link line new calls asked refusal fits some link = grind (arith, nat_tests)
 
 -- ---- the byte that was sent
 
 -- there is an outcome exactly if a byte is sent
 outcome-is_chosen : (outcome : Sent) (sends : Bool) → IsTrue (beq (is_sent outcome) sends)
-    → outcome ≡ (if sends then (if is_lost outcome then sent.Lost else sent.Out) else sent.Nothing)
+    → outcome ≡ (if sends then (if is_lost outcome then Sent.Lost else Sent.Out) else Sent.Nothing)
 outcome-is_chosen outcome sends fits = grind arith
 
 -- if no byte is lost, the writer took the one that the call sends
@@ -98,12 +51,11 @@ output_link = WriterCalls (λ output. Some (written_bytes output))
 after_nothing :
     (accepted : List ℕ) (calls : List OutCall) (old new : Output) →
     AreSendings [] accepted calls → output_link old calls new → written_bytes new ≡ written_bytes old ++ accepted
-after_nothing [] [] old new sends linked = ap written_bytes (sym linked) ∙ sym (append-nil (written_bytes old))
-after_nothing _ _ old new sends linked = absurd sends
+after_nothing accepted calls old new sends linked = grind (arith, append-nil)
 
 after_out :
     (accepted : List ℕ) (calls : List OutCall) (old new : Output) →
-    AreSendings (sent.Out ∷ []) accepted calls → output_link old calls new → written_bytes new ≡ written_bytes old ++ accepted
+    AreSendings (Sent.Out ∷ []) accepted calls → output_link old calls new → written_bytes new ≡ written_bytes old ++ accepted
 after_out (byte ∷ bytes) (Put put (Ok done) ∷ Flush (Ok flushed) ∷ calls) old new sends linked =
     let after : Output = linked.2.0 in
     let one = linked.2.1 ∙ linked.1 ∙ ap (λ byte. written_bytes old ++ byte ∷ []) sends.0 in
@@ -114,12 +66,12 @@ written_bytes-after_call :
     (known : Option (List ℕ)) (outcome : Sent) (accepted bytes : List ℕ) (old new : Output) →
     OutLink output_link (outcome_of outcome) accepted old new → (IsTrue (not (is_lost outcome)) → accepted ≡ bytes) →
     IfSome known (λ all. written_bytes old ≡ all) → IfSome (output_after known outcome bytes) (λ all. written_bytes new ≡ all)
-written_bytes-after_call known sent.Lost accepted bytes old new link same was = tt
-written_bytes-after_call None sent.Nothing accepted bytes old new link same was = tt
-written_bytes-after_call None sent.Out accepted bytes old new link same was = tt
-written_bytes-after_call (Some all) sent.Nothing accepted bytes old new link same was =
+written_bytes-after_call known Sent.Lost accepted bytes old new link same was = tt
+written_bytes-after_call None Sent.Nothing accepted bytes old new link same was = tt
+written_bytes-after_call None Sent.Out accepted bytes old new link same was = tt
+written_bytes-after_call (Some all) Sent.Nothing accepted bytes old new link same was =
     after_nothing accepted link.calls old new link.sends link.linked ∙ ap (λ xs. xs ++ accepted) was ∙ ap (λ xs. all ++ xs) (same refl)
-written_bytes-after_call (Some all) sent.Out accepted bytes old new link same was =
+written_bytes-after_call (Some all) Sent.Out accepted bytes old new link same was =
     after_out accepted link.calls old new link.sends link.linked ∙ ap (λ xs. xs ++ accepted) was ∙ ap (λ xs. all ++ xs) (same refl)
 
 -- ---- a call
@@ -177,8 +129,7 @@ reads-step (byte ∷ bytes) old new before at (ready, (middle, made, later)) =
 
 drained-are : (latch : Bool) (bytes stepped : List ℕ) → (latch ≡ true → bytes ≡ []) → (latch ≡ false → bytes ≡ stepped)
     → bytes ≡ (if latch then [] else stepped)
-drained-are true bytes stepped set clear = set refl
-drained-are false bytes stepped set clear = clear refl
+drained-are latch bytes stepped set clear = grind arith
 
 -- the choice if nothing is left open
 no_choice : Choice
@@ -231,8 +182,7 @@ module _ (port : Port Line Counts Output) (reply : List ℕ) where
     where
       is_printed : (known : Option (List ℕ)) → IfSome known (λ all. written_bytes port.out ≡ all) →
           written_bytes port.out ≡ output_or_chosen known (written_bytes port.out)
-      is_printed None was = refl
-      is_printed (Some all) was = was
+      is_printed known was = grind arith
 
 pub ruleset unchanged_lines = (capacity-step, calls-step, events-step, output-step)
 
@@ -245,20 +195,20 @@ AreAnswered due refusal responses refused =
     × (responses ≡ answers_of asked refusal) × (ends_in_refusal asked ≡ refused)
 
 accepted-answers : (thre rda : Bool) → AreAnswered (pending_in_order thre rda) None (all_ok (pending_in_order thre rda)) false
-accepted-answers false false = (Nothing, refl, refl, refl, refl)
-accepted-answers true false = (Took, refl, refl, refl, refl)
-accepted-answers false true = (Took, refl, refl, refl, refl)
-accepted-answers true true = (TookTook, refl, refl, refl, refl)
+accepted-answers false false = (Asked.Nothing, refl, refl, refl, refl)
+accepted-answers true false = (Asked.Took, refl, refl, refl, refl)
+accepted-answers false true = (Asked.Took, refl, refl, refl, refl)
+accepted-answers true true = (Asked.TookTook, refl, refl, refl, refl)
 
 refused-answers : (refusal : LineRefused) (due : List Condition) (responses : List (Result (Unit {0}) LineRefused)) → length due ≤ 2 →
     StopsAtRefusal due refusal responses → AreAnswered due (Some refusal) responses true
 refused-answers refusal [] responses few stops = absurd stops
 refused-answers refusal (first ∷ due) [] few stops = absurd stops
-refused-answers refusal (first ∷ []) (response ∷ responses) few (inl (is, ended)) = (Refused, refl, refl, cc, refl)
+refused-answers refusal (first ∷ []) (response ∷ responses) few (inl (is, ended)) = (Asked.Refused, refl, refl, cc, refl)
 refused-answers refusal (first ∷ []) (response ∷ responses) few (inr (is, ended)) = absurd ended
-refused-answers refusal (first ∷ second ∷ []) (response ∷ responses) few (inl (is, ended)) = (Refused, refl, refl, cc, refl)
+refused-answers refusal (first ∷ second ∷ []) (response ∷ responses) few (inl (is, ended)) = (Asked.Refused, refl, refl, cc, refl)
 refused-answers refusal (first ∷ second ∷ []) (response ∷ []) few (inr (is, ended)) = absurd ended
-refused-answers refusal (first ∷ second ∷ []) (response ∷ next ∷ responses) few (inr (is, inl (refused, ended))) = (TookRefused, refl, refl, cc, refl)
+refused-answers refusal (first ∷ second ∷ []) (response ∷ next ∷ responses) few (inr (is, inl (refused, ended))) = (Asked.TookRefused, refl, refl, cc, refl)
 refused-answers refusal (first ∷ second ∷ []) (response ∷ next ∷ responses) few (inr (is, inr (accepted, ended))) = absurd ended
 refused-answers refusal (first ∷ second ∷ third ∷ due) responses few stops = absurd (omega (arith, few))
 
@@ -350,8 +300,7 @@ pub output-is_of_history : RegisterLaw → SessionOutputLaw
 output-is_of_history registers session [] = nothing session.output
   where
     nothing : (known : Option (List ℕ)) → known ≡ option_map (λ before. before ++ []) known
-    nothing None = refl
-    nothing (Some bytes) = ap Some (sym (append-nil bytes))
+    nothing known = grind (arith, append-nil)
 output-is_of_history registers session (call ∷ calls) =
     let before = session_after_calls session calls in
     let trace = session_trace session calls in
@@ -368,13 +317,7 @@ output-is_of_history registers session (call ∷ calls) =
     joined : (kept : Bool) (outcome : Sent) (earlier : Option (List ℕ)) (out : List ℕ) {bytes all : List ℕ} → bytes ≡ all →
         output_after (if kept then option_map (λ before. before ++ out) earlier else None) outcome bytes
         ≡ (if not (is_lost outcome) && kept then option_map (λ before. before ++ (out ++ all)) earlier else None)
-    joined kept sent.Lost earlier out same = refl
-    joined false sent.Nothing earlier out same = refl
-    joined false sent.Out earlier out same = refl
-    joined true sent.Nothing None out same = refl
-    joined true sent.Out None out same = refl
-    joined true sent.Nothing (Some before) out same = ap Some (ap (λ bytes. (before ++ out) ++ bytes) same ∙ append_assoc before out _)
-    joined true sent.Out (Some before) out same = ap Some (ap (λ bytes. (before ++ out) ++ bytes) same ∙ append_assoc before out _)
+    joined kept outcome earlier out same = grind (arith, append_assoc)
 
 -- a driver reads what is held
 while_ready-are_held : CoherenceLaw → (most : ℕ) (s : State) → is_dlab s.line_control ≡ false → Coherent s → length s.in_buffer ≤ most
@@ -386,14 +329,13 @@ while_ready-are_held coherence zero s hidden is few = none s.in_buffer few
     none (byte ∷ held) few = absurd (omega (arith, few))
 while_ready-are_held coherence (suc most) s hidden is few =
     let read = rbr_read s in
-    let after = subst Coherent (ap (λ latch. read_step (register_at latch 0) s) hidden) (coherence s (Read 0) Nothing is) in
+    let after = subst Coherent (ap (λ latch. read_step (register_at latch 0) s) hidden) (coherence s (Read 0) Asked.Nothing is) in
     oldest s.in_buffer (has_bits s.line_status 0x01) is.data_ready
     (while_ready-are_held coherence most read hidden after (omega (arith, few, length-drop 1 s.in_buffer)))
   where
     oldest : (held : List ℕ) (ready : Bool) {more : List ℕ} → ready ≡ not_empty held → more ≡ drop 1 held
         → (if ready then slice_index held 0 ∷ more else []) ≡ held
-    oldest [] ready shows same = rw shows refl
-    oldest (byte ∷ held) ready shows same = rw (shows, same) refl
+    oldest held ready shows same = grind arith
 
 pub drain-is_of_held : CoherenceLaw → DrainLaw
 drain-is_of_held coherence s is = by_latch (is_dlab s.line_control) refl

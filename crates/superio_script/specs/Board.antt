@@ -1,21 +1,12 @@
 -- What a contract sees of a board, and of one line on it.
 use Rattle.std.specs.Prelude.{◌≡◌, ℕ, List, IfSome, IsTrue}
-use Rattle.superio_core.specs.declared.rtc_pl031.state.RtcState.{RtcState}
-use Rattle.superio_core.specs.Rtc.{fresh_clock}
-use Rattle.superio_core.specs.Serial.{State}
-use Rattle.vm_superio.specs.Serial.{Port}
-use Rattle.vm_superio.specs.Rtc.{ClockDevice}
-use Rattle.superio_script.specs.Objects.{fresh_interrupt_line, no_counts, written_bytes}
-use Rattle.superio_script.specs.declared.trigger.Line.{Line}
-use Rattle.superio_script.specs.declared.counts.Counts.{Counts}
+use Rattle.vm_superio.specs.Serial.{Port, State}
+use Rattle.vm_superio.specs.Rtc.{ClockDevice, RtcState, fresh_clock}
+use Rattle.superio_script.specs.Objects.{fresh_interrupt_line, no_counts, written_bytes, Line, Counts, Output}
 use Rattle.superio_script.specs.Reply.{controller_reply}
 use Rattle.superio_script.specs.SerialScript.{Session, fresh_session, Choice, is_restore_refused, restore_reply, session_after_restore, serial_reply, session_after_line}
 use Rattle.superio_script.specs.ClockScript.{ClockSession, clock_session_state, clock_reply, clock_session_after_line}
-use Rattle.superio_script.specs.declared.output.Output.{Output}
-use Rattle.superio_script.specs.declared.command.Command.{Command}
-use Rattle.superio_script.specs.declared.command.Command.TheVariants.{Serial, Clock, Controller}
-use Rattle.superio_script.specs.declared.command.SerialCommand.{SerialCommand}
-use Rattle.superio_script.specs.declared.command.ClockCommand.{ClockCommand}
+use Rattle.superio_script.specs.Command.{Command, Serial, Clock, Controller, SerialCommand, ClockCommand}
 
 -- the devices. Of the controller, a contract sees its reset line
 pub record Devices : Type 0 where

@@ -2,11 +2,9 @@
 -- clock's accesses.
 use Rattle.std.specs.Prelude.{ℕ, List, [], ◌∷◌, if◌then◌else◌, codes, Option, Some, None, Result, Ok, Err}
 use Rattle.std.specs.Int.{w32, to_be_bytes}
-use Rattle.superio_core.specs.declared.rtc_pl031.state.RtcState.{RtcState}
-use Rattle.superio_core.specs.Rtc.{Access, read, write, clock_register_at, is_writable, fresh_clock}
+use Rattle.vm_superio.specs.Rtc.{RtcState, Access, read, write, clock_register_at, is_writable, fresh_clock, clock_of_history, clock_history_response}
 use Rattle.superio_core.specs.declared.saved.Error.{Error}
 use Rattle.superio_core.specs.Saved.{clock_form}
-use Rattle.vm_superio.specs.Rtc.History.{clock_of_history, clock_history_response}
 use Rattle.superio_script.specs.Loading.{loaded_clock, fault_words}
 use Rattle.superio_script.specs.Reply.{with_lf, digits_reply}
 use Rattle.superio_script.specs.declared.command.ClockCommand.{ClockCommand}

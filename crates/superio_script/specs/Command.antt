@@ -1,16 +1,14 @@
 -- The forms of a line: what a line asks for.
-use Rattle.std.specs.Prelude.{◌≡◌, ℕ, ◌==◌, Bool, true, false, List, [], ◌∷◌, if◌then◌else◌, codes, Option, Some, None, IsTrue}
-use Rattle.std.specs.Option.{option_map}
-use Rattle.std.specs.Str.{bytes_eq}
+use Rattle.std.specs.Prelude.{◌≡◌, ℕ, ◌==◌, Bool, true, false, List, [], ◌∷◌, if◌then◌else◌, codes, Option, Some, None, IsTrue, option_map, bytes_eq}
 use Rattle.std.specs.Int.{w8, w16, w32, w64}
 use Rattle.superio_script.specs.Fields.{number, bytes, end, fields_of}
-use Rattle.superio_script.specs.declared.command.Command.{Command}
-use Rattle.superio_script.specs.declared.command.Command.TheVariants.{Serial, Clock, Controller}
-use Rattle.superio_script.specs.declared.command.SerialCommand.{SerialCommand}
+pub use Rattle.superio_script.specs.declared.command.Command.{Command}
+pub use Rattle.superio_script.specs.declared.command.Command.TheVariants.{Serial, Clock, Controller}
+pub use Rattle.superio_script.specs.declared.command.SerialCommand.{SerialCommand}
 use Rattle.superio_script.specs.declared.command.SerialCommand.TheVariants as serial
-use Rattle.superio_script.specs.declared.command.ClockCommand.{ClockCommand}
+pub use Rattle.superio_script.specs.declared.command.ClockCommand.{ClockCommand}
 use Rattle.superio_script.specs.declared.command.ClockCommand.TheVariants as clock
-use Rattle.superio_script.specs.declared.command.ControllerCommand.{ControllerCommand}
+pub use Rattle.superio_script.specs.declared.command.ControllerCommand.{ControllerCommand}
 use Rattle.superio_script.specs.declared.command.ControllerCommand.TheVariants as controller
 
 -- ---- the forms

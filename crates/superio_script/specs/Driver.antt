@@ -1,16 +1,9 @@
 -- A driver on the guest's side of a serial port, which polls.
 use Rattle.std.specs.Prelude.{◌≡◌, ◌++◌, ℕ, zero, suc, false, if◌then◌else◌, List, [], ◌∷◌, length, IsTrue}
 use Rattle.std.specs.List.{repeat}
-use Rattle.superio_core.specs.Bits.{has_bits, without_bits}
-use Rattle.superio_core.specs.Serial.{lsr_dr_bit, State}
-use Rattle.superio_core.specs.declared.serial.registers.Register.TheVariants.{RbrThr}
-use Rattle.superio_core.specs.declared.serial.registers.Condition.TheVariants.{Thre}
-use Rattle.superio_core.specs.Serial.RegisterMap.{register_read, iir_bit, identification_of}
-use Rattle.superio_core.specs.Serial.Operations.{Event, buffer_read, in_buffer_empty}
 use Rattle.vm_superio.specs.Links.{Link, TriggerAnswer, OutCall}
-use Rattle.vm_superio.specs.Serial.{Port}
+use Rattle.vm_superio.specs.Serial.{Port, has_bits, without_bits, lsr_dr_bit, State, RbrThr, Thre, register_read, iir_bit, identification_of, Event, buffer_read, in_buffer_empty, rbr_read}
 use Rattle.vm_superio.specs.Serial.Step.{IsReadStep}
-use Rattle.superio_core.specs.Serial.Step.{rbr_read}
 
 -- LSR shows data ready
 abbrev pub IsReady : (s : State) → Type 0

@@ -1,7 +1,6 @@
 -- The lines of a script and the fields of a line, by the kinds that the forms have.
-use Rattle.std.specs.Prelude.{ℕ, List, [], ◌∷◌, if◌then◌else◌, ◌==◌, None, Some, Option, ◌/◌, ◌&&◌, nat_le, length}
+use Rattle.std.specs.Prelude.{ℕ, List, [], ◌∷◌, if◌then◌else◌, ◌==◌, None, Some, Option, ◌/◌, ◌&&◌, nat_le, length, option_map, option_and_then}
 use Rattle.std.specs.Borrow.{Bor}
-use Rattle.std.specs.Option.{option_map, option_and_then}
 use Rattle.std.specs.Result.{result_ok}
 use Rattle.std.specs.Int.{Width, byte_len, from_be_bytes}
 use Rattle.hex.specs.Hex.{decode_sized}

@@ -3,15 +3,10 @@ use Rattle.std.specs.Prelude.{◌≡◌, ℕ, ◌+◌, ◌≤◌, List, [], ◌�
 use Rattle.std.specs.List.{list_all}
 use Rattle.std.specs.Io.KnownBytes.{Appends, Consumes, IsAtEnd}
 use Rattle.superio_script.specs.Fields.{lines_of}
-use Rattle.superio_script.specs.Command.{command_of, mask_of, TakesMemory}
+use Rattle.superio_script.specs.Command.{command_of, mask_of, TakesMemory, Command, Serial, Clock, Controller, SerialCommand, ClockCommand, ControllerCommand}
 use Rattle.superio_script.specs.Reply.{controller_reply}
 use Rattle.superio_script.specs.SerialScript.{Session, fresh_session, AreSerialReplies}
 use Rattle.superio_script.specs.ClockScript.{ClockSession, fresh_clock_session, clock_replies}
-use Rattle.superio_script.specs.declared.command.Command.{Command}
-use Rattle.superio_script.specs.declared.command.Command.TheVariants.{Serial, Clock, Controller}
-use Rattle.superio_script.specs.declared.command.SerialCommand.{SerialCommand}
-use Rattle.superio_script.specs.declared.command.ClockCommand.{ClockCommand}
-use Rattle.superio_script.specs.declared.command.ControllerCommand.{ControllerCommand}
 
 -- ---- the lines
 

@@ -1,22 +1,11 @@
 -- The serial port's part of a script: the replies to its lines. They depend on these lines alone, and on what a script
 -- leaves open.
-use Rattle.std.specs.Prelude.{◌≡◌, ℕ, zero, suc, ◌-◌, ◌≤◌, Bool, false, if◌then◌else◌, List, [], ◌∷◌, ◌++◌, length, fold, codes, Option, Some, None, IfSome, Result, Ok, Err, ⊤}
-use Rattle.std.specs.Option.{option_map}
+use Rattle.std.specs.Prelude.{◌≡◌, ℕ, zero, suc, ◌-◌, ◌≤◌, Bool, false, if◌then◌else◌, List, [], ◌∷◌, ◌++◌, length, fold, codes, Option, Some, None, IfSome, Result, Ok, Err, ⊤, option_map}
 use Rattle.superio_core.specs.declared.saved.Error.{Error}
 use Rattle.superio_core.specs.Saved.{serial_form}
-use Rattle.superio_core.specs.declared.trace.Asked.{Asked}
-use Rattle.superio_core.specs.declared.trace.Sent.{Sent}
-use Rattle.superio_core.specs.Serial.Operations.{Op, Read, Write, Enqueue, CharacterTimeout, Trace, is_lost, answer_count, ends_in_refusal, sent_by}
-use Rattle.superio_core.specs.Serial.{State, fresh_state}
-use Rattle.superio_core.specs.Serial.Port.{Coherent}
-use Rattle.superio_core.specs.Serial.RegisterMap.{is_dlab}
-use Rattle.superio_core.specs.Serial.Step.{step, step_response, step_events}
-use Rattle.superio_core.specs.Serial.Step.Admissible.{kind_in_state, step_calls, sends_byte}
-use Rattle.superio_core.specs.Serial.Step.Raising.{restore_calls}
+use Rattle.vm_superio.specs.Serial.{Asked, Sent, Op, Read, Write, Enqueue, CharacterTimeout, Trace, is_lost, answer_count, ends_in_refusal, sent_by, State, fresh_state, Coherent, is_dlab, step, step_response, step_events, kind_in_state, step_calls, sends_byte, restore_calls}
 use Rattle.vm_superio.specs.Serial.History.{none_lost, output, state_of_history}
-use Rattle.superio_script.specs.Objects.{fresh_interrupt_line, is_call_refused, interrupt_line_after_call, no_counts, counts_after_event}
-use Rattle.superio_script.specs.declared.trigger.Line.{Line}
-use Rattle.superio_script.specs.declared.counts.Counts.{Counts}
+use Rattle.superio_script.specs.Objects.{fresh_interrupt_line, is_call_refused, interrupt_line_after_call, no_counts, counts_after_event, Line, Counts}
 use Rattle.superio_script.specs.Driver.{bytes_while_ready}
 use Rattle.superio_script.specs.Loading.{loaded_port, fault_words}
 use Rattle.superio_script.specs.Reply.{with_lf, response_reply, digits_reply, count_digits, counts_reply}

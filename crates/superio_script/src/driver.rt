@@ -1,10 +1,7 @@
 //! A driver on the guest's side of a serial port.
 ghost use Rattle.vm_superio.specs.Links.{WriterCalls};
 ghost use Rattle.std.specs.Prelude.{◌≡◌, ◌≤◌, [], ◌++◌, length, false, IsTrue};
-ghost use Rattle.superio_core.specs.Bits.{has_bits};
-ghost use Rattle.superio_core.specs.Serial.{lcr_dlab_bit, lsr_dr_bit};
-ghost use Rattle.superio_core.specs.Serial.Port.{Coherent};
-ghost use Rattle.superio_core.specs.Serial.RegisterMap.{is_dlab};
+ghost use Rattle.vm_superio.specs.Serial.{has_bits, lcr_dlab_bit, lsr_dr_bit, Coherent, is_dlab};
 ghost use Rattle.superio_script.specs.Driver.{ReadsWhileReady, TakesAll};
 
 use arrayvec::ArrayVec;

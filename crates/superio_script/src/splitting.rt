@@ -14,7 +14,7 @@ fn find(bytes: &[u8], separator: u8) -> Option<usize>
 }
 
 /// The bytes before the first separator, and those after it, or `None` if there is no separator.
-#[tactic(auto, using(crate::proofs::SplittingLemmas::first_pieces))]
+#[tactic(auto, using(crate::proofs::LineLemmas::first_pieces))]
 fn first_piece(bytes: &[u8], separator: u8) -> (&[u8], Option<&[u8]>)
     ensures found { IfSome result.1 (λ rest. (end : List (List ℕ)) →
         pieces_of separator end bytes.now ≡ result.0.now ∷ pieces_of separator end rest.now) }

@@ -1,8 +1,8 @@
 -- Lemmas on the bits of LSR, and on the output of a writer.
+pub mod Examples
 pub mod Rtc
 pub mod Serial
-use Rattle.std.proofs.Common.{◌≡◌, ◌≢◌, lit<, ℕ, ◌<◌, Bool, true, false, ◌==◌, refl, sym, ap, ◌∙◌, arith, List, [], ◌∷◌, ◌++◌, Option, Some, None, subst, append_assoc, append-nil, bit_and, IsTrue, not, Ok, Err}
-use Rattle.std.proofs.Math.Nat.{mod-lt}
+use Rattle.std.proofs.Common.{◌≡◌, ◌≢◌, lit<, ℕ, ◌<◌, Bool, true, false, ◌==◌, refl, sym, ap, ◌∙◌, arith, List, [], ◌∷◌, ◌++◌, Option, Some, None, subst, append_assoc, append-nil, bit_and, IsTrue, not, Ok, Err, mod-lt}
 use Rattle.std.proofs.lemmas.Bool.{false≢true, eqb-true}
 use Rattle.std.specs.Int.Bits.{and_mask, or_add_and}
 use Rattle.std.specs.List.{list_all}
@@ -10,7 +10,6 @@ use Rattle.std.specs.Io.KnownBytes.{Keeps, Appends}
 use Rattle.vm_superio.specs.Serial.{has_bits, with_bits, Sent, is_lost}
 use Rattle.vm_superio.specs.Serial.History.{with_data_ready}
 use Rattle.superio_core.proofs.Lemmas.{or-twice, or-without, without-or, without-twice}
-use Rattle.superio_core.specs.declared.trace.Sent.TheVariants.{Out, Lost}
 use Rattle.vm_superio.specs.Links.{OutCall, Put, Flush, WriterCalls}
 use Rattle.vm_superio.specs.Links.Writer.{AreSendings, KnownOutputLaw}
 
@@ -31,23 +30,16 @@ data_ready_right byte = right_where byte (bit_and byte 0x01 == 0x01) refl
 pub data_ready_twice : (byte : ℕ) (one other : Bool)
     → with_data_ready (with_data_ready byte one) other ≡ with_data_ready byte other
 unfolding with_bits
-data_ready_twice byte true true = or-twice byte 0x01
-data_ready_twice byte true false = without-or byte 0x01
-data_ready_twice byte false true = or-without byte 0x01
-data_ready_twice byte false false = without-twice byte 0x01 0x01
+data_ready_twice byte one other = grind (arith, or-twice, without-or, or-without, without-twice)
 
 -- ---- what a writer took over several calls
 
 -- a writer that took nothing
 pub Appends-nothing : (known : Option (List ℕ)) → Appends known known []
-Appends-nothing None = tt
-Appends-nothing (Some xs) = sym (append-nil xs)
+Appends-nothing known = grind (arith, append-nil)
 
 pub Appends-append : (before middle after : Option (List ℕ)) (xs ys : List ℕ) → Appends before middle xs → Appends middle after ys → Appends before after (xs ++ ys)
-Appends-append None middle after xs ys first second = tt
-Appends-append (Some a) None after xs ys first second = absurd first
-Appends-append (Some a) (Some b) None xs ys first second = second
-Appends-append (Some a) (Some b) (Some c) xs ys first second = second ∙ ap (λ bytes. bytes ++ ys) first ∙ append_assoc a xs ys
+Appends-append before middle after xs ys first second = grind (arith, append_assoc)
 
 -- bytes sent, and then bytes sent
 pub AreSendings-append :
@@ -55,19 +47,17 @@ pub AreSendings-append :
     AreSendings outcomes bytes calls → AreSendings more_outcomes more more_calls →
     AreSendings (outcomes ++ more_outcomes) (bytes ++ more) (calls ++ more_calls)
 AreSendings-append [] more_outcomes [] more [] more_calls first second = second
-AreSendings-append (Out ∷ outcomes) more_outcomes (byte ∷ bytes) more (Put put (Ok done) ∷ Flush (Ok flushed) ∷ calls) more_calls first second =
+AreSendings-append (Sent.Out ∷ outcomes) more_outcomes (byte ∷ bytes) more (Put put (Ok done) ∷ Flush (Ok flushed) ∷ calls) more_calls first second =
     (first.0, AreSendings-append outcomes more_outcomes bytes more calls more_calls first.1 second)
-AreSendings-append (Lost ∷ outcomes) more_outcomes (byte ∷ bytes) more (Put put (Err fault) ∷ calls) more_calls first second =
+AreSendings-append (Sent.Lost ∷ outcomes) more_outcomes (byte ∷ bytes) more (Put put (Err fault) ∷ calls) more_calls first second =
     (first.0, AreSendings-append outcomes more_outcomes bytes more calls more_calls first.1 second)
-AreSendings-append (Lost ∷ outcomes) more_outcomes (byte ∷ bytes) more (Put put (Ok done) ∷ Flush (Err fault) ∷ calls) more_calls first second =
+AreSendings-append (Sent.Lost ∷ outcomes) more_outcomes (byte ∷ bytes) more (Put put (Ok done) ∷ Flush (Err fault) ∷ calls) more_calls first second =
     (first.0, AreSendings-append outcomes more_outcomes bytes more calls more_calls first.1 second)
 AreSendings-append _ more_outcomes _ more _ more_calls first second = absurd first
 
 -- a writer whose bytes stayed took nothing
 Appends-kept : (before after : Option (List ℕ)) → Keeps before after → Appends before after []
-Appends-kept None after kept = tt
-Appends-kept (Some xs) None kept = absurd kept
-Appends-kept (Some xs) (Some ys) kept = kept ∙ sym (append-nil xs)
+Appends-kept before after kept = grind (arith, append-nil)
 
 module _ {W : Type 0} (contents : W → Option (List ℕ)) where
   known :
@@ -76,14 +66,14 @@ module _ {W : Type 0} (contents : W → Option (List ℕ)) where
       IsTrue (list_all (λ outcome. not (is_lost outcome)) outcomes) → Appends (contents old) (contents new) bytes
   known old new [] [] [] sends linked kept =
       subst (λ writer. Appends (contents old) (contents writer) []) linked (Appends-nothing (contents old))
-  known old new (Out ∷ outcomes) (byte ∷ bytes) (Put put (Ok done) ∷ Flush (Ok flushed) ∷ calls) sends linked kept =
+  known old new (Sent.Out ∷ outcomes) (byte ∷ bytes) (Put put (Ok done) ∷ Flush (Ok flushed) ∷ calls) sends linked kept =
       let taken = linked.0 in
       let after = linked.2.0 in
       let one = Appends-append (contents old) (contents taken) (contents after) (put ∷ []) [] linked.1 (Appends-kept _ _ linked.2.1) in
       Appends-append (contents old) (contents after) (contents new) (byte ∷ []) bytes
       (subst (λ put. Appends (contents old) (contents after) (put ∷ [])) sends.0 one)
       (known after new outcomes bytes calls sends.1 linked.2.2 kept)
-  known old new (Lost ∷ outcomes) bytes calls sends linked kept = absurd (false≢true kept)
+  known old new (Sent.Lost ∷ outcomes) bytes calls sends linked kept = absurd (false≢true kept)
   known old new _ _ _ sends linked kept = absurd sends
 
   pub known_output_law : KnownOutputLaw contents

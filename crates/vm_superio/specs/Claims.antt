@@ -10,8 +10,7 @@ pub use Rattle.superio_core.specs.Serial.Port.{Coherent}
 pub use Rattle.superio_core.specs.Serial.{State, fresh_state, not_empty, SameSettings}
 pub use Rattle.vm_superio.specs.Serial.{Port}
 pub use Rattle.vm_superio.specs.Saved.{state_of}
-use Rattle.superio_core.specs.declared.serial.registers.Condition.TheVariants.{Rda}
-use Rattle.superio_core.specs.Serial.RegisterMap.{is_dlab, is_loopback, ier_bit, iir_bit}
+use Rattle.vm_superio.specs.Serial.{Rda, is_dlab, is_loopback, ier_bit, iir_bit}
 
 module _ {T EV W : Type 0} (port : Port T EV W) where
   -- a port in the state of a new one

@@ -4,8 +4,7 @@ pub mod FoldsEvents
 pub mod Three
 pub mod Unspecified
 pub mod Writer
-use Rattle.std.specs.Prelude.{◌≡◌, ◌⊎◌, List, [], ◌∷◌, Option, Result, Ok, Err, ◌↔◌, ℕ, ◌++◌, ⊤, map}
-use Rattle.std.specs.Option.{option_map, option_to_list}
+use Rattle.std.specs.Prelude.{◌≡◌, ◌⊎◌, List, [], ◌∷◌, Option, Result, Ok, Err, ◌↔◌, ℕ, ◌++◌, ⊤, map, option_map, option_to_list}
 use Rattle.std.proofs.Common.{sym, subst}
 use Rattle.std.specs.declared.io.Error.{Error}
 use Rattle.std.specs.Io.KnownBytes.{Keeps, Appends}

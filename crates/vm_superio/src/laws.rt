@@ -34,7 +34,9 @@ pub fn held_bytes()
 /// trace may contain refused trigger calls and IER writes that end early.
 pub fn interrupts()
     ensures { InterruptLaw }
-{}
+{
+    by_lemmas();
+}
 
 /// Every step, even a refused call, keeps a coherent state coherent.
 #[tactic(auto, using(superio_core::proofs::Lemmas::Serial::Coherence::coherence_law))]
@@ -55,19 +57,25 @@ pub fn states_of_history()
 /// trigger calls that are due.
 pub fn steps_of_history()
     ensures { StepLaw }
-{}
+{
+    by_lemmas();
+}
 
 /// From a coherent start, a call in the state that a trace leads to is well-formed there, replies as the history says,
 /// and leaves the state of the trace with its entry added. The premises are the fields of the call's clause `step`.
 pub fn calls_of_history()
     ensures { CallLaw }
-{}
+{
+    by_lemmas();
+}
 
 /// From a coherent start, a retry in the state that a trace leads to counts as a restore: the trigger calls are those
 /// due for a restore there, and the state is that of the trace with a restore's entry added.
 pub fn retries_of_history()
     ensures { RetryLaw }
-{}
+{
+    by_lemmas();
+}
 
 /// From a coherent start, entries connected by steps form a well-formed trace with these responses. They end in the
 /// state that it leads to, which is coherent.
@@ -80,7 +88,7 @@ pub fn whole_runs()
 /// alone: the byte and events of each read, the bytes taken, and how often to ask for the interrupt. They end in the
 /// state of the history, which is coherent. The bytes that the caller is told to send are the output. It is told to ask
 /// for the interrupt at most twice, plus twice for each IIR read and once for each RBR read; restores do not count.
-#[tactic(auto, using(crate::proofs::Lemmas::Serial::Laws::WholeRunsOfPorts::port_run_laws))]
+#[tactic(auto, using(crate::proofs::Lemmas::Serial::Laws::StepsOfHistory::port_run_laws))]
 pub fn whole_runs_of_ports()
     ensures run { PortRunLaw }
     ensures output { PortOutputLaw }
@@ -115,7 +123,9 @@ pub fn no_byte_waits()
     ensures pending { NoByteWaitsLaw }
     ensures called { TimeoutCallsLaw }
     ensures in_a_trace { TimeoutsShowLaw }
-{}
+{
+    by_lemmas();
+}
 
 /// From any start, for any driver that takes at least one held byte at each interrupt and ends its run with a read of
 /// IIR: if a character timeout follows the run, and bytes are held, the interrupt is asked for again. After as many
@@ -130,14 +140,16 @@ pub fn interrupt_driver()
 /// line up. The line goes up in such a call, or in an IER write that enables a pending condition, for which the trigger
 /// is not called again. It goes down only in a read of IIR or RBR, or in an IER write. From a start whose IIR is 1, 2, 4
 /// or 6, the line is up exactly while the trace has a condition pending that IER enables.
-#[tactic(auto, using(crate::proofs::Lemmas::Serial::Laws::InterruptLine::interrupt_line_laws))]
+#[tactic(auto, using(crate::proofs::Lemmas::Serial::Laws::Interrupts::interrupt_line_laws))]
 pub fn interrupt_line()
     ensures after { LineAfterLaw }
     ensures called { UpAfterCallLaw }
     ensures goes_up { GoesUpLaw }
     ensures stays_up { StaysUpLaw }
     ensures history { LineOfHistoryLaw }
-{}
+{
+    by_lemmas();
+}
 
 /// From any start, two traces with the same operations and trigger answers, restores left out, give the same guest
 /// reads, whatever the writer did.
@@ -206,7 +218,7 @@ pub fn outcome_events()
 
 /// One call in any state: it calls the trigger once for each of the two pending bits of IIR that it turns from clear to
 /// set.
-#[tactic(auto, using(crate::proofs::Lemmas::Serial::Laws::TurnedBits::turned_bits_law))]
+#[tactic(auto, using(crate::proofs::Lemmas::Serial::Laws::OneCall::turned_bits_law))]
 pub fn turned_bits()
     ensures { TurnedBitsLaw }
 {}
@@ -238,4 +250,17 @@ pub fn alarm_due_by_history()
 /// since, if 32 bits hold both times.
 pub fn set_time()
     ensures { SetTimeLaw }
+{
+    by_lemmas();
+}
+
+/// Laws whose lemmas the search does not apply by their names. Those above that state them call this function.
+fn by_lemmas()
+    ensures interrupts { InterruptLaw }
+    ensures steps { StepLaw }
+    ensures calls { CallLaw }
+    ensures retries { RetryLaw }
+    ensures timeouts { TimeoutsShowLaw }
+    ensures line { LineOfHistoryLaw }
+    ensures set_time { SetTimeLaw }
 {}

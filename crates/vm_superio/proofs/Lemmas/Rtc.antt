@@ -1,5 +1,4 @@
 -- Lemmas on the clock's history.
-pub mod Examples
 use Rattle.std.proofs.Common.{◌≡◌, ℕ, zero, suc, ◌+◌, ◌-◌, ◌/◌, ◌^◌, ◌<◌, Bool, true, false, ap, sym, ◌∙◌, arith, ◌%◌, ◌==◌, if◌then◌else◌, not, ◌&&◌, ◌||◌, nat_le, nat_lt, bit_and, bit_or, Option, Some, None, is_some, unwrap_or, List, [], ◌∷◌, ℤ, pos, ◌+ℤ◌, ◌-ℤ◌, refl}
 use Rattle.std.specs.Int.{bit_at, w32, to_le_bytes, from_le_bytes}
 use Rattle.std.specs.Option.{option_or, option_map_or}
@@ -9,14 +8,10 @@ use Rattle.std.proofs.lemmas.Grind.{common_steps}
 use Rattle.std.proofs.lemmas.Int.{ints}
 use Rattle.std.proofs.lemmas.Nat.{and_comm, from_le_bytes-to_le_bytes_4}
 use Rattle.std.proofs.lemmas.Nat.Bits.{bit_at_or, bit_at_ones_above, bit_at-lt, bit_at-zero, shr_and_one}
-use Rattle.superio_core.specs.declared.rtc_pl031.state.RtcState.{RtcState}
 use Rattle.superio_core.specs.declared.rtc_pl031.registers.ClockRegister.{ClockRegister}
-use Rattle.superio_core.specs.declared.rtc_pl031.registers.ClockRegister.TheVariants.{Dr, Mr, Lr, Cr, Imsc, Icr}
-use Rattle.superio_core.specs.Rtc.{Access, read, write, clock_register_at, host_time, guest_time, clock_register_read, bytes_left, moment_of, fresh_clock}
+use Rattle.superio_core.specs.declared.rtc_pl031.registers.ClockRegister.TheVariants.{Mr, Lr, Cr, Imsc, Icr}
 use Rattle.superio_core.specs.Bits.{with_bits, without_bits}
-use Rattle.superio_core.specs.Rtc.Step.{guest_time_in, after_alarm, after_write, clock_step, clock_response, state_after_accesses, is_alarm_reached}
-use Rattle.vm_superio.specs.Rtc.History.{Setting, load, reset, setting_of, load_by, counter_by, newest_found, value_written, clock_of_history, clock_history_response, counter, cleared_bits, cleared_by, guest_time_at, match_value, match_written, is_alarm_set, is_match_passed, is_armed, is_alarm_raised}
-use Rattle.vm_superio.specs.Rtc.{ClockIsHistory, ReadsByHistory, GoesOnByHistory, is_cleared, RaisesAt, RaisesNothingAt, AlarmDueByHistory, SetTimeLaw}
+use Rattle.vm_superio.specs.Rtc.{ClockIsHistory, ReadsByHistory, GoesOnByHistory, is_cleared, RaisesAt, RaisesNothingAt, AlarmDueByHistory, SetTimeLaw, RtcState, Access, read, write, clock_register_at, host_time, guest_time, clock_register_read, bytes_left, moment_of, fresh_clock, guest_time_in, after_alarm, after_write, clock_step, clock_response, state_after_accesses, is_alarm_reached, Setting, load, reset, setting_of, load_by, counter_by, newest_found, value_written, clock_of_history, clock_history_response, counter, cleared_bits, cleared_by, guest_time_at, match_value, match_written, is_alarm_set, is_match_passed, is_armed, is_alarm_raised}
 use Rattle.superio_core.proofs.Lemmas.{bit_at-without, without-twice, without-of-or, or-twice}
 
 -- ---- the alarm at an access
@@ -32,20 +27,14 @@ guest_time-history start trace time = ap (λ counter. guest_time counter time) (
 -- to set a bit that may be set is to set it
 set-again : (kept : ℕ) (raised : Bool) → with_bits (with_bits kept (if raised then 1 else 0)) 1 ≡ with_bits kept 1
 unfolding with_bits
-set-again kept true = or-twice kept 1
-set-again kept false = ap (λ n. bit_or n 1) (or_zero_r kept)
+set-again kept raised = grind (arith, or-twice, or_zero_r)
 
 -- what becomes of an alarm: whether one was set, guest time had passed the match before, and has reached it now
 checked : (set passed come raised : Bool) (lr : ℕ) (offset : ℤ) (mr imsc kept : ℕ) →
     let old : RtcState = record { lr = lr; offset = offset; mr = mr; imsc = imsc; ris = with_bits kept (if raised then 1 else 0); armed = not passed && set } in
     (if (not passed && set) && come then record old { ris = with_bits old.ris 1; armed = false } else old)
     ≡ record old { ris = with_bits kept (if ((not passed && set) && come) || raised then 1 else 0); armed = not (come || passed) && set }
-checked set true true raised lr offset mr imsc kept = refl
-checked set true false raised lr offset mr imsc kept = refl
-checked true false true raised lr offset mr imsc kept = ap (λ ris. record { lr = lr; offset = offset; mr = mr; imsc = imsc; ris = ris; armed = false }) (set-again kept raised)
-checked true false false raised lr offset mr imsc kept = refl
-checked false false true raised lr offset mr imsc kept = refl
-checked false false false raised lr offset mr imsc kept = refl
+checked set passed come raised lr offset mr imsc kept = grind (arith, set-again)
 
 -- a read continues the history: it may reach the alarm
 read_goes_on : (start : RtcState) (trace : List Access) (offset now : ℕ) → after_alarm (clock_of_history start trace) (host_time now) ≡ clock_of_history start (read offset now ∷ trace)
@@ -80,18 +69,7 @@ record Means (access : Access) (register : ClockRegister) (value time : ℕ) : T
   cleared : cleared_by access ≡ clear_by register value
 
 means : (offset value now : ℕ) (register : ClockRegister) → clock_register_at offset ≡ register → Means (write offset value now) register value (host_time now)
-means offset value now Dr at = record {
-  setting = grind (arith, common_steps);
-  matched = grind (arith, common_steps);
-  masked = grind (arith, common_steps);
-  cleared = grind (arith, common_steps);
-}
-means offset value now register at = record {
-  setting = grind (arith, common_steps);
-  matched = grind (arith, common_steps);
-  masked = grind (arith, common_steps);
-  cleared = grind (arith, common_steps);
-}
+means offset value now register at = grind (arith, common_steps)
 
 -- the history of a longer trace, by what its newest access is
 abbrev longer : (start : RtcState) (trace : List Access) (setting : Option Setting) (matched masked : Option ℕ) (clears guest : ℕ) → RtcState
@@ -114,22 +92,17 @@ longer start trace setting matched masked clears guest = record {
 raised-at-once : (at_once raised : Bool) (kept : ℕ) →
     (if at_once then with_bits (with_bits kept (if raised then 1 else 0)) 1 else with_bits kept (if raised then 1 else 0))
     ≡ with_bits kept (if at_once || raised then 1 else 0)
-raised-at-once true raised kept = set-again kept raised
-raised-at-once false raised kept = refl
+raised-at-once at_once raised kept = grind (arith, set-again)
 
 or-assoc : (a b c : Bool) → a || (b || c) ≡ (a || b) || c
-or-assoc true b c = refl
-or-assoc false b c = refl
+or-assoc a b c = grind arith
 
 -- a raised interrupt is cleared by bit 0
 left-by : (part bit : ℕ) → bit < 2 → part ≡ bit → 1 - part ≡ (if not (bit == 1) && true then 1 else 0)
-left-by part zero small is = omega (arith, is)
-left-by part (suc zero) small is = omega (arith, is)
-left-by part (suc (suc more)) small is = absurd (omega (arith, small))
+left-by part bit small is = grind (arith, nat_tests)
 
 none : (test : Bool) → ◌≡◌ {A = ℕ} 0 (if test && false then 1 else 0)
-none true = refl
-none false = refl
+none test = grind arith
 
 one-left : (value : ℕ) (raised : Bool) → without_bits (if raised then 1 else 0) value ≡ (if not (bit_at value 0 == 1) && raised then 1 else 0)
 one-left value true =
@@ -154,8 +127,7 @@ reset-or-not : (start : RtcState) (trace : List Access) (offset now : ℕ) (rese
     let found = clock_of_history start (read offset now ∷ trace) in
     (if resets then record found { lr = 0; offset = pos 0 } else found)
     ≡ longer start trace (if resets then Some reset else None) None None 0 (guest_time_at start trace (read offset now))
-reset-or-not start trace offset now true = refl
-reset-or-not start trace offset now false = refl
+reset-or-not start trace offset now resets = grind arith
 
 by_register : (start : RtcState) (trace : List Access) (offset value now : ℕ) (register : ClockRegister) →
     after_write (clock_of_history start (read offset now ∷ trace)) register value (host_time now)
@@ -270,8 +242,7 @@ reached start trace (write offset value now) =
     ap (λ guest. is_armed start trace && nat_le (match_value start trace) guest) (guest_time-history start trace (host_time now))
 
 or-true : (first second : Bool) → second ≡ true → (first || second) ≡ true
-or-true true second is = refl
-or-true false second is = is
+or-true first second is = grind arith
 
 raises : (start : RtcState) (trace : List Access) (moment : ℕ) → is_alarm_reached (clock_of_history start trace) (host_time moment) ≡ true → RaisesAt start trace moment
 raises start trace moment is access at =
@@ -305,8 +276,7 @@ counter-later value now seconds = omega (arith, ints)
 
 -- an alarm that is reached changes no offset
 offset-if : (reached : Bool) (raised state : RtcState) → raised.offset ≡ state.offset → (if reached then raised else state).offset ≡ state.offset
-offset-if true raised state same = same
-offset-if false raised state same = refl
+offset-if reached raised state same = grind arith
 
 -- what the clock shows, by its offset
 shown-by-offset : (after : RtcState) (value now seconds : ℕ) → after.offset ≡ pos value -ℤ pos now

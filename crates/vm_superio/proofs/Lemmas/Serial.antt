@@ -1,5 +1,4 @@
 -- What a step of a port says about the trigger's calls.
-pub mod Examples
 pub mod Laws
 pub mod Run
 pub mod Step
@@ -9,12 +8,11 @@ use Rattle.std.proofs.Common.{Bool, None, ◌≡◌, length, Option, refl, ap, s
 use Rattle.std.specs.declared.io.Error.{Error as Fault}
 use Rattle.superio_core.proofs.Lemmas.Serial.Coherence.{coherence_law}
 use Rattle.vm_superio.specs.Serial.{Coherent, answers_all, step_calls, is_dlab, is_loopback, is_sent, not_empty, sent_by, kind_of, timeout_response, Port, write_response, refusal_in_result, fault_in_result, Error, Three, WriterOut, Asked, Sent, Op, Response, ends_in_refusal, answer_count, Write, CharacterTimeout, Event, step_events}
-use Rattle.superio_core.specs.declared.trace.Asked.TheVariants.{Nothing}
 use Rattle.vm_superio.specs.Links.{answers_of, Link, TriggerAnswer, OutCall, WriterCalls, ObjectCall, ToTrigger, ToOut, ToEvents, answers_in, out_calls_in, events_in}
 use Rattle.vm_superio.specs.Links.Writer.{PortLinks, WriterLink, port_links, bytes_sent, outcome_of, AreSendings}
 use Rattle.vm_superio.specs.Serial.Step.{turned_on_count, IsPortStep, IsWriteStep, IsTimeoutStep}
 use Rattle.vm_superio.proofs.Lemmas.Serial.Laws.Consequences.{call_written}
-use Rattle.vm_superio.proofs.Lemmas.Serial.Laws.TurnedBits.{turned_bits_law}
+use Rattle.vm_superio.proofs.Lemmas.Serial.Laws.OneCall.{turned_bits_law}
 use Rattle.vm_superio.specs.Links.Three.{ThreeLink}
 use Rattle.vm_superio.specs.Serial.Step.ObjectStep.{Sending, sent_in, out_calls, OnePort, IsObjectStep, port_of}
 use Rattle.vm_superio.specs.declared.serial.errors.Error as failure
@@ -64,23 +62,10 @@ module _ {E : Type 0} where
   events_in_order (call ∷ sending) events answers = events_in_order sending events answers
 
 -- a byte and its outcome are what the output's calls show; only a write sends a byte
-none_sent : (sending : Sending) (bytes : List ℕ) → [] ≡ bytes → IsTrue (beq (is_sent (sent_in sending)) (not_empty bytes))
-    → AreSendings (outcome_of (sent_in sending)) [] []
-none_sent sending bytes none fits = grind arith
-
-sendings : (dlab loopback : Bool) (op : Op) (sending : Sending)
-    → IsTrue (beq (is_sent (sent_in sending)) (not_empty (sent_by (kind_of dlab loopback op))))
-    → AreSendings (outcome_of (sent_in sending)) (bytes_sent op (sent_in sending)) (out_calls op sending)
-sendings dlab loopback (Write offset value) sending fits = grind arith
-sendings dlab loopback op sending fits = none_sent sending _ (call_written dlab loopback op (sent_in sending) fits) fits
-
 pub sendings_of : (dlab loopback : Bool) (op : Op) (sent : Sent) (sending : Sending)
     → IsTrue (beq (is_sent sent) (not_empty (sent_by (kind_of dlab loopback op)))) → sent ≡ sent_in sending
     → AreSendings (outcome_of sent) (bytes_sent op sent) (out_calls op sending)
-sendings_of dlab loopback op sent sending fits same =
-    subst (λ sent. AreSendings (outcome_of sent) (bytes_sent op sent) (out_calls op sending)) (sym same)
-    (sendings dlab loopback op sending
-    (subst (λ sent. IsTrue (beq (is_sent sent) (not_empty (sent_by (kind_of dlab loopback op))))) same fits))
+sendings_of dlab loopback op sent sending fits same = grind arith
 
 module _ {T E EV W : Type 0} (trigger : Link T (TriggerAnswer E)) (events : Link EV Event) (contents : W → Option (List ℕ)) where
   abbrev link : Link (Three T EV (WriterOut W)) (ObjectCall E)

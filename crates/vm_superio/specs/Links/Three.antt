@@ -1,8 +1,7 @@
 -- The link of three objects that serve as one: each is linked by its own calls of the list.
 use Rattle.std.specs.Prelude.{◌≡◌, ◌↔◌, List, [], ◌∷◌, ◌++◌}
 use Rattle.std.proofs.Common.{refl, ap, ◌∙◌, subst}
-use Rattle.vm_superio.specs.declared.serial.objects.Three.{Three}
-use Rattle.superio_core.specs.Serial.Operations.{Event}
+use Rattle.vm_superio.specs.Serial.{Three, Event}
 use Rattle.vm_superio.specs.Links.{OutCall, Link, TriggerAnswer, ObjectCall, ToTrigger, ToOut, ToEvents, answers_in, out_calls_in, events_in}
 
 module _ {E : Type 0} where

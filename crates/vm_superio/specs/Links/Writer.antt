@@ -5,9 +5,8 @@ use Rattle.std.specs.List.{list_all}
 use Rattle.std.specs.Io.KnownBytes.{Appends}
 use Rattle.std.specs.declared.io.Error.{Error}
 use Rattle.std.proofs.Common.{ap}
-use Rattle.vm_superio.specs.Serial.{Sent, Op, Write, Event, is_lost}
+use Rattle.vm_superio.specs.Serial.{Sent, Op, Write, Event, is_lost, WriterOut}
 use Rattle.vm_superio.specs.Links.{OutCall, Put, Flush, WriterCalls, Link, TriggerAnswer, WriterCalls-append}
-use Rattle.vm_superio.specs.declared.serial.objects.WriterOut.{WriterOut}
 
 -- what the types of a port's trigger, events object and output state
 pub record PortLinks (T E EV W : Type 0) : Type 1 where

@@ -6,8 +6,8 @@ use Rattle.std.specs.Prelude.{◌≡◌, ⊤, ℕ, Bool, not, ◌==◌, ◌||◌
 use Rattle.std.specs.List.{list_all}
 use Rattle.vm_superio.specs.Serial.{with_bits, without_bits, lsr_dr_bit, State, not_empty, Rda, Thre, register_at, identification_of, register_read, Asked, Sent, Op, Read, Write, Enqueue, CharacterTimeout, Restore, TraceEntry, Response, ByteRead, EnqueueOk, TimeoutOk, TriggerRefused, FifoFull, NoResponse, is_refused_at_once, is_lost, recorded_write_response, Trace, OpKind, RbrRead, sent_by, Event, buffer_read, out_byte, tx_lost_byte, in_buffer_empty}
 use Rattle.vm_superio.specs.Links.Writer.{outcome_of}
-use Rattle.vm_superio.specs.Serial.History.Registers.{kind_at, dlab, loopback, with_last_writes, accepted_by, held_bytes}
-use Rattle.vm_superio.specs.Serial.History.Interrupts.{is_pending, trigger_calls}
+pub use Rattle.vm_superio.specs.Serial.History.Registers.{kind_at, dlab, loopback, with_last_writes, accepted_by, held_bytes, taken_bytes, value_written_at, last_found, taken_by, remaining_bytes, accepted_bytes, interrupt_enable}
+pub use Rattle.vm_superio.specs.Serial.History.Interrupts.{is_pending, trigger_calls, op_kinds, shows_waiting_bytes, is_well_formed_entry, restore_calls_due, is_well_formed, raises_rda, acknowledges, raises_thre, rda_raised, rda_pending, is_raised, is_call_due, has_waiting_bytes, pending_since, NoneAcknowledges, IsWithinBound, WaitingBytesShow, TimeoutsShow}
 
 abbrev pub interrupt_identification : (start : State) (trace : Trace) → ℕ
 interrupt_identification start trace = identification_of (is_pending Thre start trace) (is_pending Rda start trace)

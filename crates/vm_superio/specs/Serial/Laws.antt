@@ -7,9 +7,7 @@ use Rattle.std.specs.Prelude.{◌≡◌, Bool, List, [], ◌∷◌, IsTrue}
 use Rattle.vm_superio.specs.Serial.{Asked, Sent, Op, Restore, TraceEntry, Response, NoResponse, Trace, sent_by, has_bits, lsr_dr_bit, State, not_empty, identification_of, Coherent, step, step_response, step_events, step_calls, is_admissible, restore_calls}
 use Rattle.vm_superio.specs.Links.Writer.{bytes_sent}
 pub use Rattle.vm_superio.specs.Serial.History.Registers.{RegistersAgree}
-use Rattle.vm_superio.specs.Serial.History.Registers.{kind_at, held_bytes}
-use Rattle.vm_superio.specs.Serial.History.Interrupts.{is_well_formed_entry, is_well_formed, restore_calls_due}
-use Rattle.vm_superio.specs.Serial.History.{calls_due, history_events, interrupt_identification, line_status, state_of_history, history_response, ResponsesAre}
+use Rattle.vm_superio.specs.Serial.History.{calls_due, history_events, interrupt_identification, line_status, state_of_history, history_response, ResponsesAre, kind_at, held_bytes, is_well_formed_entry, is_well_formed, restore_calls_due}
 use Rattle.vm_superio.specs.Serial.Run.{trace_after}
 
 -- the state that the steps of a trace lead to

@@ -1,8 +1,7 @@
 -- The records of a run as a trace.
 pub mod HistoryTheorem
 pub mod Three
-use Rattle.std.specs.Prelude.{◌≡◌, ⊤, List, [], ◌∷◌, Bool, true, false, not, Option, None}
-use Rattle.std.specs.List.{filter}
+use Rattle.std.specs.Prelude.{◌≡◌, ⊤, List, [], ◌∷◌, Bool, true, false, not, Option, None, filter}
 use Rattle.std.specs.declared.io.Error as io
 pub use Rattle.vm_superio.specs.declared.run.Act.{Act}
 pub use Rattle.vm_superio.specs.declared.run.Reply.{Reply}

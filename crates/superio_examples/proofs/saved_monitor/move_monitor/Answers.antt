@@ -1,12 +1,10 @@
 -- What was saved is one machine.
-use Rattle.std.proofs.Common.{◌≡◌, Result, Ok, Err, sym, ◌∙◌}
-use Rattle.std.specs.Prelude.{IfOk}
+use Rattle.std.proofs.Common.{◌≡◌, Result, Ok, Err, sym, ◌∙◌, IfOk}
 use Rattle.superio_core.specs.Saved.{IsClock}
 use Rattle.superio_core.proofs.Lemmas.Saved.{one_serial_state, one_clock_state}
 use Rattle.vm_superio.specs.declared.saved.Error.{Error}
-use Rattle.superio_examples.specs.Monitor.{Machine, machine_of}
+use Rattle.superio_examples.specs.Monitor.{Machine, machine_of, Monitor}
 use Rattle.superio_examples.specs.SavedMonitor.{IsSavedAs}
-use Rattle.superio_examples.specs.declared.monitor.Monitor.{Monitor}
 use Rattle.superio_examples.specs.declared.saved_monitor.SavedMonitor.{SavedMonitor}
 use Rattle.superio_examples.proofs.saved_monitor.move_monitor.Goals as goal
 

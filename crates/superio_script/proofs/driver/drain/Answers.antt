@@ -1,11 +1,7 @@
 -- A read of LCR or LSR changes nothing, and a read of RBR is the next one of those that take all bytes.
 use Rattle.vm_superio.specs.Links.{WriterCalls}
 use Rattle.std.proofs.Common.{[], ◌∷◌, ◌++◌, sym, ap, ◌∙◌, subst, append_assoc, append-nil, refl, arith}
-use Rattle.superio_core.specs.Bits.{has_bits}
-use Rattle.superio_core.specs.Serial.Operations.{Other}
-use Rattle.superio_core.specs.Serial.{State}
-use Rattle.vm_superio.specs.Serial.{Port}
-use Rattle.superio_core.specs.Serial.RegisterMap.{is_dlab}
+use Rattle.vm_superio.specs.Serial.{Port, has_bits, Other, State, is_dlab}
 use Rattle.superio_script.specs.Driver.{ReadsWhileReady}
 use Rattle.superio_script.proofs.DriverLemmas.{reads_left-few, lcr_read, lsr_read, pass, coherent_after, takes_all}
 use Rattle.superio_script.proofs.driver.drain.Goals as goal

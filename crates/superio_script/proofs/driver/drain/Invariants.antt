@@ -1,8 +1,7 @@
 -- What was read so far, and that the reads that are to come make it whole.
 use Rattle.vm_superio.specs.Links.{WriterCalls}
 use Rattle.std.proofs.Common.{◌≡◌, ◌≤◌, ◌+◌, ◌++◌, length, false, List, ℕ}
-use Rattle.vm_superio.specs.Serial.{Port}
-use Rattle.superio_core.specs.Serial.RegisterMap.{is_dlab}
+use Rattle.vm_superio.specs.Serial.{Port, is_dlab}
 use Rattle.superio_script.specs.Driver.{ReadsWhileReady}
 use Rattle.superio_script.proofs.DriverLemmas.{reads_left}
 use Rattle.superio_script.proofs.driver.drain.Given as goal

@@ -1,7 +1,7 @@
 -- A write takes a first part of the rest, and none of it at a fault.
 use Rattle.std.proofs.Common.{◌≡◌, Bor, ℕ, List, refl, ap, sym, ◌∙◌, ◌++◌, [], subst, append-nil, length, rules}
 use Rattle.std.proofs.lemmas.List.{nil_from_length}
-use Rattle.std.specs.Io.KnownBytes.{Appends, WriteAppends}
+use Rattle.std.specs.Io.KnownBytes.{Appends}
 use Rattle.vm_superio.proofs.Lemmas.{Appends-nothing}
 use Rattle.superio_script.proofs.ScriptLemmas.{WritesFirst-kept, WritesFirst-more}
 use Rattle.superio_script.proofs.script.print.Goals.{in-Ok, in-Err}

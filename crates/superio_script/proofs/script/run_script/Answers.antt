@@ -4,7 +4,7 @@ use Rattle.std.proofs.lemmas.Option.{IfSome_then}
 use Rattle.std.proofs.KnownBytes.{Keeps-refl}
 use Rattle.superio_script.specs.Script.{RunsUpTo, WritesPartOf}
 use Rattle.superio_script.proofs.ScriptLemmas.{IfSome-always, WritesPart-nothing, WritesPart-kept}
-use Rattle.superio_script.proofs.SplittingLemmas.{length-lines_of-le}
+use Rattle.superio_script.proofs.LineLemmas.{length-lines_of-le}
 use Rattle.superio_script.proofs.script.run_script.Goals as goal
 
 pub write_replies-requires : goal.write_replies-requires

@@ -1,15 +1,11 @@
 -- A restore, whether its calls were accepted or one was refused. Without memory it has no reply.
 use Rattle.std.proofs.Common.{◌≡◌, ap, sym, ◌∙◌, subst}
+use Rattle.vm_superio.specs.Serial.{Port, restore_calls}
 use Rattle.vm_superio.specs.declared.serial.errors.Error.TheVariants.{Memory}
-use Rattle.vm_superio.specs.Serial.{Port}
 use Rattle.vm_superio.specs.Saved.{state_of}
-use Rattle.superio_core.specs.Serial.Step.Raising.{restore_calls}
 use Rattle.vm_superio.specs.Serial.Step.{RefusesRestore}
 use Rattle.vm_superio.specs.Links.{all_ok}
-use Rattle.superio_script.specs.Objects.{InterruptLineLink}
-use Rattle.superio_script.specs.declared.trigger.Line.{Line}
-use Rattle.superio_script.specs.declared.counts.Counts.{Counts}
-use Rattle.superio_script.specs.declared.output.Output.{Output}
+use Rattle.superio_script.specs.Objects.{InterruptLineLink, Line, Counts, Output}
 use Rattle.superio_script.proofs.SerialScriptLemmas.{restore-accepts, restore-refuses}
 use Rattle.superio_script.proofs.serial_lines.restore_from.Goals as goal
 

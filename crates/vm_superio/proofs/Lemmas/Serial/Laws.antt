@@ -1,19 +1,15 @@
 -- The register law: one call leaves in each register what it wrote there, and otherwise what was there.
 pub mod Consequences
 pub mod InterruptDriver
-pub mod InterruptLine
 pub mod Interrupts
 pub mod OneCall
 pub mod Reads
 pub mod StepsOfHistory
-pub mod TurnedBits
-pub mod WholeRunsOfPorts
 use Rattle.std.proofs.Common.{rules, ◌≡◌, ℕ, Bool, List, [], ◌∷◌, Option, Some, None, refl, ap, sym, ◌∙◌, arith, subst, ◌++◌, length, drop, append_assoc, append-nil, length-append, if◌then◌else◌, unwrap_or}
 use Rattle.std.specs.Option.{option_or, option_map_or}
 use Rattle.std.proofs.Math.Seq.{drop-append-add}
 use Rattle.vm_superio.specs.Serial.{Asked, Op, TraceEntry, OpKind, kind_of, State, not_empty, only_bits, has_bits, is_dlab, is_loopback, step, kind_in_state}
-use Rattle.vm_superio.specs.Serial.History.Registers.{value_written_at, last_found, dlab, kind_at, accepted_by, taken_by, remaining_bytes, accepted_bytes, taken_bytes, held_bytes}
-use Rattle.vm_superio.specs.Serial.History.{state_of_history, with_data_ready, line_status}
+use Rattle.vm_superio.specs.Serial.History.{state_of_history, with_data_ready, line_status, value_written_at, last_found, dlab, kind_at, accepted_by, taken_by, remaining_bytes, accepted_bytes, taken_bytes, held_bytes}
 use Rattle.vm_superio.specs.Serial.Laws.{RegisterLaw, state_after, HeldBytesLaw, LineStatusLaw}
 use Rattle.superio_core.proofs.Lemmas.Serial.Step.{SameBytes, by_kind, next_by_kind}
 use Rattle.vm_superio.specs.Serial.Laws.Consequences.{TakenThenHeldLaw}
@@ -46,31 +42,17 @@ call_done s op asked = record {
 
 -- ---- any trace
 
-unwrap_or-or : (one other : Option ℕ) (byte : ℕ)
-    → unwrap_or (option_or one other) byte ≡ unwrap_or one (unwrap_or other byte)
-unwrap_or-or None other byte = refl
-unwrap_or-or (Some value) other byte = refl
-
-option_map_or-or : (f : ℕ → ℕ) (one other : Option ℕ) (byte : ℕ)
-    → option_map_or f (option_or one other) byte ≡ option_map_or f one (option_map_or f other byte)
-option_map_or-or f None other byte = refl
-option_map_or-or f (Some value) other byte = refl
-
 -- what the newest entry left of what the others left is what the whole trace says
 more : (found : List TraceEntry → Op → Option ℕ) (entry : TraceEntry) (trace : List TraceEntry) (byte old new : ℕ)
     → old ≡ unwrap_or (last_found found trace) byte → new ≡ unwrap_or (found trace entry.op) old
     → new ≡ unwrap_or (last_found found (entry ∷ trace)) byte
-more found entry trace byte old new before step =
-    step ∙ ap (unwrap_or (found trace entry.op)) before
-    ∙ sym (unwrap_or-or (found trace entry.op) (last_found found trace) byte)
+more found entry trace byte old new before step = grind arith
 
 more_masked : (found : List TraceEntry → Op → Option ℕ) (entry : TraceEntry) (trace : List TraceEntry) (byte old new : ℕ)
     → old ≡ option_map_or (λ value. only_bits value 0x0F) (last_found found trace) byte
     → new ≡ option_map_or (λ value. only_bits value 0x0F) (found trace entry.op) old
     → new ≡ option_map_or (λ value. only_bits value 0x0F) (last_found found (entry ∷ trace)) byte
-more_masked found entry trace byte old new before step =
-    step ∙ ap (option_map_or (λ value. only_bits value 0x0F) (found trace entry.op)) before
-    ∙ sym (option_map_or-or (λ value. only_bits value 0x0F) (found trace entry.op) (last_found found trace) byte)
+more_masked found entry trace byte old new before step = grind arith
 
 pub register_law : RegisterLaw
 register_law start [] = search rules

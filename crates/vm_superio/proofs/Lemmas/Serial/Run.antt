@@ -8,10 +8,7 @@ use Rattle.vm_superio.specs.Serial.Run.{fault_in_reply, Call, Done, act_of, IsRe
 use Rattle.vm_superio.specs.Links.{Link, ObjectCall, answers_of, all_ok, RefusesOwnState, ToTrigger, ToOut, ToEvents, raised}
 use Rattle.vm_superio.specs.Serial.Step.ObjectStep.{OnePort, IsCallStep, IsRun, Sending, NotSent, sent_in, out_calls, calls_of, IsObjectStep}
 use Rattle.vm_superio.specs.Serial.{Asked, Sent, Op, TraceEntry, Response, State, Coherent, step, step_response, step_events, is_admissible, restore_calls}
-use Rattle.vm_superio.specs.declared.run.Call.TheVariants.{Read, Write, Enqueue, CharacterTimeout, Restore}
-use Rattle.vm_superio.specs.Serial.History.Registers.{taken_bytes}
-use Rattle.vm_superio.specs.Serial.History.Interrupts.{restore_calls_due}
-use Rattle.vm_superio.specs.Serial.History.{ResponsesAre, history_response, bytes_read, state_of_history}
+use Rattle.vm_superio.specs.Serial.History.{ResponsesAre, history_response, bytes_read, state_of_history, taken_bytes, restore_calls_due}
 use Rattle.vm_superio.specs.Serial.Run.HistoryTheorem.{calls_at, ObjectSegment, ObjectAtRestore, next_object_segment, ObjectsAre, HistoryTheorem}
 use Rattle.vm_superio.specs.Serial.Laws.{StepsFollow}
 use Rattle.vm_superio.specs.Serial.Laws.Consequences.{op_and_asked, ops_and_asked}
@@ -20,8 +17,6 @@ use Rattle.vm_superio.proofs.Lemmas.Serial.Laws.Consequences.{trigger_bound_law,
 use Rattle.vm_superio.proofs.Lemmas.Serial.Laws.{taken_then_held}
 use Rattle.vm_superio.proofs.Lemmas.Serial.Laws.Reads.{read_then_held, same_reads_law}
 use Rattle.vm_superio.proofs.Lemmas.Serial.Laws.InterruptDriver.{timeouts_show_law}
-use Rattle.superio_core.specs.declared.trace.Asked.TheVariants as answers
-use Rattle.superio_core.specs.declared.trace.Sent.TheVariants as outcome
 use Rattle.vm_superio.specs.declared.run.Act.TheVariants as act
 use Rattle.superio_core.specs.Serial.Operations as operation
 
@@ -44,10 +39,8 @@ ok_follows P Q (Err error) follows holds = tt
 -- ---- the entries of a run follow each other by steps, so the laws hold for them: the history theorem
 
 -- a restore records no trigger answers and no sent byte
-restore_admissible : (s : State) (asked : Asked) (sent : Sent) → asked ≡ answers.Nothing → sent ≡ outcome.Nothing → IsTrue (is_admissible s operation.Restore asked sent)
-restore_admissible s asked sent no_call no_byte =
-    subst (λ a. IsTrue (is_admissible s operation.Restore a sent)) (sym no_call)
-    (subst (λ b. IsTrue (is_admissible s operation.Restore answers.Nothing b)) (sym no_byte) refl)
+restore_admissible : (s : State) (asked : Asked) (sent : Sent) → asked ≡ Asked.Nothing → sent ≡ Sent.Nothing → IsTrue (is_admissible s operation.Restore asked sent)
+restore_admissible s asked sent no_call no_byte = grind arith
 
 -- only a restore counts as one
 op_of-restore : (call : Act) → not (is_restore call) ≡ false → op_of call ≡ operation.Restore
@@ -65,13 +58,13 @@ module _ {O E : Type 0} (link : Link O (ObjectCall E)) where
   EntryFollows-call :
       (call : Call O) (asked : Asked) (sent : Sent) (reply : Reply O E) (old next : OnePort O) →
       IsCallStep link call asked sent reply old next → EntryFollows old.state (act_of call) asked sent reply next.state
-  EntryFollows-call (Read offset) asked sent (Byte byte) old next h = record { admissible = h.admissible; response = h.response; state = h.state; of = tt }
-  EntryFollows-call (Write offset value) asked sent (Wrote answer) old next h = record { admissible = h.admissible; response = h.response; state = h.state; of = tt }
-  EntryFollows-call (Enqueue bytes) asked sent (Enqueued answer) old next h = record { admissible = h.admissible; response = h.response; state = h.state; of = tt }
-  EntryFollows-call CharacterTimeout asked sent (TimedOut answer) old next h = record { admissible = h.admissible; response = h.response; state = h.state; of = tt }
-  EntryFollows-call (Restore object) asked sent (Restored before) old next h =
+  EntryFollows-call (Call.Read offset) asked sent (Byte byte) old next h = record { admissible = h.admissible; response = h.response; state = h.state; of = tt }
+  EntryFollows-call (Call.Write offset value) asked sent (Wrote answer) old next h = record { admissible = h.admissible; response = h.response; state = h.state; of = tt }
+  EntryFollows-call (Call.Enqueue bytes) asked sent (Enqueued answer) old next h = record { admissible = h.admissible; response = h.response; state = h.state; of = tt }
+  EntryFollows-call Call.CharacterTimeout asked sent (TimedOut answer) old next h = record { admissible = h.admissible; response = h.response; state = h.state; of = tt }
+  EntryFollows-call (Call.Restore object) asked sent (Restored before) old next h =
       record { admissible = restore_admissible old.state asked sent h.0 h.1; response = refl; state = h.3; of = tt }
-  EntryFollows-call (Restore object) asked sent (NotRestored refused) old next h =
+  EntryFollows-call (Call.Restore object) asked sent (NotRestored refused) old next h =
       record { admissible = restore_admissible old.state asked sent h.0 h.1; response = refl; state = ap (λ (port : OnePort O). port.state) h.3; of = tt }
   EntryFollows-call _ asked sent _ old next h = absurd h
 
@@ -199,15 +192,15 @@ module _ {O E : Type 0} (link : Link O (ObjectCall E)) where
         (reply : Reply O E) (old next : OnePort O) →
         old.state ≡ state_of_history start trace → link segment.initial segment.calls old.objects →
         IsCallStep link call asked sent reply old next → Made-by trace segment call (act_of call) asked sent reply next
-    Object-call trace segment (Read offset) asked sent (Byte byte) old next here before h =
+    Object-call trace segment (Call.Read offset) asked sent (Byte byte) old next here before h =
         own_calls trace segment _ asked sent _ _ _ old next here before h
-    Object-call trace segment (Write offset value) asked sent (Wrote answer) old next here before h =
+    Object-call trace segment (Call.Write offset value) asked sent (Wrote answer) old next here before h =
         own_calls trace segment _ asked sent _ _ _ old next here before h
-    Object-call trace segment (Enqueue bytes) asked sent (Enqueued answer) old next here before h =
+    Object-call trace segment (Call.Enqueue bytes) asked sent (Enqueued answer) old next here before h =
         own_calls trace segment _ asked sent _ _ _ old next here before h
-    Object-call trace segment CharacterTimeout asked sent (TimedOut answer) old next here before h =
+    Object-call trace segment Call.CharacterTimeout asked sent (TimedOut answer) old next here before h =
         own_calls trace segment _ asked sent _ _ _ old next here before h
-    Object-call trace segment (Restore object) asked sent (Restored was) old next here before h =
+    Object-call trace segment (Call.Restore object) asked sent (Restored was) old next here before h =
         let called = subst (λ due. raised link object (all_ok due) next.objects) (restoring trace old.state here) h.4 in
         record {
           at_restore = (subst (λ object. link segment.initial segment.calls object) (sym h.2) before, (next.objects, called));
@@ -216,7 +209,7 @@ module _ {O E : Type 0} (link : Link O (ObjectCall E)) where
           answered = tt;
           linked = called;
         }
-    Object-call trace segment (Restore object) asked sent (NotRestored refused) old next here before h = record {
+    Object-call trace segment (Call.Restore object) asked sent (NotRestored refused) old next here before h = record {
       at_restore = subst (λ due. RefusesOwnState (raised link) due refused.error object refused.objects) (restoring trace old.state here) h.2;
       sending = NotSent;
       outcome = h.1;

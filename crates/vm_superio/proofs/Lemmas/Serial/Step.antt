@@ -1,40 +1,31 @@
 -- A call that leaves IER 0 calls no trigger, and one that sends no byte leaves the writer.
-use Rattle.std.proofs.Common.{◌≡◌, ℕ, Bool, true, false, ◌&&◌, List, [], ◌∷◌, refl, ap, sym, ◌∙◌, subst, IsTrue, Option, ◌↔◌, Result, Ok, Err, OnOk, ◌-◌, ◌<◌, min, ◌||◌, ◌==◌, ◌++◌, length, take, arith, Some, IfErr, nat_le, length-append, if◌then◌else◌, leb-true}
+use Rattle.std.proofs.Common.{◌≡◌, ℕ, Bool, true, false, ◌&&◌, List, [], refl, ap, sym, ◌∙◌, subst, IsTrue, Option, ◌↔◌, Result, Ok, Err, OnOk, ◌-◌, ◌<◌, min, ◌||◌, ◌==◌, ◌++◌, length, take, arith, Some, IfErr, nat_le, length-append, if◌then◌else◌, leb-true}
 use Rattle.std.specs.Bool.{beq}
 use Rattle.std.proofs.lemmas.List.{length-take, take_min}
 use Rattle.vm_superio.specs.Serial.{Coherent, is_line_up, Error, Port, write_response, enqueue_response, timeout_response, failure_response, refusal_in_result, Trigger, IOError, FullFifo, Memory, Asked, Sent, Op, Response, Write, Enqueue, CharacterTimeout, is_sent, is_lost, ends_in_refusal, WriteOk, TriggerRefused, WriterFailed, sent_by, write_kind, EnqueueOk, TimeoutOk, FifoFull, OutOfMemory, is_refused_at_once, has_bits, State, not_empty, SameSettings, Register, register_at, is_dlab, is_loopback, receive_bytes, bytes_that_fit, enqueued_bytes, step_calls, kind_in_state, answers_all, sends_byte, step, write_step}
-use Rattle.superio_core.specs.declared.trace.Asked.TheVariants.{Nothing}
 use Rattle.vm_superio.specs.Links.{answers_of, OutCall}
 use Rattle.vm_superio.specs.Links.Writer.{PortLinks, bytes_sent, outcome_of, AreSendings, taken_calls}
 use Rattle.vm_superio.specs.Serial.Step.{IsPortStep, ShowsMore, WriteFate, EnqueueFate, TimeoutFate}
 use Rattle.vm_superio.proofs.Lemmas.Serial.Laws.OneCall.{received_bytes}
 use Rattle.vm_superio.proofs.Lemmas.Serial.{length-answers_of-step}
-use Rattle.superio_core.specs.declared.trace.Sent.TheVariants as was
 use Rattle.std.proofs.lemmas.Bool.{and_parts, false≢true}
 use Rattle.vm_superio.specs.Serial.Laws.Line.{is_called}
 use Rattle.vm_superio.proofs.Lemmas.Serial.Laws.Consequences.{call_written}
-use Rattle.vm_superio.proofs.Lemmas.Serial.Laws.InterruptLine.{up_after_call}
+use Rattle.vm_superio.proofs.Lemmas.Serial.Laws.Interrupts.{up_after_call}
 use Rattle.superio_core.proofs.Lemmas.Serial.Coherence.{coherence_law}
 
 -- received bytes leave every setting, IER among them
 pub settings_kept : (bytes : List ℕ) (s : State) → SameSettings s (receive_bytes bytes s)
-settings_kept [] s = refl
-settings_kept (byte ∷ bytes) s = refl
+settings_kept bytes s = grind arith
 
 -- ---- a call that leaves IER 0 calls no trigger: a call of it would leave the line up
 
-neither : (thre rda : Bool) → ((thre && false) || (rda && false)) ≡ false
-neither thre rda = grind arith
-
 line_down : (s : State) → s.interrupt_enable ≡ 0 → is_line_up s ≡ false
 unfolding has_bits
-line_down s off =
-    ap (λ enable. is_line_up (record s { interrupt_enable = enable })) off
-    ∙ neither (has_bits s.interrupt_identification 0x02) (has_bits s.interrupt_identification 0x04)
+line_down s off = grind arith
 
 unasked : {E : Type 0} (asked : Asked) (refusal : Option E) → (IsTrue (is_called asked) → ⊥) → answers_of asked refusal ≡ []
-unasked Nothing refusal silent = refl
-unasked _ refusal silent = absurd (silent refl)
+unasked asked refusal silent = grind arith
 
 pub quiet : {T E EV W : Type 0} {links : PortLinks T E EV W} {op : Op} {asked : Asked} {sent : Sent} {reply : Response}
     {refusal : Option E} {old new : Port T EV W} → IsPortStep links op asked sent reply refusal old new
@@ -46,7 +37,7 @@ quiet {links = links} {op = op} {asked = asked} {sent = sent} {refusal = refusal
 
 -- a call that sends no byte leaves the writer
 unsent : (answered sends : Bool) (sent : Sent) → sends ≡ false → IsTrue (answered && beq (is_sent sent) sends)
-    → sent ≡ was.Nothing
+    → sent ≡ Sent.Nothing
 unsent answered sends sent none made = grind arith
 
 no_outcome : (bytes : List ℕ) (calls : List OutCall) → AreSendings [] bytes calls → calls ≡ []
@@ -114,7 +105,7 @@ sends-lost answered sends refused sent failed made = grind arith
 
 -- a write that sends a byte changes the registers alike whatever the trigger answers
 sends-alike : (register : Register) (inside : Bool) (value : ℕ) (asked : Asked) (s : State)
-    → IsTrue (not_empty (sent_by (write_kind register inside value))) → write_step register value asked s ≡ write_step register value Nothing s
+    → IsTrue (not_empty (sent_by (write_kind register inside value))) → write_step register value asked s ≡ write_step register value Asked.Nothing s
 sends-alike register inside value asked s sends = grind arith
 
 never-full : (refused lost : Bool) → FifoFull ≡ (if refused then TriggerRefused else (if lost then WriterFailed else WriteOk)) → ⊥

@@ -2,9 +2,7 @@
 use Rattle.std.specs.Prelude.{◌≡◌, ◌↔◌, ◌⊎◌, ℕ, List, [], ◌∷◌, ◌++◌, IsTrue, Bool, true, false, not, ◌==◌, ◌&&◌, ◌||◌}
 use Rattle.vm_superio.specs.Serial.{Asked, Op, Restore, TraceEntry, Response, Trace, Read, ByteRead, OpKind, RbrRead, is_rbr_read, has_bits, State, lsr_dr_bit, Condition, iir_bit}
 use Rattle.vm_superio.specs.Links.Writer.{bytes_sent}
-use Rattle.vm_superio.specs.Serial.History.Registers.{accepted_bytes, taken_bytes, held_bytes, kind_at}
-use Rattle.vm_superio.specs.Serial.History.Interrupts.{acknowledges, is_raised, is_pending, is_well_formed, NoneAcknowledges, IsWithinBound, WaitingBytesShow}
-use Rattle.vm_superio.specs.Serial.History.{guest_read, ResponsesAre, bytes_read, output}
+use Rattle.vm_superio.specs.Serial.History.{guest_read, ResponsesAre, bytes_read, output, accepted_bytes, taken_bytes, held_bytes, kind_at, acknowledges, is_raised, is_pending, is_well_formed, NoneAcknowledges, IsWithinBound, WaitingBytesShow}
 use Rattle.vm_superio.specs.Serial.Run.{trace_after}
 
 -- ---- pending

@@ -1,9 +1,7 @@
 -- The laws of a character timeout: after it no byte waits without an interrupt.
-use Rattle.std.specs.Prelude.{◌≡◌, false, ◌∷◌, IsTrue, ℕ, zero, suc, ◌≤◌, ◌<◌, List, ◌++◌, length, ◌⊎◌, Bool, true, not, ◌==◌, ◌&&◌, ◌||◌}
-use Rattle.std.specs.Bool.{IsFalse}
+use Rattle.std.specs.Prelude.{◌≡◌, false, ◌∷◌, IsTrue, ℕ, zero, suc, ◌≤◌, ◌<◌, List, ◌++◌, length, ◌⊎◌, Bool, true, not, ◌==◌, ◌&&◌, ◌||◌, IsFalse}
 use Rattle.vm_superio.specs.Serial.{Asked, Sent, CharacterTimeout, TraceEntry, Trace, IirRead, Op, answer_count, OpKind, RbrRead, IerWrite, has_bits, only_bits, State, not_empty, ier_bits, Rda, Thre, Condition, ier_bit, identification_of, step, kind_in_state, is_admissible, is_asserted, is_line_up}
-use Rattle.vm_superio.specs.Serial.History.Registers.{interrupt_enable, held_bytes, kind_at, taken_bytes}
-use Rattle.vm_superio.specs.Serial.History.Interrupts.{is_pending, is_call_due, is_well_formed, TimeoutsShow}
+use Rattle.vm_superio.specs.Serial.History.{interrupt_enable, held_bytes, kind_at, taken_bytes, is_pending, is_call_due, is_well_formed, TimeoutsShow}
 use Rattle.vm_superio.specs.Serial.Laws.{state_after}
 
 abbrev pub timeout_entry : (asked : Asked) → TraceEntry

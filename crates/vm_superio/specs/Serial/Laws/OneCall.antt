@@ -2,8 +2,7 @@
 use Rattle.std.specs.Prelude.{◌≡◌, ℕ, Bool, true, false, List, ◌∷◌, ◌++◌, ◌<◌, ◌&&◌, length, count_by, IsTrue}
 use Rattle.vm_superio.specs.Serial.{Asked, Sent, Op, Read, Write, Response, ByteRead, WriteOk, Event, out_byte, tx_lost_byte, answer_count, is_sent, sent_by, has_bits, lsr_dr_bit, State, not_empty, Thre, is_dlab, is_loopback, raise, receive_bytes, step, step_response, step_events, kind_in_state, is_admissible}
 use Rattle.vm_superio.specs.Serial.Step.{turned_on_count}
-use Rattle.vm_superio.specs.Serial.History.Registers.{accepted_by, taken_by}
-use Rattle.vm_superio.specs.Serial.History.{byte_read}
+use Rattle.vm_superio.specs.Serial.History.{byte_read, accepted_by, taken_by}
 
 -- the bytes that a call takes, then those held after it, are those held before it, then those it accepts
 abbrev pub OneCallLaw : Type 0

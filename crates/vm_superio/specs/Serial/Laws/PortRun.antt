@@ -2,9 +2,7 @@
 -- changes nothing, so the start and the operations alone determine every read, interrupt, event and byte sent.
 use Rattle.std.specs.Prelude.{◌≡◌, ⊤, ℕ, ◌+◌, ◌*◌, ◌≤◌, not, ◌==◌, ◌&&◌, ◌||◌, nat_le, if◌then◌else◌, List, [], ◌∷◌, ◌++◌, length, count_by}
 use Rattle.vm_superio.specs.Serial.{Asked, Sent, events_of_read, Read, Write, Enqueue, CharacterTimeout, Restore, TraceEntry, Trace, Op, sent_by, is_iir_read, is_rbr_read, ReadEffects, WriteEffects, EnqueueEffects, State, not_empty, Coherent, restore_calls, IsPortRead, IsPortWrite, IsPortEnqueue, IsPortTimeout}
-use Rattle.vm_superio.specs.Serial.History.Registers.{kind_at, loopback, accepted_by, held_bytes}
-use Rattle.vm_superio.specs.Serial.History.Interrupts.{restore_calls_due, op_kinds}
-use Rattle.vm_superio.specs.Serial.History.{calls_due, history_events, guest_read, output, state_of_history}
+use Rattle.vm_superio.specs.Serial.History.{calls_due, history_events, guest_read, output, state_of_history, kind_at, loopback, accepted_by, held_bytes, restore_calls_due, op_kinds}
 
 -- a call with its effects
 pub data PortCall : Type 0 where

@@ -1,14 +1,11 @@
 -- All calls of the port's object over a run from a coherent start, in order: a function of the start, the calls and the
 -- answers.
 use Rattle.std.specs.Prelude.{◌≡◌, map, List, [], ◌∷◌, ◌++◌, ⊤, Option, IsTrue}
-use Rattle.vm_superio.specs.declared.run.Call.TheVariants.{Restore}
 use Rattle.vm_superio.specs.Serial.{OnePort, State, Trace, TraceEntry, Coherent}
 use Rattle.vm_superio.specs.Links.{Link, answers_of, all_ok, RefusesOwnState, ObjectCall, ToTrigger, ToOut, ToEvents, raised, Sending, sent_in, out_calls}
 use Rattle.vm_superio.specs.Links.Writer.{AnsweredFault}
-use Rattle.vm_superio.specs.Serial.History.{history_events, ResponsesAre, bytes_read, state_of_history}
-use Rattle.vm_superio.specs.Serial.History.Interrupts.{restore_calls_due, is_well_formed, IsWithinBound, WaitingBytesShow, TimeoutsShow}
+use Rattle.vm_superio.specs.Serial.History.{history_events, ResponsesAre, bytes_read, state_of_history, restore_calls_due, is_well_formed, IsWithinBound, WaitingBytesShow, TimeoutsShow, taken_bytes, accepted_bytes}
 use Rattle.vm_superio.specs.Serial.Run.{Call, Reply, Restored, NotRestored, Done, op_of, entry_of, refusal_in_reply, fault_in_reply, RecordsOf, entries_of, trace_of, without_restores, ReadsAre}
-use Rattle.vm_superio.specs.Serial.History.Registers.{taken_bytes, accepted_bytes}
 
 -- the calls of one entry at its point of the trace: its byte is put and flushed, its events are reported, and its
 -- interrupts are raised. The answers are how its byte was sent, and what the interrupts were answered
@@ -37,10 +34,10 @@ module _ {O E : Type 0} (link : Link O (ObjectCall E)) (start : State) where
   -- for the interrupts that are due. The object of a restore that fails is called up to the refusal
   abbrev pub ObjectAtRestore :
       (trace : Trace) (segment : ObjectSegment O E) (call : Call O) (reply : Reply O E) → Type 0
-  ObjectAtRestore trace segment (Restore object) (Restored old) =
+  ObjectAtRestore trace segment (Call.Restore object) (Restored old) =
       link segment.initial segment.calls old
       × ((now : O) × raised link object (all_ok (restore_calls_due start trace)) now)
-  ObjectAtRestore trace segment (Restore object) (NotRestored refused) =
+  ObjectAtRestore trace segment (Call.Restore object) (NotRestored refused) =
       RefusesOwnState (raised link) (restore_calls_due start trace) refused.error object refused.objects
   ObjectAtRestore trace segment call reply = ⊤
 
@@ -48,9 +45,9 @@ module _ {O E : Type 0} (link : Link O (ObjectCall E)) (start : State) where
   abbrev pub next_object_segment :
       (trace : Trace) (segment : ObjectSegment O E) (call : Call O) (entry : TraceEntry) (sending : Sending)
       (reply : Reply O E) → ObjectSegment O E
-  next_object_segment trace segment (Restore object) entry sending (Restored old) =
+  next_object_segment trace segment (Call.Restore object) entry sending (Restored old) =
       record { initial = object; calls = map ToTrigger (all_ok (restore_calls_due start trace)) }
-  next_object_segment trace segment (Restore object) entry sending reply = segment
+  next_object_segment trace segment (Call.Restore object) entry sending reply = segment
   next_object_segment trace segment call entry sending reply =
       record segment { calls = segment.calls ++ calls_at start trace entry sending (refusal_in_reply reply) }
 

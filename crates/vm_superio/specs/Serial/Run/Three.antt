@@ -2,13 +2,11 @@
 use Rattle.std.specs.Prelude.{ℕ, not, List, [], ◌∷◌, ◌++◌, ⊤, IsTrue, Option}
 use Rattle.std.specs.List.{list_all}
 use Rattle.std.specs.Io.KnownBytes.{Appends}
-use Rattle.vm_superio.specs.declared.run.Call.TheVariants.{Restore}
 use Rattle.vm_superio.specs.Serial.{Three, WriterOut, Port, one_port, State, Asked, Event, TraceEntry, Trace, is_lost}
 use Rattle.vm_superio.specs.Links.{Link, TriggerAnswer, answers_of, all_ok, RefusesOwnState, OutCall, WriterCalls}
 use Rattle.vm_superio.specs.Links.Three.{ThreeLink}
 use Rattle.vm_superio.specs.Links.Writer.{WriterLink, OutLink}
-use Rattle.vm_superio.specs.Serial.History.Interrupts.{restore_calls_due}
-use Rattle.vm_superio.specs.Serial.History.{output, outcomes}
+use Rattle.vm_superio.specs.Serial.History.{output, outcomes, restore_calls_due}
 use Rattle.vm_superio.specs.Serial.Run.{Call, Reply, Restored, NotRestored, Done, entry_of, refusal_in_reply}
 use Rattle.vm_superio.specs.Serial.Run.HistoryTheorem.{HistoryTheorem}
 
@@ -37,7 +35,7 @@ KnownOutputIs contents start segment now =
 abbrev pub next_writer_segment :
     {T E EV W : Type 0} → (segment : WriterSegment W) (entry : TraceEntry) (call : Call (Three T EV (WriterOut W)))
     (reply : Reply (Three T EV (WriterOut W)) E) → WriterSegment W
-next_writer_segment segment entry (Restore objects) (Restored old) =
+next_writer_segment segment entry (Call.Restore objects) (Restored old) =
     record { before = entry ∷ segment.newest ++ segment.before; newest = []; initial = objects.out.writer }
 next_writer_segment segment entry call reply = record segment { newest = entry ∷ segment.newest }
 
@@ -47,7 +45,7 @@ module _ {T E EV W : Type 0} (Holds : (segment : WriterSegment W) (now : W) → 
   abbrev pub OutputAtRestore :
       (segment : WriterSegment W) (call : Call (Three T EV (WriterOut W)))
       (reply : Reply (Three T EV (WriterOut W)) E) → Type 0
-  OutputAtRestore segment (Restore objects) (Restored old) = Holds segment old.out.writer
+  OutputAtRestore segment (Call.Restore objects) (Restored old) = Holds segment old.out.writer
   OutputAtRestore segment call reply = ⊤
 
   -- over calls and their records, to the writer at the end
@@ -73,10 +71,10 @@ module _ {T E EV W : Type 0} (link : Link T (TriggerAnswer E)) (start : State) w
   abbrev pub TriggerAtRestore :
       (trace : Trace) (segment : TriggerSegment T E) (call : Call (Three T EV W)) (reply : Reply (Three T EV W) E)
       → Type 0
-  TriggerAtRestore trace segment (Restore objects) (Restored old) =
+  TriggerAtRestore trace segment (Call.Restore objects) (Restored old) =
       link segment.initial segment.answers old.trigger
       × ((now : T) × link objects.trigger (all_ok (restore_calls_due start trace)) now)
-  TriggerAtRestore trace segment (Restore objects) (NotRestored refused) =
+  TriggerAtRestore trace segment (Call.Restore objects) (NotRestored refused) =
       RefusesOwnState link (restore_calls_due start trace) refused.error objects.trigger refused.objects.trigger
   TriggerAtRestore trace segment call reply = ⊤
 
@@ -84,9 +82,9 @@ module _ {T E EV W : Type 0} (link : Link T (TriggerAnswer E)) (start : State) w
   abbrev pub next_trigger_segment :
       (trace : Trace) (segment : TriggerSegment T E) (call : Call (Three T EV W)) (asked : Asked)
       (reply : Reply (Three T EV W) E) → TriggerSegment T E
-  next_trigger_segment trace segment (Restore objects) asked (Restored old) =
+  next_trigger_segment trace segment (Call.Restore objects) asked (Restored old) =
       record { initial = objects.trigger; answers = all_ok (restore_calls_due start trace) }
-  next_trigger_segment trace segment (Restore objects) asked reply = segment
+  next_trigger_segment trace segment (Call.Restore objects) asked reply = segment
   next_trigger_segment trace segment call asked reply =
       record segment { answers = segment.answers ++ answers_of asked (refusal_in_reply reply) }
 

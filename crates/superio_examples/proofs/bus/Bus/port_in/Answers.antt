@@ -1,4 +1,4 @@
-use Rattle.std.proofs.Common.{Bool, true, false, ◌∷◌, [], take, refl, append_assoc, append-nil, arith}
+use Rattle.std.proofs.Common.{Bool, ◌∷◌, [], take, refl, append_assoc, append-nil, arith}
 use Rattle.std.specs.Bool.{OnTrue}
 use Rattle.std.proofs.lemmas.List.{take_all, take_more_set}
 use Rattle.superio_examples.proofs.bus.Bus.port_in.Goals as goal
@@ -14,8 +14,7 @@ loop-place-preserved g c =
     }
 
 on-true : {P : Type 0} (test : Bool) → P → OnTrue test P
-on-true true holds = holds
-on-true false holds = tt
+on-true test holds = grind arith
 
 pub returns-clause-bytes : goal.returns-clause-bytes
 returns-clause-bytes g c =

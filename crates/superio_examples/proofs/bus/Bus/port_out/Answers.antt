@@ -1,4 +1,4 @@
-use Rattle.std.proofs.Common.{◌≡◌, ◌+◌, ◌<◌, Bool, true, false, Result, Ok, Err, [], ◌∷◌, length, drop, get_or, refl, add-one, drop-cons, arith}
+use Rattle.std.proofs.Common.{◌≡◌, ◌+◌, ◌<◌, Bool, Result, Ok, [], ◌∷◌, length, drop, get_or, refl, add-one, drop-cons, arith}
 use Rattle.std.specs.Bool.{OnTrue}
 use Rattle.std.proofs.Math.Seq.{drop-length}
 use Rattle.std.specs.Result.{result_and}
@@ -6,16 +6,13 @@ use Rattle.superio_examples.proofs.bus.Bus.port_out.Goals as goal
 
 and-then : {E : Type 0} (first second third : Result (Unit {0}) E)
     → result_and first (result_and second third) ≡ result_and (result_and first second) third
-and-then (Ok done) second third = refl
-and-then (Err error) second third = refl
+and-then first second third = grind arith
 
 and-ok : {E : Type 0} (result : Result (Unit {0}) E) → result_and result (Ok tt) ≡ result
-and-ok (Ok done) = refl
-and-ok (Err error) = refl
+and-ok result = grind arith
 
 on-true : {P : Type 0} (test : Bool) → P → OnTrue test P
-on-true true holds = holds
-on-true false holds = tt
+on-true test holds = grind arith
 
 pub loop-byte-preserved : goal.loop-byte-preserved
 loop-byte-preserved g c =

@@ -1,8 +1,7 @@
 -- The bytes that the port took are the first that waited.
 use Rattle.std.proofs.Common.{◌≡◌, length, rules, refl, ap, ◌∙◌}
 use Rattle.std.specs.List.{refill}
-use Rattle.superio_core.specs.Serial.Port.{state_of_port}
-use Rattle.superio_core.specs.Serial.Step.Raising.{enqueued_bytes}
+use Rattle.vm_superio.specs.Serial.{state_of_port, enqueued_bytes}
 use Rattle.superio_examples.proofs.InputLemmas.{few-accepted, drop-accepted, keep-drop}
 use Rattle.superio_examples.proofs.input.Input.feed.Goals as goal
 

@@ -1,7 +1,6 @@
 -- What the events make of the machine keeps the claims.
-use Rattle.std.proofs.Common.{◌≡◌, sym, ap, subst, ◌∙◌, arith}
+use Rattle.std.proofs.Common.{◌≡◌, sym, ap, subst, ◌∙◌, arith, map}
 use Rattle.std.proofs.lemmas.Grind.{common_steps}
-use Rattle.std.specs.Prelude.{map}
 use Rattle.superio_examples.specs.Monitor.{Machine, machine_of, after, replies_to, in_each, left_at, looped_at, typed_by, KeepsInput, KeepsOut, is_reset_reply}
 use Rattle.superio_examples.proofs.MonitorLemmas.{output-run, resets-run, keeps-run, shut-run}
 use Rattle.superio_examples.proofs.monitor.Monitor.run.Goals as goal

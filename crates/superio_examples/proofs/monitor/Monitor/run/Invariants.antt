@@ -1,6 +1,5 @@
 -- What the events that are left make of the machine, after the replies so far, is what all make of the first machine.
-use Rattle.std.proofs.Common.{◌≡◌, ◌++◌, length, drop, vec_len}
-use Rattle.std.specs.Prelude.{vec_capacity}
+use Rattle.std.proofs.Common.{◌≡◌, ◌++◌, length, drop, vec_len, vec_capacity}
 use Rattle.superio_examples.specs.Monitor.{machine_of, after, replies_to}
 use Rattle.superio_examples.proofs.monitor.Monitor.run.Given as goal
 

@@ -4,11 +4,9 @@ use Rattle.vm_superio.specs.Rtc.{ClockDevice}
 use Rattle.vm_superio.specs.Serial.{Port}
 use Rattle.superio_script.specs.Board.{IsBetweenLines, IsSerialLineStep}
 use Rattle.superio_script.specs.ClockScript.{clock_session_after_line}
-use Rattle.superio_script.specs.declared.trigger.Line.{Line}
-use Rattle.superio_script.specs.declared.counts.Counts.{Counts}
+use Rattle.superio_script.specs.Objects.{Line, Counts, Output}
 use Rattle.superio_script.specs.SerialScript.{session_after_line}
 use Rattle.superio_script.specs.declared.command.SerialCommand.{SerialCommand}
-use Rattle.superio_script.specs.declared.output.Output.{Output}
 use Rattle.superio_script.proofs.devices.Board.line.Goals as goal
 
 after-serial_line :

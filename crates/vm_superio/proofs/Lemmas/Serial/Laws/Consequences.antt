@@ -1,11 +1,9 @@
 -- A condition is pending by the entries that raised and acknowledged it.
 use Rattle.std.proofs.Common.{◌≡◌, inl, inr, Bool, true, false, not, ◌&&◌, ◌||◌, List, [], ◌∷◌, ◌++◌, refl, ap, sym, subst, append-nil, ℕ, ◌+◌, ◌*◌, ◌≤◌, ◌==◌, arith, ◌∙◌, IsTrue, ◌⊎◌, if◌then◌else◌, sum_by, count_by}
-use Rattle.std.proofs.lemmas.Bool.{and_parts, false≢true, eqb-true}
+use Rattle.std.proofs.lemmas.Bool.{and_parts, eqb-true}
 use Rattle.std.specs.Bool.{IsFalse, beq}
 use Rattle.std.proofs.lemmas.List.Sums.{sum_by-cons}
 use Rattle.vm_superio.specs.Serial.{State, not_empty, has_bits, Asked, Sent, TraceEntry, OpKind, count_if, answer_count, is_iir_read, is_rbr_read, Op, is_sent, kind_of, sent_by, Condition, Rda, Thre, iir_bit}
-use Rattle.vm_superio.specs.Serial.History.Registers.{kind_at, held_bytes, interrupt_enable, dlab, loopback}
-use Rattle.vm_superio.specs.Serial.History.Interrupts.{pending_since, is_raised, acknowledges, NoneAcknowledges, trigger_calls, is_pending, is_well_formed_entry, is_well_formed, op_kinds, shows_waiting_bytes}
 use Rattle.vm_superio.specs.Serial.Laws.Consequences.{PendingByPrefixesLaw, TriggerBoundLaw, WaitingBytesLaw, OutputLaw}
 use Rattle.vm_superio.specs.Serial.Laws.{state_after}
 use Rattle.superio_core.proofs.Lemmas.Serial.{enables_rda}
@@ -13,7 +11,7 @@ use Rattle.superio_core.proofs.Lemmas.Serial.Step.{by_kind}
 use Rattle.vm_superio.proofs.Lemmas.Serial.Laws.{next_at_point, register_law, held_bytes_law}
 use Rattle.vm_superio.proofs.Lemmas.Serial.Laws.Interrupts.{rda_next}
 use Rattle.vm_superio.specs.Links.Writer.{bytes_sent}
-use Rattle.vm_superio.specs.Serial.History.{output}
+use Rattle.vm_superio.specs.Serial.History.{output, kind_at, held_bytes, interrupt_enable, dlab, loopback, pending_since, is_raised, acknowledges, NoneAcknowledges, trigger_calls, is_pending, is_well_formed_entry, is_well_formed, op_kinds, shows_waiting_bytes}
 
 -- ---- the newest entry, and the others
 
@@ -43,12 +41,10 @@ pub nowhere : (start : State) (acknowledges : OpKind → Bool) (trace : List Tra
 nowhere start acknowledges trace after before entry absent = absurd (nothing_there after before entry absent)
 
 or_true : (b : Bool) → IsTrue (b || true)
-or_true true = refl
-or_true false = refl
+or_true b = grind arith
 
 not_false : (b : Bool) → IsTrue (not b) → IsFalse b
-not_false true e = absurd (false≢true e)
-not_false false e = refl
+not_false b e = grind arith
 
 -- ---- pending by trace prefixes
 
@@ -141,8 +137,7 @@ acknowledged_by : (k : OpKind)
 acknowledged_by k = grind arith
 
 pub one_at_most : (b : Bool) → count_if b ≤ 1
-one_at_most true = omega arith
-one_at_most false = omega arith
+one_at_most b = grind arith
 
 -- the calls that a trace makes as long as none is refused
 abbrev pub due_so_far : (start : State) (trace : List TraceEntry) → ℕ

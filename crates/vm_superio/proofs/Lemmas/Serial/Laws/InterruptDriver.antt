@@ -5,8 +5,7 @@ use Rattle.std.specs.Cmp.Derive.{both_true}
 use Rattle.std.proofs.lemmas.List.{take-append-drop, take-append-le}
 use Rattle.std.proofs.Math.Seq.{take-append_seam}
 use Rattle.vm_superio.specs.Serial.{Rda, Thre, State, not_empty, CharacterTimeout, TraceEntry, Trace, is_refused_at_once, answer_count, count_if, Timeout, OpKind, IirRead}
-use Rattle.vm_superio.specs.Serial.History.Registers.{kind_at, interrupt_enable, held_bytes, accepted_bytes, taken_bytes}
-use Rattle.vm_superio.specs.Serial.History.Interrupts.{acknowledges, raises_rda, raises_thre, rda_raised, rda_pending, is_raised, is_pending, is_call_due, trigger_calls, is_well_formed_entry, is_well_formed, has_waiting_bytes}
+use Rattle.vm_superio.specs.Serial.History.{kind_at, interrupt_enable, held_bytes, accepted_bytes, taken_bytes, acknowledges, raises_rda, raises_thre, rda_raised, rda_pending, is_raised, is_pending, is_call_due, trigger_calls, is_well_formed_entry, is_well_formed, has_waiting_bytes}
 use Rattle.vm_superio.specs.Serial.Laws.Line.{timeout_entry, NoByteWaitsLaw, TimeoutCallsLaw, TimeoutsShowLaw, OwedAfterRunLaw, RunsAtInterrupts, TakenAfterRunsLaw}
 use Rattle.vm_superio.proofs.Lemmas.Serial.Laws.Consequences.{nowhere, waiting_bytes_law}
 use Rattle.vm_superio.proofs.Lemmas.Serial.Laws.{taken_then_held}
@@ -96,8 +95,7 @@ abbrev all_bytes : (start : State) (trace : Trace) → List ℕ
 all_bytes start trace = start.in_buffer ++ accepted_bytes start trace
 
 some_held : (held : List ℕ) → 0 < length held → IsTrue (not_empty held)
-some_held [] none = absurd (omega (arith, none))
-some_held (byte ∷ held) some = refl
+some_held held none = grind arith
 
 longer : (bytes all : List ℕ) → Begins bytes all → length bytes ≤ length all
 longer bytes all (more, is) = omega (arith, ap length is, length-append bytes more)

@@ -1,11 +1,9 @@
 -- What a guest reads. Neither the writer nor a restore changes a read: operations and the trigger's answers determine it.
-use Rattle.std.proofs.Common.{arith, ◌≡◌, Bool, List, [], ◌∷◌, ◌++◌, refl, ap, sym, ◌∙◌, append_assoc, append-nil, ℕ, true, false, ◌==◌, subst, IsTrue, not, ◌&&◌, ◌||◌, length, drop}
+use Rattle.std.proofs.Common.{arith, ◌≡◌, Bool, List, [], ◌∷◌, ◌++◌, refl, ap, sym, ◌∙◌, append_assoc, append-nil, ℕ, false, ◌==◌, subst, IsTrue, not, ◌&&◌, ◌||◌, length, drop}
 use Rattle.std.proofs.lemmas.Bool.{and_parts, false≢true, eqb-true}
 use Rattle.std.specs.Cmp.Derive.{both_true}
-use Rattle.vm_superio.specs.Serial.{Asked, Sent, Op, Read, Restore, TraceEntry, OpKind, Response, is_rbr_read, State, not_empty, Rda, Thre, register_read, register_at, is_dlab, identification_of, step, kind_in_state, has_bits}
-use Rattle.vm_superio.specs.Serial.History.{with_data_ready, state_of_history, history_response, byte_read, bytes_read, guest_read, ResponsesAre}
-use Rattle.vm_superio.specs.Serial.History.Registers.{held_bytes, interrupt_enable, kind_at, taken_by, taken_bytes, accepted_by}
-use Rattle.vm_superio.specs.Serial.History.Interrupts.{is_pending}
+use Rattle.vm_superio.specs.Serial.{Asked, Sent, Op, Read, TraceEntry, OpKind, Response, is_rbr_read, State, not_empty, Rda, Thre, register_read, register_at, is_dlab, identification_of, step, kind_in_state, has_bits}
+use Rattle.vm_superio.specs.Serial.History.{with_data_ready, state_of_history, history_response, byte_read, bytes_read, guest_read, ResponsesAre, held_bytes, interrupt_enable, kind_at, taken_by, taken_bytes, accepted_by, is_pending}
 use Rattle.vm_superio.specs.Serial.Laws.{state_after}
 use Rattle.vm_superio.specs.Serial.Laws.Consequences.{SameReadsLaw, op_and_asked, ops_and_asked, ReadsAreTakenLaw, ReadThenHeldLaw, driver_byte, driver_bytes, polls, PollingDriverLaw, DriverGetsAllLaw, shows_data_ready, polls_after_data_ready, PollsAfterDataReadyLaw}
 use Rattle.vm_superio.proofs.Lemmas.Serial.Laws.{same_kind, register_law, state_of_history-by_state, held_bytes_law, taken_then_held, held_more}
@@ -51,8 +49,7 @@ view_of start (call ∷ calls) = next_view call.0 call.1 (view_of start calls)
 one_more : (start : State) (op : Op) (asked : Asked) (calls : List (Op × Asked))
     → next_view op asked (view_of start calls) ≡ view_of start (op_and_asked op asked ++ calls)
 unfolding view_of
-one_more start Restore asked calls = refl
-one_more start op asked calls = refl
+one_more start op asked calls = grind arith
 
 -- so every trace shows what its operations and the trigger's answers show
 by_operations : (start : State) (trace : List TraceEntry) → view_at start trace ≡ view_of start (ops_and_asked trace)
@@ -120,8 +117,7 @@ pub ruleset reads_are_taken_laws = (reads_are_taken, read_then_held)
 
 -- LSR shows data ready if a byte is held
 data_ready : (line_status : ℕ) (ready : Bool) → has_bits (with_data_ready line_status ready) 0x01 ≡ ready
-data_ready line_status true = data_ready_set line_status
-data_ready line_status false = data_ready_cleared line_status
+data_ready line_status ready = grind (arith, data_ready_set, data_ready_cleared)
 
 read_of_lsr : (start : State) (trace : List TraceEntry)
     → has_bits (guest_read start trace 5) 0x01 ≡ not_empty (held_bytes start trace)
@@ -150,8 +146,7 @@ polling_driver start calls are polled =
     ∙ read_then_held start calls are
 
 none_held : (held : List ℕ) → not_empty held ≡ false → held ≡ []
-none_held [] none = refl
-none_held (byte ∷ held) none = absurd (false≢true (sym none))
+none_held held none = grind arith
 
 pub driver_gets_all : DriverGetsAllLaw
 driver_gets_all start calls are polled clear =
@@ -164,12 +159,10 @@ driver_gets_all start calls are polled clear =
 -- ---- as the driver sees it
 
 after_data_ready : {A : Type 0} (seen shows : Bool) → IsTrue (seen || shows) → (IsTrue seen → A) → (IsTrue shows → A) → A
-after_data_ready true shows either from_seen from_shows = from_seen refl
-after_data_ready false shows either from_seen from_shows = from_shows either
+after_data_ready seen shows either from_seen from_shows = grind arith
 
 reads_right : (other seen ready : Bool) → IsTrue (other || seen) → (IsTrue seen → IsTrue ready) → IsTrue (other || ready)
-reads_right true seen ready either right = refl
-reads_right false seen ready either right = right either
+reads_right other seen ready either right = grind arith
 
 -- if LSR has shown data ready, a byte is held
 abbrev IsRight : State → List TraceEntry → Bool → Type 0
@@ -189,8 +182,7 @@ none_taken : (kind : OpKind) (held : List ℕ) → IsTrue (not (is_rbr_read kind
 none_taken kind held other = grind arith
 
 still_held : (held accepted : List ℕ) → IsTrue (not_empty held) → IsTrue (not_empty (held ++ accepted))
-still_held [] accepted some = absurd (false≢true some)
-still_held (byte ∷ held) accepted some = refl
+still_held held accepted some = grind arith
 
 stays_right : (start : State) (trace : List TraceEntry) (entry : TraceEntry)
     → IsTrue (not (is_rbr_read (kind_at start trace entry.op))) → IsTrue (not_empty (held_bytes start trace))

@@ -1,18 +1,16 @@
--- The state after a trace is that of the history, and a call responds as the history says.
-use Rattle.std.proofs.Common.{arith, sym, ◌≡◌, ℕ, Bool, false, List, [], refl, ap, ◌∙◌, ◌+◌, not, ◌&&◌, ◌∷◌, subst, IsTrue}
-use Rattle.std.proofs.Math.Bool.{and-false}
+-- The state after a trace is that of the history, and a call responds as the history says. So whole runs are as it says,
+-- and those of a port without objects.
+use Rattle.std.proofs.Common.{arith, sym, ◌≡◌, ℕ, Bool, false, List, [], refl, ap, ◌∙◌, ◌+◌, not, ◌&&◌, ◌∷◌, subst, IsTrue, ◌++◌, length, append_assoc, append-nil, if◌then◌else◌}
 use Rattle.std.proofs.lemmas.Bool.{and_parts}
 use Rattle.std.specs.Bool.{beq}
 use Rattle.std.specs.Cmp.Derive.{both_true}
-use Rattle.vm_superio.specs.Serial.{kind_in_state, Asked, Sent, Op, Restore, TraceEntry, NoResponse, is_sent, count_if, OpKind, Response, State, restore_calls, step_response, step, step_events, Rda, Thre, answers_all, step_calls, sends_byte, is_admissible, Coherent}
-use Rattle.vm_superio.specs.Serial.History.Registers.{loopback, held_bytes, kind_at, dlab, interrupt_enable}
-use Rattle.vm_superio.specs.Serial.History.{history_response, state_of_history, calls_due, kind_events}
+use Rattle.vm_superio.specs.Serial.{kind_in_state, Asked, Sent, Op, Restore, TraceEntry, NoResponse, is_sent, count_if, OpKind, Response, State, restore_calls, step_response, step, step_events, Rda, Thre, answers_all, step_calls, sends_byte, is_admissible, Coherent, Other, Arrival, read_kind, sent_by, Write, Enqueue, CharacterTimeout, ByteRead, Trace, Read, not_empty, Register, is_dlab, register_at, bytes_that_fit, kind_calls}
+use Rattle.vm_superio.specs.Serial.History.{history_response, state_of_history, calls_due, kind_events, loopback, held_bytes, kind_at, dlab, interrupt_enable, raises_rda, is_pending, raises_thre, is_well_formed, output, accepted_by}
 use Rattle.vm_superio.specs.Serial.Laws.{state_after, StateLaw, ResponseLaw, StepLaw, CallLaw, RetryLaw, StepsFollow, RunAgrees, WholeRunLaw}
 use Rattle.vm_superio.proofs.Lemmas.Serial.Laws.{state_of_history-by_state, held_bytes_law, line_status_law}
 use Rattle.vm_superio.proofs.Lemmas.Serial.Laws.Interrupts.{interrupt_law, due_is, coherent_after}
-use Rattle.vm_superio.specs.Serial.History.Interrupts.{raises_rda, is_pending, raises_thre, is_well_formed}
-use Rattle.vm_superio.proofs.Lemmas.Serial.Laws.Consequences.{call_written}
-use Rattle.superio_core.specs.declared.trace.Sent.TheVariants as sent
+use Rattle.vm_superio.proofs.Lemmas.Serial.Laws.Consequences.{call_written, due_so_far, due-within}
+use Rattle.vm_superio.specs.Serial.Laws.PortRun.{PortCall, PortRead, PortWrite, PortEnqueue, PortTimeout, PortRestore, IsPortCall, PortCallsFollow, op_of_call, ops_of_calls, unasked, trace_with, EffectsAre, AllEffectsAre, PortRunLaw, told_by, bytes_told, PortOutputLaw, interrupts_of, interrupts_told, PortBoundLaw}
 
 pub state_law : StateLaw
 state_law start trace coherent =
@@ -48,8 +46,7 @@ reported s op asked outcome fits = grind arith
 none_refused : (k : OpKind) (enable : ℕ) (called pending : Bool)
     → (raises_thre k enable false && not pending)
     ≡ (raises_thre k enable (called && false) && not pending)
-none_refused k enable called pending =
-    ap (λ refused. raises_thre k enable refused && not pending) (sym (and-false called))
+none_refused k enable called pending = grind arith
 
 calls_at_point : (start : State) (trace : List TraceEntry) (op : Op)
     → step_calls (state_of_history start trace) op ≡ calls_due start trace op
@@ -103,7 +100,7 @@ pub retry_law : RetryLaw
 retry_law start trace s coherent here = record {
   calls = ap restore_calls here ∙ (step_law start trace coherent).restoring;
   counted =
-      call_law start trace (record { op = Restore; asked = Asked.Nothing; sent = sent.Nothing }) NoResponse s s coherent here
+      call_law start trace (record { op = Restore; asked = Asked.Nothing; sent = Sent.Nothing }) NoResponse s s coherent here
       refl refl refl;
 }
 
@@ -132,3 +129,123 @@ run_from start trace (call ∷ later) end coherent well_formed follow =
 
 pub whole_run_law : WholeRunLaw
 whole_run_law start end calls coherent follow = run_from start [] calls end coherent refl follow
+
+-- ---- the calls of a port without objects, by the history
+
+-- ---- one call
+
+-- it is a step without a refusal
+step-of-call : (call : PortCall) (old new : State) → IsPortCall call old new → new ≡ step old (op_of_call call) Asked.Nothing
+step-of-call call old new is = grind arith
+
+read-possible :
+    (register : Register) (s : State)
+    → IsTrue (answers_all (kind_calls (read_kind register) s) Asked.Nothing
+    && beq (is_sent Sent.Nothing) (not_empty (sent_by (read_kind register))))
+read-possible register s = grind arith
+
+-- the byte of a read's response
+abbrev byte_in : Response → ℕ
+byte_in (ByteRead byte) = byte
+byte_in _ = 0
+
+-- how many bytes an enqueue takes
+taken-accepted :
+    (loopback : Bool) (bytes held : List ℕ)
+    → length (if loopback then [] else bytes_that_fit held bytes)
+    ≡ length (accepted_by (if loopback then Other else Arrival bytes) held)
+taken-accepted loopback bytes held = grind arith
+
+module _ (start : State) (coherent : Coherent start) where
+  effects-at-point : (trace : Trace) (call : PortCall) (new : State) → IsPortCall call (state_of_history start trace) new → EffectsAre start trace call
+  effects-at-point trace (PortRead offset effects) new is =
+      let s = state_of_history start trace in
+      let possible = read-possible (register_at (is_dlab s.line_control) offset) s in (
+        ap byte_in is.response,
+        is.events ∙ ((step_law start trace coherent).steps (unasked (Read offset)) possible).events,
+      )
+  effects-at-point trace (PortWrite offset value effects) new is =
+      (is.sends, is.interrupts ∙ (step_law start trace coherent).calls (Write offset value))
+  effects-at-point trace (PortEnqueue bytes effects) new is = (
+    is.taken ∙ taken-accepted (loopback start trace) bytes (held_bytes start trace),
+    is.full,
+    is.interrupts ∙ (step_law start trace coherent).calls (Enqueue bytes),
+  )
+  effects-at-point trace (PortTimeout interrupts) new is = is.interrupts ∙ (step_law start trace coherent).calls CharacterTimeout
+  effects-at-point trace (PortRestore interrupts) new is = is.0 ∙ ap (λ due. length due) (step_law start trace coherent).restoring
+
+  state-at-point :
+      (trace : Trace) (call : PortCall) (new : State) → IsPortCall call (state_of_history start trace) new
+      → new ≡ state_of_history start (unasked (op_of_call call) ∷ trace)
+  state-at-point trace call new is =
+      step-of-call call (state_of_history start trace) new is
+      ∙ ap (λ (s : State). step s (op_of_call call) Asked.Nothing) (sym (state_law start trace coherent))
+      ∙ state_law start (unasked (op_of_call call) ∷ trace) coherent
+
+  -- calls that follow each other
+  run-from :
+      (trace : Trace) (s end : State) (calls : List PortCall) → s ≡ state_of_history start trace → PortCallsFollow s calls end
+      → AllEffectsAre start trace calls × (end ≡ state_of_history start (trace_with trace (ops_of_calls calls)))
+  run-from trace s end [] here done = (tt, done ∙ here)
+  run-from trace s end (call ∷ later) here calls =
+      let is = subst (λ s. IsPortCall call s calls.0) here calls.1 in
+      let rest = run-from (unasked (op_of_call call) ∷ trace) calls.0 end later (state-at-point trace call calls.0 is) calls.2 in
+      ((effects-at-point trace call calls.0 is, rest.0), rest.1)
+
+pub port_run_law : PortRunLaw
+port_run_law start end calls before follow =
+    let run = run-from start before [] start end calls (state_law start [] before) follow in
+    let trace = trace_with [] (ops_of_calls calls) in
+    record {
+      effects = run.0;
+      state = run.1;
+      coherent = subst Coherent (state_law start trace before ∙ sym run.1) (coherent_after start trace before);
+    }
+
+-- ---- the output
+
+told-at-point :
+    (start : State) (trace : Trace) (call : PortCall) → EffectsAre start trace call
+    → told_by call ≡ sent_by (kind_at start trace (op_of_call call))
+told-at-point start trace call are = grind arith
+
+told-is-output :
+    (start : State) (trace : Trace) (calls : List PortCall) → AllEffectsAre start trace calls
+    → output start [] trace ++ bytes_told calls ≡ output start [] (trace_with trace (ops_of_calls calls))
+told-is-output start trace [] are = append-nil (output start [] trace)
+told-is-output start trace (call ∷ later) are =
+    let entry = unasked (op_of_call call) in
+    let at_end : sent_by (kind_at start (trace ++ []) entry.op) ≡ sent_by (kind_at start trace entry.op) =
+    ap (λ before. sent_by (kind_at start before entry.op)) (append-nil trace) in
+    sym (append_assoc (output start [] trace) (told_by call) (bytes_told later))
+    ∙ ap (λ now. (output start [] trace ++ now) ++ bytes_told later) (told-at-point start trace call are.0 ∙ sym at_end)
+    ∙ told-is-output start (entry ∷ trace) later are.1
+
+pub port_output_law : PortOutputLaw
+port_output_law start end calls before follow =
+    told-is-output start [] calls (port_run_law start end calls before follow).effects
+
+-- ---- interrupts
+
+module _ (start : State) (coherent : Coherent start) where
+  told-due :
+      (trace : Trace) (call : PortCall) → EffectsAre start trace call
+      → interrupts_of call ≡ calls_due start trace (op_of_call call)
+  told-due trace call are = grind arith
+
+  told-so-far :
+      (trace : Trace) (calls : List PortCall) → AllEffectsAre start trace calls
+      → interrupts_told calls + due_so_far start trace ≡ due_so_far start (trace_with trace (ops_of_calls calls))
+  told-so-far trace [] are = omega arith
+  told-so-far trace (call ∷ later) are =
+      omega (arith, told-due trace call are.0, told-so-far (unasked (op_of_call call) ∷ trace) later are.1)
+
+pub port_bound_law : PortBoundLaw
+port_bound_law start end calls before follow =
+    omega (
+      arith,
+      told-so-far start before [] calls (port_run_law start end calls before follow).effects,
+      due-within start (trace_with [] (ops_of_calls calls)),
+    )
+
+pub ruleset port_run_laws = (port_run_law, port_output_law, port_bound_law)

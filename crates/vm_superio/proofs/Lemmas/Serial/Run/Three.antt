@@ -1,15 +1,12 @@
 -- What the calls of three objects in one list show of each of them.
 use Rattle.std.proofs.Common.{◌==◌, arith, ◌≡◌, ℕ, List, [], ◌∷◌, ◌++◌, Option, refl, sym, ap, ◌∙◌, subst, append-nil, ◌↔◌, IsTrue}
 use Rattle.vm_superio.specs.Serial.Run.{trace_after, Call, Reply, Restored, NotRestored, Done, act_of, op_of, entry_of, entries_of, refusal_in_reply, RecordsOf}
-use Rattle.vm_superio.specs.declared.run.Call.TheVariants.{Restore}
 use Rattle.vm_superio.specs.Serial.{answer_count, sent_by, Response, Error, Three, WriterOut, Port, Condition, State, Event, TraceEntry, Coherent}
 use Rattle.vm_superio.specs.Links.{Link, TriggerAnswer, answers_of, all_ok, RefusesOwnState, ObjectCall, answers_in, out_calls_in, raised, WriterCalls}
 use Rattle.vm_superio.specs.Links.Three.{ThreeLink, answers_in-append, out_calls_in-append}
 use Rattle.vm_superio.specs.Links.Writer.{WriterLink, outcome_of, AreSendings}
 use Rattle.vm_superio.specs.Serial.Step.ObjectStep.{Sending, sent_in, out_calls, one_port, IsRun}
-use Rattle.vm_superio.specs.Serial.History.{history_events, output, outcomes}
-use Rattle.vm_superio.specs.Serial.History.Registers.{dlab, loopback, kind_at}
-use Rattle.vm_superio.specs.Serial.History.Interrupts.{is_well_formed, is_well_formed_entry, restore_calls_due, trigger_calls}
+use Rattle.vm_superio.specs.Serial.History.{history_events, output, outcomes, dlab, loopback, kind_at, is_well_formed, is_well_formed_entry, restore_calls_due, trigger_calls}
 use Rattle.vm_superio.specs.Serial.Run.HistoryTheorem.{calls_at, ObjectSegment, ObjectAtRestore, next_object_segment, ObjectsAre}
 use Rattle.vm_superio.specs.Serial.Run.Three.{WriterSegment, OutputIs, KnownOutputIs, OutputAtRestore, next_writer_segment, OutputsAre, TriggerSegment, TriggerAtRestore, next_trigger_segment, TriggersAre, ThreeHistory}
 use Rattle.vm_superio.proofs.Lemmas.{AreSendings-append, known_output_law}
@@ -91,7 +88,7 @@ module _
       Output-call :
           (call : Call Object) (reply : Reply Object E) → entry.op ≡ op_of (act_of call) →
           ObjectAtRestore link start (newest ++ before) segment call reply → Output-next before newest segment call entry sending reply
-      Output-call (Restore object) (Restored old) op at = record {
+      Output-call (Call.Restore object) (Restored old) op at = record {
         next_before = entry ∷ newest ++ before;
         next_newest = [];
         whole = refl;
@@ -99,7 +96,7 @@ module _
         same = refl;
         sends = subst (λ calls. AreSendings [] [] calls) (sym (out_in_order [] [] (all_ok (restore_calls_due start (newest ++ before))))) tt;
       }
-      Output-call (Restore object) _ op at = record {
+      Output-call (Call.Restore object) _ op at = record {
         next_before = before;
         next_newest = entry ∷ newest;
         whole = refl;
@@ -175,19 +172,19 @@ module _
   Trigger-call :
       (trace : List TraceEntry) (segment : ObjectSegment Object E) (call : Call Object) (entry : TraceEntry) (sending : Sending)
       (reply : Reply Object E) → ObjectAtRestore link start trace segment call reply → Trigger-next trace segment call entry sending reply
-  Trigger-call trace segment (Restore object) entry sending (Restored old) at =
+  Trigger-call trace segment (Call.Restore object) entry sending (Restored old) at =
       let due = all_ok (restore_calls_due start trace) in
       record {
         at_restore = (at.0.trigger_linked, (at.1.0.trigger, raised_trigger object at.1.0 due at.1.1));
         same = ap (λ answers. record { initial = object.trigger; answers = answers }) (sym (answers_in_order [] [] due));
       }
-  Trigger-call trace segment (Restore object) entry sending (NotRestored refused) at = record {
+  Trigger-call trace segment (Call.Restore object) entry sending (NotRestored refused) at = record {
     at_restore =
         RefusesOwnState-three link trigger (restore_calls_due start trace) refused.error object refused.objects
         (raised_trigger object refused.objects) at;
     same = refl;
   }
-  Trigger-call trace segment (Restore object) entry sending _ at = record { at_restore = tt; same = refl }
+  Trigger-call trace segment (Call.Restore object) entry sending _ at = record { at_restore = tt; same = refl }
   Trigger-call trace segment call entry sending reply at = record { at_restore = tt; same = answers_extend trace segment entry sending (refusal_in_reply reply) }
 
   TriggersAre-objects :

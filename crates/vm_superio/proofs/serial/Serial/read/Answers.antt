@@ -1,10 +1,8 @@
 -- A step keeps a coherent state coherent, and an RBR read gives the oldest byte.
 use Rattle.std.proofs.Common.{◌≡◌, ℕ, ◌<◌, false, length, ap, ◌∙◌, ◌∷◌}
-use Rattle.vm_superio.specs.Serial.{Read, ByteRead, step, step_response, State, register_at, is_dlab}
+use Rattle.vm_superio.specs.Serial.{Read, ByteRead, step, step_response, State, register_at, is_dlab, Asked, Sent}
 use Rattle.superio_core.proofs.Lemmas.Serial.Coherence.{coherence_law}
 use Rattle.vm_superio.proofs.Lemmas.Serial.Laws.OneCall.{rbr_read, kept}
-use Rattle.superio_core.specs.declared.trace.Asked.TheVariants as Asked
-use Rattle.superio_core.specs.declared.trace.Sent.TheVariants as Sent
 use Rattle.vm_superio.proofs.serial.Serial.read.Goals as goal
 
 oldest : (offset : ℕ) (old new : State) (byte : ℕ) → offset ≡ 0 → is_dlab old.line_control ≡ false → 0 < length old.in_buffer

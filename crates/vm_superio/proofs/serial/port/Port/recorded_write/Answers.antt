@@ -1,5 +1,5 @@
 -- The step of the registers, with THRE taken back if the first of two calls was refused; and the calls in order.
-use Rattle.std.proofs.Common.{◌≡◌, Bool, true, false, Option, None, List, rules, refl, ap, ◌∙◌, subst, sym, if◌then◌else◌}
+use Rattle.std.proofs.Common.{arith, ◌≡◌, Bool, Option, None, List, rules, refl, ap, ◌∙◌, if◌then◌else◌}
 use Rattle.std.specs.declared.io.Error.{Error}
 use Rattle.vm_superio.specs.Serial.{state_with, write_step}
 use Rattle.superio_core.proofs.Lemmas.Serial.FirstRefused.{write_step-settled}
@@ -10,8 +10,7 @@ use Rattle.vm_superio.proofs.serial.port.Port.recorded_write.Goals as goal
 -- a refusal hides the output's fault
 answered_unless : (refused : Bool) (fault returned : Option Error) (calls : List OutCall)
     → returned ≡ (if refused then None else fault) → AnsweredFault fault calls → AnsweredFault returned calls
-answered_unless true fault returned calls same told = subst (λ fault. AnsweredFault fault calls) (sym same) tt
-answered_unless false fault returned calls same told = subst (λ fault. AnsweredFault fault calls) (sym same) told
+answered_unless refused fault returned calls same told = grind arith
 
 pub returns : goal.returns
 returns g c =

@@ -1,6 +1,5 @@
 -- What continues the run so far makes the whole run. The calls that are left get fewer.
-use Rattle.std.proofs.Common.{◌≤◌, ◌+◌, List, ◌++◌, vec_len, vec_capacity}
-use Rattle.std.specs.VecDeque.{deque_len}
+use Rattle.std.proofs.Common.{◌≤◌, ◌+◌, List, ◌++◌, vec_len, vec_capacity, deque_len}
 use Rattle.vm_superio.specs.Serial.Step.ObjectStep.{OnePort, IsRun}
 use Rattle.vm_superio.specs.declared.run.Done.{Done}
 use Rattle.vm_superio.proofs.serial.port.Port.run.Given as goal

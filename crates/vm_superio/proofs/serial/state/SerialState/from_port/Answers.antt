@@ -4,8 +4,7 @@ use Rattle.superio_core.specs.Serial.Port.{held_bytes}
 use Rattle.vm_superio.proofs.serial.state.SerialState.from_port.Goals as goal
 
 first-rest : (held : List ℕ) (byte : ℕ) → Some byte ≡ slice_get held 0 → byte ∷ drop 1 held ≡ held
-first-rest [] byte is = absurd cc
-first-rest (first ∷ held) byte is = cc
+first-rest held byte is = grind arith
 
 pub loop-byte-preserved : goal.loop-byte-preserved
 loop-byte-preserved c =
