@@ -3,96 +3,82 @@
 
 #include <asm/bootparam.h>
 
-/* Where a PC loads a boot sector, where conventional memory ends, and where memory goes on. */
+/* Where a PC loads a boot sector, conventional memory ends, and memory goes on, and where Linux finds what it needs. */
 enum { FLAT_START = 0x7C00, LOW_END = 0x9FC00, HIGH_START = 0x100000 };
+enum { DESCRIPTORS = 0x500, TABLES = 0x9000, PARAMETERS = 0x10000, WORDS = 0x20000, INITRAMFS = MEMORY_SIZE / 2 };
+enum { BZIMAGE = 0x53726448, ENTRY = 0x200, WORDS_SIZE = 2048 };
 
-/* Where Linux finds what it starts with, in conventional memory. */
-enum { DESCRIPTORS = 0x500, PAGE_TABLES = 0x9000, PARAMETERS = 0x10000, WORDS = 0x20000, WORDS_SIZE = 2048 };
-
-static FILE *open_file(const char *path, uint64_t *size) {
+/* Copies a file, from an offset on, to where it belongs, up to an end at most. Returns how many bytes there were. */
+static uint32_t place(const char *path, long offset, uint64_t to, uint64_t end) {
     FILE *file = fopen(path, "rb");
-    if (!file || fseek(file, 0, SEEK_END) < 0)
-        err(1, "%s", path);
-    *size = (uint64_t)ftell(file);
-    return file;
-}
-
-/* Copies a part of a file to where it belongs, and has so much room. */
-static void place(FILE *file, uint64_t offset, uint64_t count, uint64_t to, uint64_t room) {
-    if (count > room || to > machine.memory_size || room > machine.memory_size - to ||
-        fseek(file, (long)offset, SEEK_SET) < 0 || fread(machine.memory + to, 1, count, file) != count)
-        errx(1, "a file is cut off, or does not fit into the guest's memory");
-}
-
-static void set_start(const struct kvm_sregs *system, struct kvm_regs registers) {
-    registers.rflags = 2;
-    KVM(machine.vcpu, KVM_SET_SREGS, system);
-    KVM(machine.vcpu, KVM_SET_REGS, &registers);
-}
-
-void boot_flat(const char *path) {
-    uint64_t size;
-    FILE *file = open_file(path, &size);
-    place(file, 0, size, FLAT_START, LOW_END - FLAT_START);
+    must(file ? fseek(file, offset, SEEK_SET) : -1, path);
+    size_t count = to < end && end <= MEMORY_SIZE ? fread(memory + to, 1, end - to, file) : 0;
+    if (count == 0 || fgetc(file) != EOF)
+        errx(1, "%s is empty, or does not fit into the guest's memory", path);
     fclose(file);
-    struct kvm_sregs system;
-    KVM(machine.vcpu, KVM_GET_SREGS, &system);
-    system.cs.base = system.cs.selector = 0;
-    set_start(&system, (struct kvm_regs){.rip = FLAT_START, .rsp = FLAT_START});
+    return (uint32_t)count;
 }
 
-/* Long mode with flat segments. The first gigabyte is mapped to itself, in pages of 2 MB. */
+static void boot_flat(const char *image) {
+    struct kvm_sregs system;
+    place(image, 0, FLAT_START, LOW_END);
+    KVM(vcpu, KVM_GET_SREGS, &system);
+    system.cs.base = system.cs.selector = 0;
+    KVM(vcpu, KVM_SET_SREGS, &system);
+    KVM(vcpu, KVM_SET_REGS, &((struct kvm_regs){.rip = FLAT_START, .rsp = FLAT_START, .rflags = 2}));
+}
+
+/* Flat segments. The first gigabyte is mapped to itself, in pages of 2 MB. */
 static void start_long_mode(uint64_t entry) {
-    uint64_t *tables = (uint64_t *)(machine.memory + PAGE_TABLES);
-    tables[0] = (PAGE_TABLES + 0x1000) | 3;
-    tables[512] = (PAGE_TABLES + 0x2000) | 3;
+    const uint64_t descriptors[4] = {0, 0, 0x00AF9B000000FFFF, 0x00CF93000000FFFF};
+    memcpy(memory + DESCRIPTORS, descriptors, sizeof descriptors);
+    uint64_t *tables = (uint64_t *)(memory + TABLES);
+    tables[0] = (TABLES + 0x1000) | 3;
+    tables[512] = (TABLES + 0x2000) | 3;
     for (uint64_t i = 0; i < 512; i++)
         tables[1024 + i] = i << 21 | 0x83;
-    const uint64_t descriptors[4] = {0, 0, 0x00AF9B000000FFFF, 0x00CF93000000FFFF};
-    memcpy(machine.memory + DESCRIPTORS, descriptors, sizeof descriptors);
 
     struct kvm_sregs system;
-    KVM(machine.vcpu, KVM_GET_SREGS, &system);
+    KVM(vcpu, KVM_GET_SREGS, &system);
     struct kvm_segment data = {.limit = ~0u, .selector = 0x18, .type = 3, .present = 1, .s = 1, .db = 1, .g = 1};
     system.ds = system.es = system.fs = system.gs = system.ss = data;
     system.cs = (struct kvm_segment){.limit = ~0u, .selector = 0x10, .type = 11, .present = 1, .s = 1, .l = 1, .g = 1};
     system.gdt = (struct kvm_dtable){.base = DESCRIPTORS, .limit = sizeof descriptors - 1};
-    system.cr3 = PAGE_TABLES;
+    system.cr3 = TABLES;
     system.cr4 |= 0x20;       /* PAE */
     system.cr0 |= 0x80000001; /* PG, PE */
     system.efer |= 0x500;     /* LMA, LME */
-    set_start(&system, (struct kvm_regs){.rip = entry, .rsi = PARAMETERS});
+    KVM(vcpu, KVM_SET_SREGS, &system);
+    KVM(vcpu, KVM_SET_REGS, &((struct kvm_regs){.rip = entry, .rsi = PARAMETERS, .rflags = 2}));
 }
 
-/* Places a bzImage, and returns its entry. */
-static uint64_t place_image(FILE *file, uint64_t size, const struct setup_header *head) {
-    if (head->header != 0x53726448 || head->version < 0x20C || !(head->xloadflags & XLF_KERNEL_64))
-        errx(1, "the kernel is no bzImage with a 64-bit entry");
-    uint64_t setup = (head->setup_sects + 1) * 512u;
-    place(file, setup, size - setup, head->pref_address, head->init_size);
-    return head->pref_address + 0x200;
-}
-
-void boot_linux(const char *kernel, const char *initramfs, const char *words) {
-    struct boot_params *parameters = (struct boot_params *)(machine.memory + PARAMETERS);
-    struct setup_header *head = &parameters->hdr;
-    uint64_t size;
-    FILE *file = open_file(kernel, &size);
-    if (fseek(file, offsetof(struct boot_params, hdr), SEEK_SET) < 0 || fread(head, sizeof *head, 1, file) != 1)
-        errx(1, "the kernel is cut off");
-    start_long_mode(place_image(file, size, head));
-    fclose(file);
+static void boot_linux(const char *kernel, struct setup_header head, const char *initramfs, const char *words) {
+    if (head.version < 0x20C || !(head.xloadflags & XLF_KERNEL_64))
+        errx(1, "%s has no 64-bit entry", kernel);
+    place(kernel, (head.setup_sects + 1) * 512, head.pref_address, head.pref_address + head.init_size);
     if (initramfs) {
-        file = open_file(initramfs, &size);
-        head->ramdisk_image = (uint32_t)(machine.memory_size - size) & -PAGE;
-        head->ramdisk_size = (uint32_t)size;
-        place(file, 0, size, head->ramdisk_image, machine.memory_size - head->ramdisk_image);
-        fclose(file);
+        head.ramdisk_image = INITRAMFS;
+        head.ramdisk_size = place(initramfs, 0, INITRAMFS, MEMORY_SIZE);
     }
-    head->type_of_loader = 0xFF; /* a loader without a number */
-    head->cmd_line_ptr = WORDS;
-    snprintf((char *)machine.memory + WORDS, WORDS_SIZE, "%s", words);
+    head.type_of_loader = 0xFF; /* a loader without a number */
+    head.cmd_line_ptr = WORDS;
+    snprintf((char *)memory + WORDS, WORDS_SIZE, "%s", words);
+    struct boot_params *parameters = (struct boot_params *)(memory + PARAMETERS);
+    parameters->hdr = head;
     parameters->e820_entries = 2;
     parameters->e820_table[0] = (struct boot_e820_entry){0, LOW_END, 1};
-    parameters->e820_table[1] = (struct boot_e820_entry){HIGH_START, machine.memory_size - HIGH_START, 1};
+    parameters->e820_table[1] = (struct boot_e820_entry){HIGH_START, MEMORY_SIZE - HIGH_START, 1};
+    start_long_mode(head.pref_address + ENTRY);
+}
+
+/* An image that begins as a bzImage does is Linux. */
+void boot(const char *image, const char *initramfs, const char *words) {
+    struct boot_params start = {0};
+    FILE *file = fopen(image, "rb");
+    must(file ? (int)fread(&start, 1, sizeof start, file) : -1, image);
+    fclose(file);
+    if (start.hdr.header == BZIMAGE)
+        boot_linux(image, start.hdr, initramfs, words);
+    else
+        boot_flat(image);
 }

@@ -1,53 +1,62 @@
-/* The clock's moments, interrupt line and alarm. Moments go on with CLOCK_BOOTTIME, which never goes back, from the
+/* The clock, its interrupt line and its alarm. Its moments go on with CLOCK_BOOTTIME, which never goes back, from the
  * time of day at the start. */
 #include "monitor.h"
 
-enum { RTCMIS = 0x018, SECOND = 1000000000 };
+#include <time.h>
 
+enum { RTCMIS = 0x018 };
+
+static superio_rtc rtc;
 static int timer;
-static int64_t ahead; /* how far moments are ahead of CLOCK_BOOTTIME, in nanoseconds */
+static int64_t ahead; /* how many seconds moments are ahead of CLOCK_BOOTTIME */
 
-static int64_t nanoseconds(clockid_t which) {
+static int64_t seconds(clockid_t which) {
     struct timespec time;
     clock_gettime(which, &time);
-    return (int64_t)time.tv_sec * SECOND + time.tv_nsec;
+    return time.tv_sec;
 }
 
-/* A guest that sleeps makes no access, so the monitor makes one. */
-static void alarm_due(void) {
-    clock_read(RTCMIS);
-}
-
-void clock_open(void) {
-    ahead = nanoseconds(CLOCK_REALTIME) - nanoseconds(CLOCK_BOOTTIME);
-    timer = must(timerfd_create(CLOCK_BOOTTIME, TFD_CLOEXEC), "the alarm's timer");
-    monitor_watch(timer, EPOLLIN | EPOLLET, alarm_due);
-}
-
-/* In seconds since 1970. */
-static uint64_t clock_now(void) {
-    return (uint64_t)((nanoseconds(CLOCK_BOOTTIME) + ahead) / SECOND);
-}
-
-/* After each access: the line is a level, and the timer goes off in the second in which the alarm is due. */
-static void follow(void) {
-    KVM(machine.vm, KVM_IRQ_LINE, &((struct kvm_irq_level){.irq = CLOCK_IRQ, .level = superio_rtc_line(&rtc)}));
+/* After each access: the line is a level, and the timer goes off when the alarm is due. */
+static void follow(uint64_t now) {
+    uint64_t due = superio_rtc_due(&rtc, now);
     struct itimerspec goes_off = {0}; /* which is never */
-    uint64_t now = clock_now(), due = superio_rtc_due(&rtc, now);
-    if (due != SUPERIO_RTC_NEVER) {
-        int64_t at = (int64_t)(now + due) * SECOND - ahead;
-        goes_off.it_value = (struct timespec){.tv_sec = at / SECOND, .tv_nsec = at % SECOND};
-    }
+    if (due != SUPERIO_RTC_NEVER)
+        goes_off.it_value.tv_sec = (int64_t)(now + due) - ahead;
     timerfd_settime(timer, TFD_TIMER_ABSTIME, &goes_off, NULL);
+    KVM(vm, KVM_IRQ_LINE, &((struct kvm_irq_level){.irq = CLOCK_IRQ, .level = superio_rtc_line(&rtc)}));
 }
 
-uint32_t clock_read(uint16_t offset) {
-    uint32_t value = superio_rtc_read(&rtc, offset, clock_now()).value;
-    follow();
-    return value;
+/* The guest's access to memory that it has not. The clock takes four bytes at a time. A narrower read shows a part of
+ * the four around it, as EDK II expects. A narrower write, and whatever crosses two words, has no effect. */
+void clock_access(uint64_t address, bool is_write, uint8_t *bytes, unsigned count) {
+    uint16_t offset = (uint16_t)(address - CLOCK_BASE), within = count == 4 ? 0 : offset % 4;
+    bool is_clock = address >= CLOCK_BASE && address < CLOCK_BASE + SUPERIO_RTC_WINDOW && within + count <= 4;
+    uint64_t now = (uint64_t)(seconds(CLOCK_BOOTTIME) + ahead); /* since 1970 */
+    uint32_t value;
+    if (is_clock && is_write && count == 4) {
+        memcpy(&value, bytes, sizeof value);
+        superio_rtc_write(&rtc, offset, value, now);
+    } else if (is_clock && !is_write) {
+        value = superio_rtc_read(&rtc, (uint16_t)(offset - within), now).value >> 8 * within;
+        memcpy(bytes, &value, count);
+    } else if (!is_write) {
+        memset(bytes, 0xFF, count);
+    }
+    follow(now);
 }
 
-void clock_write(uint16_t offset, uint32_t value) {
-    superio_rtc_write(&rtc, offset, value, clock_now());
-    follow();
+/* In each turn of the event loop: a guest that sleeps until the alarm makes no access, so the monitor makes one. */
+void clock_turn(void) {
+    uint64_t times;
+    uint8_t bytes[4];
+    if (read(timer, &times, sizeof times) > 0)
+        clock_access(CLOCK_BASE + RTCMIS, false, bytes, sizeof bytes);
+}
+
+/* Returns what is readable when the alarm is due. */
+int clock_open(void) {
+    rtc = superio_rtc_new();
+    ahead = seconds(CLOCK_REALTIME) - seconds(CLOCK_BOOTTIME);
+    timer = must(timerfd_create(CLOCK_BOOTTIME, TFD_NONBLOCK | TFD_CLOEXEC), "the alarm's timer");
+    return timer;
 }

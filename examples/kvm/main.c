@@ -1,19 +1,19 @@
-/* The monitor's start, event loop and end. */
+/* The monitor: its start, the user's terminal, the event loop, and the end. */
 #include "monitor.h"
 
-#include <sys/signalfd.h>
+#include <poll.h>
+#include <signal.h>
+#include <termios.h>
 
-static const char HELP[] =
-    "usage: monitor -k KERNEL [-i INITRAMFS] [-c WORDS] [OPTION ..]   boots Linux, a bzImage\n"
-    "       monitor -f IMAGE [OPTION ..]                              starts an image at 0x7C00 in real mode\n\n"
-    "  -m MEGABYTES   the guest's memory, 256 if not given\n"
-    "  -e             offers input before the guest has enabled its interrupt, as one that polls needs it\n\n"
-    "Ctrl-A h lists the keys.\n";
+static const char USAGE[] =
+    "usage: monitor [-e] IMAGE [INITRAMFS [WORDS]]\n"
+    "Boots IMAGE if it is a bzImage of Linux, with the command line WORDS. Starts any other at 0x7C00 in real mode.\n"
+    "With -e the guest gets input before it has enabled its interrupt, as one that polls needs it.\n"
+    "Ctrl-A x leaves. Ctrl-A before any other key stands for that key.\n";
+enum { CTRL_A = 0x01 };
 
 pthread_mutex_t lock = PTHREAD_MUTEX_INITIALIZER;
-bool has_ended;
-static int epoll, signals, status; /* the status is the monitor's */
-static const char *why;            /* it ended */
+static struct termios before; /* the terminal's settings, if there is one */
 
 /* The result of a call that has to succeed. */
 int must(int result, const char *what) {
@@ -22,101 +22,98 @@ int must(int result, const char *what) {
     return result;
 }
 
-/* Watches a file for events, from now on or again. What epoll does not watch, such as a file on a disk, never
- * blocks. */
-void monitor_watch(int fd, uint32_t events, void (*serve)(void)) {
-    struct epoll_event event = {.events = events, .data.ptr = (void *)serve};
-    if (epoll_ctl(epoll, EPOLL_CTL_MOD, fd, &event) < 0)
-        epoll_ctl(epoll, EPOLL_CTL_ADD, fd, &event);
+/* At each exit, and in the handler of signals. Without a terminal it has no effect. */
+static void restore_terminal(void) {
+    tcsetattr(STDIN_FILENO, TCSANOW, &before);
 }
 
-/* Ends the machine, for the first reason that is given. A signal has the event loop notice. */
-void monitor_end(int result, const char *reason) {
-    if (has_ended)
-        return;
-    has_ended = true;
-    status = result;
-    why = reason;
-    kill(getpid(), SIGTERM);
+/* The caller, of either thread, holds the lock and keeps it, so that the other one does nothing more. */
+void monitor_end(int status, const char *why) {
+    restore_terminal();
+    warnx("%s", why);
+    _exit(status);
 }
 
-static void signalled(void) {
-    struct signalfd_siginfo got;
-    if (read(signals, &got, sizeof got) == sizeof got)
-        monitor_end(128 + (int)got.ssi_signo, strsignal((int)got.ssi_signo));
-}
-
-/* A fault of the monitor itself: the terminal first. */
-static void died(int number) {
-    console_restore();
-    signal(number, SIG_DFL);
+/* The first time, a signal that ends the monitor comes here. */
+static void signalled(int number) {
+    restore_terminal();
     raise(number);
 }
 
-/* The signals that end the monitor become events. The vCPU's thread, which is made later, inherits the mask. */
-static void open_events(void) {
-    for (const int *fault = (const int[]){SIGSEGV, SIGBUS, SIGILL, SIGFPE, SIGABRT, 0}; *fault; fault++)
-        signal(*fault, died);
-    signal(SIGPIPE, SIG_IGN);
-    signal(SIGTSTP, SIG_IGN); /* a stop would leave the terminal raw */
-    sigset_t set;
-    sigemptyset(&set);
-    for (const int *ending = (const int[]){SIGINT, SIGTERM, SIGQUIT, SIGHUP, 0}; *ending; ending++)
-        sigaddset(&set, *ending);
-    pthread_sigmask(SIG_BLOCK, &set, NULL);
-    epoll = must(epoll_create1(EPOLL_CLOEXEC), "events");
-    signals = must(signalfd(-1, &set, SFD_NONBLOCK | SFD_CLOEXEC), "signals");
-    monitor_watch(signals, EPOLLIN, signalled);
+static void open_terminal(void) {
+    const int ending[] = {SIGHUP, SIGINT, SIGQUIT, SIGTERM, SIGSEGV, SIGBUS, SIGABRT};
+    if (tcgetattr(STDIN_FILENO, &before) < 0)
+        return;
+    for (size_t i = 0; i < sizeof ending / sizeof *ending; i++)
+        sigaction(ending[i], &(struct sigaction){.sa_handler = signalled, .sa_flags = SA_RESETHAND}, NULL);
+    atexit(restore_terminal);
+    struct termios raw = before;
+    cfmakeraw(&raw);
+    tcsetattr(STDIN_FILENO, TCSANOW, &raw);
 }
 
-static void run(void) {
+/* Sends a byte, unless nobody reads any more. LSR always says that the transmitter is empty, so the guest is slowed
+ * down only by waiting here, in its access. The event loop goes on meanwhile. */
+void monitor_send(uint8_t byte) {
+    struct pollfd output = {STDOUT_FILENO, POLLOUT, 0};
+    pthread_mutex_unlock(&lock);
+    do
+        poll(&output, 1, -1);
+    while (write(STDOUT_FILENO, &byte, 1) < 0 && (errno == EAGAIN || errno == EINTR));
     pthread_mutex_lock(&lock);
-    machine_start();
-    while (!has_ended) {
-        interrupts_character_timeout();
-        pthread_mutex_unlock(&lock);
-        struct epoll_event event;
-        int count = epoll_wait(epoll, &event, 1, -1);
-        pthread_mutex_lock(&lock);
-        if (count > 0 && !has_ended)
-            ((void (*)(void))event.data.ptr)();
-    }
-    machine_join();
 }
 
-/* What each option was given, by its letter. */
-static const char *given[128] = {['c'] = "console=ttyS0 reboot=k panic=1", ['m'] = "256"};
-
-static void parse(int count, char **words) {
-    for (int letter; (letter = getopt(count, words, "k:i:c:f:m:eh")) != -1;) {
-        if (letter == '?')
-            exit(2);
-        given[letter] = optarg ? optarg : "";
+/* Reads what was typed, as far as there is room. Returns whether more may come. */
+static bool serve_input(size_t room) {
+    static bool is_after_ctrl_a;
+    uint8_t bytes[4096];
+    size_t kept = 0;
+    ssize_t count = read(STDIN_FILENO, bytes, room < sizeof bytes ? room : sizeof bytes);
+    if (count <= 0)
+        return count < 0 && (errno == EAGAIN || errno == EINTR);
+    pthread_mutex_lock(&lock);
+    for (ssize_t i = 0; i < count; i++) {
+        if (is_after_ctrl_a && bytes[i] == 'x')
+            monitor_end(0, "left by Ctrl-A x");
+        is_after_ctrl_a = bytes[i] == CTRL_A && !is_after_ctrl_a;
+        if (!is_after_ctrl_a)
+            bytes[kept++] = bytes[i];
     }
-    bool is_right = !given['k'] + !given['f'] == 1 && optind == count;
-    if (given['h'] || !is_right) {
-        fputs(HELP, given['h'] ? stdout : stderr);
-        exit(given['h'] ? 0 : 2);
+    serial_type(bytes, kept);
+    pthread_mutex_unlock(&lock);
+    return true;
+}
+
+/* The event loop. Input for which there is no room waits in the terminal. */
+static _Noreturn void run(int retry, int alarm) {
+    struct pollfd files[] = {{STDIN_FILENO, POLLIN, 0}, {retry, POLLIN, 0}, {alarm, POLLIN, 0}};
+    for (bool is_open = true;;) {
+        pthread_mutex_lock(&lock);
+        size_t room = serial_turn();
+        clock_turn();
+        pthread_mutex_unlock(&lock);
+        files[0].fd = is_open && room > 0 ? STDIN_FILENO : -1;
+        if (poll(files, 3, -1) > 0 && files[0].revents)
+            is_open = serve_input(room);
     }
 }
 
 int main(int count, char **words) {
+    bool is_early = count > 1 && strcmp(words[1], "-e") == 0;
+    char **given = words + 1 + is_early;
+    count -= 1 + is_early;
+    if (count < 1 || count > 3 || *given[0] == '-') {
+        fputs(USAGE, stderr);
+        return 2;
+    }
     if (!SUPERIO_ABI_MATCHES())
         errx(1, "the library has another interface than the header");
-    parse(count, words);
-    open_events();
-    bus_open();
-    clock_open();
-    machine_create(strtoull(given['m'], NULL, 10) << 20);
-    if (given['f'])
-        boot_flat(given['f']);
-    else
-        boot_linux(given['k'], given['i'], given['c']);
-    interrupts_open();
-    console_is_early = given['e'];
-    console_open();
-    run();
-    console_finish();
-    warnx("%s", why);
-    return status;
+    machine_create();
+    boot(given[0], count > 1 ? given[1] : NULL, count > 2 ? given[2] : "console=ttyS0 reboot=k panic=1");
+    int retry = serial_open(is_early), alarm = clock_open();
+    signal(SIGPIPE, SIG_IGN);
+    open_terminal();
+    pthread_t thread;
+    must(-(errno = pthread_create(&thread, NULL, machine_run, NULL)), "the vCPU's thread");
+    run(retry, alarm);
 }

@@ -1,0 +1,89 @@
+/* The serial port: its interrupt, its output, and the input that waits for room in its FIFO. IRQ 4 of a PC is triggered
+ * by edges: so each interrupt that the port asks for is one edge, which KVM makes of a write to an eventfd. */
+#include "monitor.h"
+
+#include <sys/eventfd.h>
+
+enum { IER = 1, IIR = 2, MCR = 4, QUEUE_SIZE = 65536 };
+
+static superio_serial port;
+static int line, timer;           /* of the interrupt; of the next turn of the event loop */
+static bool is_refused;           /* a request */
+static bool takes_input;          /* the guest polls, or has enabled RDA and not THRE, as no test of the port does */
+static uint8_t input[QUEUE_SIZE]; /* of the user, until the port takes it, the oldest first */
+static size_t waiting;            /* how much of it there is */
+
+/* Has the event loop make a turn in 5 milliseconds. */
+static void wake(void) {
+    timerfd_settime(timer, 0, &(struct itimerspec){.it_value.tv_nsec = 5000000}, NULL);
+}
+
+/* Carries out what a call of the port left to do, up to a refusal. */
+static void interrupt(unsigned times) {
+    while (times > 0 && eventfd_write(line, 1) == 0)
+        times--;
+    is_refused |= times > 0;
+    if (times > 0)
+        wake();
+}
+
+/* Offers the input, and keeps what the port does not take: when input comes, when the guest has read the last byte of
+ * the FIFO, and when it may have become ready or left loopback. An event loop that waits for room has to look again. */
+static void feed(void) {
+    if (!takes_input)
+        return;
+    superio_serial_enqueue_effects done = superio_serial_enqueue(&port, input, waiting);
+    if (waiting == QUEUE_SIZE && done.taken > 0)
+        wake();
+    waiting -= done.taken;
+    memmove(input, input + done.taken, waiting);
+    interrupt(done.interrupts);
+}
+
+uint8_t serial_read(uint8_t offset) {
+    superio_serial_read_effects done = superio_serial_read(&port, offset);
+    if (done.in_buffer_empty)
+        feed();
+    if (offset == IIR && done.byte & 0x01) /* nothing is pending */
+        interrupt(superio_serial_character_timeout(&port));
+    return done.byte;
+}
+
+void serial_write(uint8_t offset, uint8_t value) {
+    superio_serial_write_effects done = superio_serial_write(&port, offset, value);
+    interrupt(done.interrupts);
+    if (done.sends)
+        monitor_send(value);
+    takes_input |= (port.interrupt_enable & 0x03) == 0x01;
+    if (offset == IER || offset == MCR)
+        feed();
+}
+
+/* Takes input, for which there is room. */
+void serial_type(const uint8_t *bytes, size_t count) {
+    memcpy(input + waiting, bytes, count);
+    waiting += count;
+    feed();
+}
+
+/* In each turn of the event loop: asks again for what was refused, and for the bytes that the guest has left. Returns
+ * for how much input there is room. */
+size_t serial_turn(void) {
+    uint64_t times;
+    if (read(timer, &times, sizeof times) > 0 && is_refused) {
+        is_refused = false;
+        interrupt(superio_serial_interrupts_due(&port));
+    }
+    interrupt(superio_serial_character_timeout(&port));
+    return QUEUE_SIZE - waiting;
+}
+
+/* Returns what is readable when a turn is due. */
+int serial_open(bool is_polled) {
+    port = superio_serial_new();
+    takes_input = is_polled;
+    line = must(eventfd(0, EFD_NONBLOCK | EFD_CLOEXEC), "the interrupt");
+    timer = must(timerfd_create(CLOCK_MONOTONIC, TFD_NONBLOCK | TFD_CLOEXEC), "the interrupt's timer");
+    KVM(vm, KVM_IRQFD, &((struct kvm_irqfd){.fd = (uint32_t)line, .gsi = SERIAL_IRQ}));
+    return timer;
+}
