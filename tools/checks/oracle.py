@@ -3,35 +3,26 @@
 There are no registers, and no rule is shared with the definitions that the proofs use. Of each call a fact is kept:
 what it wrote, raised and acknowledged, which bytes came in, were taken and went out, and the calls of objects. What a
 call shows is found by a search of the facts before it. A search ends at the latest at the newest start state, a fact of
-the past too. docs/DEVICES.md has the rules. Names, offsets and bits are those of the Python package, which
-tools/checks/facts compares with the definitions.
+the past too. docs/DEVICES.md has the rules.
 """
-import sys
-from pathlib import Path
 from typing import NamedTuple, Sequence
 
-from saved_bytes import CLOCK as OF_CLOCK, PLACES, SERIAL as OF_PORT
-
-sys.path.append(str(Path(__file__).resolve().parents[2] / "bindings" / "python"))
-from superio import SerialState  # noqa: E402
-from superio.registers import (CLOCK, DLAB, FIELDS, FIFO_BITS, FIFO_SIZE, IDENTIFICATION, LOOPBACK,  # noqa: E402
-                               SERIAL, bits_by_name, clock_register, serial_register)
-
-# In the order of a saved state.
-REGISTERS = [name for place in PLACES[OF_PORT] for name, field in FIELDS.items() if field == place]
-BY_OFFSET, WITH_LATCH = ([serial_register(offset, latch, False).name for offset in range(8)] for latch in (0, DLAB))
-FRESH = bytes(list(vars(SerialState()).values())[:len(REGISTERS)])
+FIFO_SIZE = 64
+DLAB, LOOPBACK, FIFO_BITS = 0x80, 0x10, 0xC0   # of LCR, of MCR, and of what a guest reads of IIR
+# The registers of a new port, in the order of a saved state, and the names by offset, of which DLAB changes two.
+FRESH = {"DLL": 0x0C, "DLM": 0, "IER": 0, "IIR": 0x01, "LCR": 0x03, "LSR": 0x60, "MCR": 0x08, "MSR": 0xB0, "SCR": 0}
+BY_OFFSET = ["RBR", "IER", "IIR", "LCR", "MCR", "LSR", "MSR", "SCR"]
+WITH_LATCH = ["DLL", "DLM", *BY_OFFSET[2:]]
 # The bits of registers that are facts of their own: the two conditions, that none is pending, and data ready.
-BITS = {"IIR": bits_by_name(SERIAL["IIR"]) | {"NONE": 1}, "LSR": {"READY": bits_by_name(SERIAL["LSR"])["DR"]}}
-ENABLED_BY = {condition: bits_by_name(SERIAL["IER"])[condition] for condition in ("RDA", "THRE")}
-# An output of MCR, and the input of MSR that shows it in loopback.
-LOOPED = [(bits_by_name(SERIAL["MCR"])[output], bits_by_name(SERIAL["MSR"])[shown])
-          for output, shown in (("DTR", "DSR"), ("RTS", "CTS"), ("OUT1", "RI"), ("OUT2", "DCD"))]
+BITS = {"IIR": {"RDA": 0x04, "THRE": 0x02, "NONE": 0x01}, "LSR": {"READY": 0x01}}
+ENABLED_BY = {"RDA": 0x01, "THRE": 0x02}
+# The outputs of MCR, DTR, RTS, OUT1 and OUT2, each with the input of MSR that shows it in loopback.
+LOOPED = [(0x01, 0x20), (0x02, 0x10), (0x04, 0x40), (0x08, 0x80)]
 
-# In the order of a saved state. What the fields of these names hold are facts of the search.
-FACTS = {"ris": "raised", "offset": "ahead", "armed": "armed"}
-CLOCK_FIELDS = [FACTS.get(name, name.upper()) for name in PLACES[OF_CLOCK]]
-CLOCK_AT = {offset: register.name for offset in range(0x1000) if (register := clock_register(offset))}
+# The fields of a clock, in the order of a saved state.
+CLOCK_FIELDS = ["LR", "MR", "IMSC", "RIS", "offset", "armed"]
+CLOCK_AT = {0x00: "DR", 0x04: "MR", 0x08: "LR", 0x0C: "CR", 0x10: "IMSC", 0x14: "RIS", 0x18: "MIS", 0x1C: "ICR"}
+IDENTIFICATION = bytes.fromhex("31 10 04 00 0d f0 05 b1")   # from 0xFE0 on, at four offsets each
 
 
 class Fact(NamedTuple):
@@ -45,30 +36,30 @@ class Fact(NamedTuple):
     starts: bool = False                  # whether it is a start state, before which no byte is from
 
 
-class Device:
-    """A device, as a search of its past."""
-
-    def last(self, name):
-        """What the newest call that changed it made of a register or bit."""
-        return next(fact.made[name] for fact in reversed(self.past) if name in fact.made)
+def last(past, name):
+    """What the newest call that changed it made of a register or bit."""
+    return next(fact.made[name] for fact in reversed(past) if name in fact.made)
 
 
 def start_fact(registers, held):
     """The start state of a port. Bits that mean nothing stay with the registers that show them."""
-    made = dict(zip(REGISTERS, registers))
+    made = dict(zip(FRESH, registers))
     own = {name: made[register] & bit != 0 for register, bits in BITS.items() for name, bit in bits.items()}
     return Fact(made | own, held, starts=True)
 
 
-class Port(Device):
+class Port:
     """A serial port. `refuses` says of a number whether the interrupt line refuses that call in a call of the port,
     counted from 1. `writing` has the words of tests/calls for what the writer does with a byte: n, f, i, u or none."""
 
     def __init__(self, refuses, writing):
         self.refuses, self.writing = refuses, writing
-        self.past = [start_fact(FRESH, b"")]
+        self.past = [start_fact(FRESH.values(), b"")]
 
     # What the past says.
+
+    def last(self, name):
+        return last(self.past, name)
 
     def register(self, name):
         """A register, with its bits that are facts of their own."""
@@ -96,7 +87,7 @@ class Port(Device):
 
     def state(self):
         """The registers of a saved state."""
-        return bytes(map(self.register, REGISTERS))
+        return bytes(map(self.register, FRESH))
 
     def did(self, start=0):
         """The calls of objects, from a fact on."""
@@ -104,6 +95,10 @@ class Port(Device):
 
     def output(self):
         return b"".join(fact.sent for fact in self.past)
+
+    def due(self):
+        """How many conditions are pending and enabled."""
+        return sum(self.last(condition) for condition, bit in ENABLED_BY.items() if self.last("IER") & bit)
 
     # Calls, each with its reply.
 
@@ -152,9 +147,7 @@ class Port(Device):
         if name == "IER":
             raised, did = self.raises(["RDA", "THRE"] if self.held() else ["THRE"], value)
             return self.done("ok", {"IER": value & 0x0F} | raised, did)
-        if name in ("DLL", "DLM", "LCR", "MCR", "SCR"):
-            self.done("ok", {name: value}, [])
-        return "ok"
+        return self.done("ok", {name: value} if name in ("DLL", "DLM", "LCR", "MCR", "SCR") else {}, [])
 
     def send(self, value):
         """Writes a byte, flushes it if it was taken, and reports it. Raises THRE, whatever became of it."""
@@ -183,11 +176,6 @@ class Port(Device):
         made, did = self.raises(["RDA"] if self.held() else [], self.last("IER"))
         return self.done("ok", made, did)
 
-    def due(self):
-        """How many conditions are pending and enabled."""
-        enable = self.last("IER")
-        return sum(self.last(condition) for condition, bit in ENABLED_BY.items() if enable & bit)
-
     def retry(self):
         """Calls the line for what is due. Nothing else changes."""
         return self.done("ok", {}, self.line_calls(self.due()))
@@ -199,60 +187,59 @@ class Port(Device):
             got += self.read(0)
         return got
 
-    def restore(self, past):
-        """Puts a port with another past in the place of this one, if the line takes the calls for the conditions that
-        are pending and enabled. Returns these calls."""
-        own, self.past = self.past, past
+    def restore(self, *start):
+        """Puts a port with this start, or with none a copy of this one, in its place, if the line takes the calls for
+        what is due then."""
+        own = len(self.past)
+        self.past += start
         did = self.line_calls(self.due())
-        self.past = own if "R" in did else [*past, Fact({}, did=did)]
-        return did
+        if "R" in did:
+            del self.past[own:]
+        return self.done("ok", {}, did)
 
 
-class Clock(Device):
+class Clock:
+    """A real-time clock."""
+
     def __init__(self):
-        self.start()
+        self.start([0] * len(CLOCK_FIELDS))
 
-    def start(self, **fields):
-        """Begins at a state, whose other fields are 0."""
-        self.past = [Fact(dict.fromkeys(CLOCK_FIELDS, 0) | fields)]
+    def start(self, fields):
+        """Begins at a state."""
+        self.past = [Fact(dict(zip(CLOCK_FIELDS, fields)))]
 
     def raw_status(self):
         """The bits that were raised, by the start or by an access, and that no write has cleared since."""
         bits = 0
         for fact in self.past:
-            bits = (bits | fact.made.get("raised", 0)) & ~fact.made.get("cleared", 0)
+            bits = (bits | fact.made.get("RIS", 0)) & ~fact.made.get("cleared", 0)
         return bits
 
-    def line(self):
-        """The level of the interrupt line: bit 0 of the raw status, if the mask has it."""
-        return self.raw_status() & self.last("IMSC") & 1
-
     def state(self):
-        return [self.raw_status() if name == "raised" else self.last(name) for name in CLOCK_FIELDS]
+        return [self.raw_status() if name == "RIS" else last(self.past, name) for name in CLOCK_FIELDS]
 
     def access(self, moment, offset, value=None):
         """Makes an access. Returns the number that a read shows, 0 for a write, or None for an invalid access."""
         time = moment % 2**32
-        counter = time + self.last("ahead")
+        counter = time + last(self.past, "offset")
         guest_time = counter if 0 <= counter < 2**32 else time
-        is_reached = self.last("armed") and guest_time >= self.last("MR")
-        made = {"raised": 1, "armed": False} if is_reached else {}
-        name = CLOCK_AT.get(offset, "")
-        # A register without a rule of its own keeps the number that was written last.
-        writes = {} if value is None else {
-            "MR": {"MR": value, "armed": value > guest_time} | ({"raised": 1} if value == guest_time else {}),
-            "LR": {"LR": value, "ahead": value - time},
-            "CR": {"LR": 0, "ahead": 0} if value == 1 else {},
+        is_reached = last(self.past, "armed") and guest_time >= last(self.past, "MR")
+        found = {"RIS": 1, "armed": 0} if is_reached else {}
+        name = CLOCK_AT.get(offset)
+        if value is None:
+            self.past.append(Fact(found))
+            status, mask = self.raw_status(), last(self.past, "IMSC")
+            shown = {"DR": guest_time, "MR": last(self.past, "MR"), "LR": last(self.past, "LR"), "CR": 1, "IMSC": mask,
+                     "RIS": status, "MIS": status & mask}
+            return shown.get(name, IDENTIFICATION[offset - 0xFE0 >> 2] if 0xFE0 <= offset < 0x1000 else None)
+        writes = {
+            "MR": {"MR": value, "armed": int(value > guest_time)} | ({"RIS": 1} if value == guest_time else {}),
+            "LR": {"LR": value, "offset": value - time},
+            "CR": {"LR": 0, "offset": 0} if value == 1 else {},
             "IMSC": {"IMSC": value & 1},
-            "ICR": {"cleared": value}}.get(name, {name: value} if name in CLOCK_FIELDS else None)
-        self.past.append(Fact(made | (writes or {})))
-        if value is not None:
-            return None if writes is None else 0
-        if name.startswith("ID"):
-            return IDENTIFICATION[int(name[2:])]
-        status, mask = self.raw_status(), self.last("IMSC")
-        kept = self.last(name) if name in CLOCK_FIELDS else None
-        return {"DR": guest_time, "CR": 1, "RIS": status, "MIS": status & mask}.get(name, kept)
+            "ICR": {"cleared": value}}
+        self.past.append(Fact(found | writes.get(name, {})))
+        return 0 if name in writes else None
 
 
 def resets(offset, value):

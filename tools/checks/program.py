@@ -14,7 +14,6 @@ CRATES = Path(__file__).resolve().parents[2] / "crates"
 # The programs, each with the crates whose sources it is built of, the lowest last.
 SOURCES = {
     "superio": ["superio", "superio_script", "vm_superio", "superio_core"],
-    "superio_harness": ["superio_harness", "vm_superio", "superio_core"],
 }
 
 # The longest that one run of the program may take, in seconds.

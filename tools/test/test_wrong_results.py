@@ -3,39 +3,22 @@ import lzma
 import platform
 import shutil
 import subprocess
-import sys
 import unittest
 
-from repository import NOTHING_ELSE, ROOT, TOOLS, CopyTest, FolderTest, program, sum_of
+from repository import NOTHING_ELSE, ROOT, CopyTest, FolderTest, program, sum_of
 
 # A program that prints its script, and others that differ from it in one thing.
 RIGHT, STATUS = "cat", "cat; exit 1"
 WRONG = ("sed 's/4$/5/'", "cat; echo", "sed '$d'", "cat; echo fault >&2", STATUS, "true")
-# A program that replies to calls as the search of the past does, and one that differs in a read.
-OF_CALLS = f"""\
-#!{sys.executable}
-import sys
-sys.path.insert(0, {str(TOOLS / "checks")!r})
-from expected import Monitor
-monitor = Monitor()
-for line in sys.stdin:
-    reply = monitor.reply(line.rstrip())
-    print(reply)
-"""
-WRONG_CALLS = OF_CALLS.replace("print(reply)", "print('08' if line == 'sr 07\\n' else reply)")
-# A fault of the scratch register in each library, and the first call that each does otherwise then.
-SUBJECTS = [
-    ("bindings/python/superio/devices.py", "ReadEffects(done.byte, done",
-     "ReadEffects(done.byte ^ 2 * (offset == 7), done"),
-    ("tools/checks/oracle.py", "shown = self.register(name) if name else 0",
-     "shown = self.register(name) ^ 4 * (name == 'SCR') if name else 0")]
-DIFFERS = [f"{library}, line.txt: recorded: sr 07 = 00\ngot:      sr 07 = {got}\n"
-           for library, got in (("Python", "02"), ("the oracle", "04"), ("Rattle", "08"))]
+# A fault of the scratch register in the search of the past, and the first call that it does otherwise then.
+FAULT = ("tools/checks/oracle.py", "shown = self.register(name) if name else 0",
+         "shown = self.register(name) ^ 4 * (name == 'SCR') if name else 0")
+DIFFERS = "the search, line.txt: recorded: sr 07 = 00\ngot:      sr 07 = 04\n"
 LIBRARY = ROOT / "prebuilt" / f"{platform.machine()}-linux" / "libsuperio_c.a"
 
 
 class Programs(CopyTest):
-    parts = "tools", "bindings/python", "docs/SAVED-STATES.md", "include", "prebuilt", "tests"
+    parts = "tools", "bindings/python", "include", "prebuilt", "tests"
 
     def judge_programs(self, tool, count, wrong=WRONG):
         """All cases pass with the right program, and none with another."""
@@ -63,16 +46,16 @@ class Programs(CopyTest):
         self.assertEqual(sum_of(printed)[0], 0)
 
     def test_calls(self):
-        """Each library notices a recording that is wrong, and a fault of its own."""
+        """The search of the past notices a recording that is wrong, and a fault of its own."""
         recordings = self.root / "tests" / "calls"
         self.write("tests/calls/calls.txt.xz", lzma.compress((recordings / "line.txt").read_bytes()))
-        for path in recordings.glob("*.txt"):
-            before, equals, after = path.read_text(encoding="ascii").rpartition(" = ")
-            path.write_text(f"{before}{equals}0{after}", encoding="ascii")
-        for change in SUBJECTS:
-            self.change(*change)
-        printed = self.run_tool("tools/checks/calls", program(self.root / "program", WRONG_CALLS), env=NOTHING_ELSE)[1]
-        self.assertEqual([it for it in DIFFERS if it not in printed], [], printed)
+        path = recordings / "order.txt"
+        before, equals, after = path.read_text(encoding="ascii").rpartition(" = ")
+        path.write_text(f"{before}{equals}0{after}", encoding="ascii")
+        self.change(*FAULT)
+        status, printed, _ = self.run_tool("tools/checks/calls", env=NOTHING_ELSE)
+        self.assertEqual((status, sum_of(printed)[:2]), (1, (0, 3)), printed)
+        self.assertIn(DIFFERS, printed)
 
 
 class Players(FolderTest):
