@@ -7,33 +7,23 @@ from itertools import product
 from expected import CLOCK, CLOCK_CONTENTS, SERIAL, form
 from oracle import FIFO_SIZE, FRESH
 
-REFUSALS = ("", " 1", " 2")
-WRITING = ("", " n", " f", " u", " i")
 LINES, CALLS = 36, 40                 # of a random script at most, and of a random run
 # The fields of each line of a script, with zeros for digits.
 FORMS = ["refuse 0000000000000000", "sr 00", "sw 00 00", "sq 0000", "si", "sc", "sd", "ss", "sb", "sl 0000", "so", "st",
          "se", "cr 0000000000000000 0000", "cw 0000000000000000 0000 00000000", "cb", "cl 0000", "kr 00", "kw 00 00"]
 
 
-# What is drawn: a word in capitals stands for it below.
-
 def number(source):
     """A number of 32 bits. Those at the ends are common."""
     return source.choice((source.getrandbits(32), source.randrange(4), 2**32 - 1 - source.randrange(4)))
 
 
-def moment(source):
-    """A number of 64 bits, whose upper half is mostly 0 or 1: what moves clocks across the ends of 32 bits."""
-    return source.choice((0, 0, 1, source.getrandbits(32))) << 32 | number(source)
-
-
 def port_state(source):
     """Any registers, and bytes that are held. DLAB and loopback are mostly clear."""
-    registers = bytearray(source.randbytes(len(FRESH)))
-    registers[3] &= source.choice((0x07, 0xFF))
-    registers[4] &= source.choice((0x7F, 0x7F, 0xFF))
-    registers[6] &= source.choice((0xEF, 0xEF, 0xFF))
-    return bytes(registers), source.randbytes(source.choice((0, 1, 2, FIFO_SIZE, source.randrange(FIFO_SIZE + 2))))
+    masks = (0xFF, 0xFF, 0xFF, source.choice((0x07, 0xFF)), source.choice((0x7F, 0x7F, 0xFF)), 0xFF,
+             source.choice((0xEF, 0xEF, 0xFF)), 0xFF, 0xFF)
+    registers = bytes(byte & mask for byte, mask in zip(source.randbytes(len(FRESH)), masks))
+    return registers, source.randbytes(source.choice((0, 1, 2, FIFO_SIZE, source.randrange(FIFO_SIZE + 2))))
 
 
 def clock_state(source):
@@ -52,19 +42,15 @@ def clock_text(source):
     return f"{lr:08x} {ahead} {mr:08x} {imsc:08x} {ris:08x}{' armed' * armed}"
 
 
+# What is drawn for a word in capitals. A moment mostly moves a clock about the ends of 32 bits.
 DRAWN = {
     "BYTE": lambda source: f"{source.randrange(256):02x}",
     "PLACE": lambda source: f"{source.randrange(10):02x}",
-    "ENABLE": lambda source: f"0{source.randrange(4)}",
-    "LATCH": lambda source: source.choice(("03", "03", "80")),
-    "LOOPBACK": lambda source: source.choice(("08", "0b", f"1{source.randrange(16):x}")),
     "BYTES": lambda source: source.randbytes(source.choice((0, 1, 2, 3, 3, source.randrange(80)))).hex() or "-",
-    "REGISTER": lambda source: f"{source.choice((*range(0, 0x20, 4), source.choice((0xFE3, 0x21, 0xFFFF)))):04x}",
-    "OFFSET": lambda source: f"{source.getrandbits(16):04x}",
+    "REGISTER": lambda source: f"{source.choice((*range(0, 0x20, 4), 0xFE3, 0x21, source.getrandbits(16))):04x}",
     "NUMBER": lambda source: f"{number(source):08x}",
-    "MOMENT": lambda source: f"{moment(source):016x}",
+    "MOMENT": lambda source: f"{source.choice((0, 0, 1, source.getrandbits(32))):08x}{number(source):08x}",
     "MASK": lambda source: f"{source.getrandbits(64) & source.choice((-1, source.getrandbits(64), 0x3F)):016x}",
-    "RESET": lambda source: source.choice(("04 fe", "04 fe", f"04 {source.randrange(256):02x}", "60 fe")),
     "WORDS": lambda source: source.choice((*[""] * 6, *"12nfui", "1 2", "1 f", "1 u", "2 n")),
     "PORT": port_text,
     "CLOCK": clock_text,
@@ -72,11 +58,11 @@ DRAWN = {
     "KEPT": lambda source: form(CLOCK, CLOCK_CONTENTS.pack(*clock_state(source))).hex(),
 }
 # Lines, each with how often it is made beside the others.
-OF_PORT = {"sr PLACE": 3, "sr 00": 3, "sr 02": 3, "sr BYTE": 1, "sw 00 BYTE": 3, "sw 01 ENABLE": 3, "sw 03 LATCH": 1,
-           "sw 04 LOOPBACK": 1, "sw PLACE BYTE": 1, "sq BYTES": 3, "si": 2, "ss": 1, "sc": 1}
-OF_CLOCK = {"cr MOMENT 0000": 3, "cr MOMENT REGISTER": 5, "cw MOMENT REGISTER NUMBER": 7, "cr MOMENT OFFSET": 1,
-            "cw MOMENT OFFSET NUMBER": 1}
-OF_CONTROLLER = {"kw RESET": 3, "kw BYTE BYTE": 1, "kr BYTE": 1}
+OF_PORT = {"sr PLACE": 3, "sr 00": 3, "sr 02": 3, "sr BYTE": 1, "sw 00 BYTE": 3, "sw 01 01": 1, "sw 01 02": 1,
+           "sw 01 03": 1, "sw 03 03": 1, "sw 03 80": 1, "sw 04 08": 1, "sw 04 1b": 1, "sw PLACE BYTE": 2, "sq BYTES": 3,
+           "si": 2, "ss": 1, "sc": 1}
+OF_CLOCK = {"cr MOMENT 0000": 3, "cr MOMENT REGISTER": 6, "cw MOMENT REGISTER NUMBER": 8}
+OF_CONTROLLER = {"kw 04 fe": 2, "kw 04 BYTE": 1, "kw BYTE fe": 1, "kr BYTE": 1}
 # With the lines that only scripts have.
 PORT = {**OF_PORT, "sl SAVED": 1, "sd": 1, "st": 1, "se": 1, "so": 1, "sb": 1}
 CLOCKS = {**OF_CLOCK, "cb": 1, "cl KEPT": 1}
@@ -94,21 +80,16 @@ def drawn(source, text):
     return re.sub("[A-Z]+", lambda word: DRAWN[word[0]](source), text)
 
 
-def broken(source, script):
-    """A script that is cut short, or has a byte changed, taken out or put in."""
-    place = source.randrange(len(script))
-    before, after = script[:place], script[place + 1:]
-    byte = chr(source.choice((source.randrange(256), *b" \n\r0f\xFF")))
-    return source.choice((before, before + byte + after, before + after, before + byte + script[place:]))
-
-
 def random_script(source):
-    """A script, with a character for each byte, half of them under a mask. One of eight is broken."""
+    """A script, with a character for each byte, half of them under a mask. One of eight is cut short, or has a byte
+    changed, taken out or put in."""
     (_, start, table), = source.choices(SCRIPTS, [often for often, *_ in SCRIPTS])
     lines = source.choices([*table], table.values(), k=source.randint(1, LINES))
     script = "\n".join([*["refuse MASK"] * source.randrange(2), *start, *lines, *ENDS, ""])
     script = drawn(source, script).replace(" -", "")
-    return broken(source, script) if source.randrange(8) == 0 else script
+    place, byte = source.randrange(len(script)), chr(source.choice((source.randrange(256), *b" \n\r0f\xFF")))
+    before, after = script[:place], script[place + source.randrange(2):]
+    return source.choice((*[script] * 21, before, before + byte + after, before + after))
 
 
 def random_run(source):
@@ -127,7 +108,6 @@ def random_cases(make, what, seed, count):
 def broken_lines():
     """A line of each form up to each character, and with each lost, doubled or another one. Some are good after all."""
     for line in FORMS:
-        yield f"{line} 00"
         for place, good in enumerate(f"{line} "):
             others = ("", 2 * good, good.upper(), *"g \t\r\0\xFF")
             yield from (line[:place], *(line[:place] + other + line[place + 1:] for other in others))
@@ -139,8 +119,7 @@ def loaded_bytes():
     whole = [bytes.fromhex(drawn(source, kind)) for kind in ("SAVED", "KEPT") * 25]
     bounds = [(SERIAL, 0), (SERIAL, 8), (SERIAL, 9), (SERIAL, 72), (SERIAL, 73), (SERIAL, 74), (CLOCK, 24), (CLOCK, 26)]
     for data in (*whole, *(form(kind, bytes(length)) for kind, length in bounds)):
-        yield from (data[:length] for length in range(1, len(data) + 1))
-        yield from (data + b"\x00", data + data[:30])
+        yield from (*(data[:length] for length in range(1, len(data) + 1)), data + b"\x00", data + data[:30])
     for data, place, value in product(whole[:2], range(33), range(256)):
         yield data[:place] + bytes([value]) + data[place + 1:]
     for start in (b"", b"SIOS", b"SIOS\x01\x01", b"SIOS\x02\x01") * 500:
@@ -153,47 +132,17 @@ def every_load():
         yield from (f"sl {data.hex()}", "sb", f"cl {data.hex()}", "cb")
 
 
-def fixed_scripts():
-    """Each script with its kind: a broken line alone, and one after a good line, without a line feed; and loads."""
-    for line in dict.fromkeys(broken_lines()):
-        yield "broken lines", f"{line}\n"
-        yield "broken lines", f"sc\n{line}"
-    loads = list(every_load())
-    for place in range(0, len(loads), 400):
-        yield "loads", "".join(f"{line}\n" for line in loads[place:place + 400])
-
-
-def port_with(count, registers):
-    """A port that holds so many bytes, all different. LSR shows whether it does."""
-    held = bytes(range(0x41, 0x41 + count)).hex()
-    return f"sl {registers.replace('..', '61' if held else '60')} {held or '-'}"
-
-
-def in_every_state(calls):
-    """Each call in each state that a rule tells apart, and the state after it: what is enabled and pending, the divisor
-    latch, loopback, and no byte, one and as many as fit."""
-    states = product(range(4), (1, 2, 4, 6), ("03", "83"), ("08", "18"), (0, 1, FIFO_SIZE))
-    for enable, pending, latch, modem, count in states:
-        start = port_with(count, f"0c000{enable}0{pending}{latch}..{modem}b05a")
-        for call in calls:
-            yield from (start, call, "ss")
-
-
 def every_answer():
-    """Each kind of call in each of these states with every answer of the objects; every byte; every number of bytes;
-    whatever becomes of three bytes, with what the guest reads; and the controller at each offset and value. The rows of
-    tests/calls stand at the bounds of these."""
-    accesses = [call for offset in (*range(9), 255) for call in (f"sr {offset:02x} 1 f", f"sw {offset:02x} 1b 1 f")]
-    sends = [f"sw 00 41{refusal}{writing}" for refusal, writing in product(REFUSALS[:2], WRITING)]
-    ask_once = product(("sw 01 00", "sw 01 01", "sw 01 02", "sq -", "sq 61", "sq 616263", "si"), REFUSALS[:2])
-    ask_twice = product(("sw 01 03", "sp", "ss", port_with(2, "0c00030603..08b077")), REFUSALS)
-    yield from in_every_state([*accesses, *sends, *map("".join, ask_once), *map("".join, ask_twice)])
-    yield port_with(0, "0c00020203..08b05a")
-    yield from (f"sw 00 {byte:02x}{writing}" for byte, writing in product(range(256), WRITING))
-    sends = [f"sw 00 41{writing}" for writing in WRITING]
-    for count in range(FIFO_SIZE + 2):
-        yield from (port_with(count, "0c00000103..08b05a"), "ss", *sends, "sq 616263", "sc", "sr 00", "ss")
-    for three in product(sends, repeat=3):
-        yield from (port_with(0, "0c00020103..08b05a"), *(line for send in three for line in (send, "sr 02")))
-    for byte, refusal in product(range(256), REFUSALS[:2]):
+    """Each kind of call in each state that a rule tells apart, with every answer of the objects, and the state after
+    it; and every write of the controller that might be a reset. A state is what is enabled and pending, the divisor
+    latch, loopback, and no byte, one or as many as fit. The rows of tests/calls stand at the bounds of these."""
+    calls = [call for offset in (*range(9), 255) for call in (f"sr {offset:02x} 1 f", f"sw {offset:02x} 1b 1 f")]
+    calls += map("".join, product(("sw 00 41", "sw 00 00"), ("", " 1"), ("", " n", " f", " u", " i")))
+    calls += map("".join, product(("sw 01 00", "sw 01 01", "sw 01 02", "sq -", "sq 61", "sq 616263", "si"), ("", " 1")))
+    calls += map("".join, product(("sw 01 03", "sp", "ss", "sl 0c000306036108b077 4142"), ("", " 1", " 2")))
+    for enable, pending, latch, modem, count in product(range(4), (1, 2, 4, 6), ("03", "83"), ("08", "18"), (0, 1, 64)):
+        held = bytes(range(0x41, 0x41 + count)).hex()
+        start = f"sl 0c000{enable}0{pending}{latch}{'61' if held else '60'}{modem}b05a {held or '-'}"
+        yield from (line for call in calls for line in (start, call, "ss"))
+    for byte, refusal in product(range(256), ("", " 1")):
         yield from (f"kr {byte:02x}{refusal}", f"kw {byte:02x} fe{refusal}", f"kw 04 {byte:02x}{refusal}")

@@ -35,49 +35,35 @@ def load_reply(kind, data):
     return next((fault for fault, is_good in checks if not is_good), "ok")
 
 
-def number(digits):
-    return int(digits, 16)
-
-
-def data_of(digits=""):
-    return bytes.fromhex(digits.strip("-"))
-
-
 class Board:
     """The devices of a script, as docs/SCRIPT.md describes it. The interrupt line refuses the calls of a mask, and the
     output takes 256 bytes."""
 
     def __init__(self, mask=0):
-        self.mask, self.uncounted = mask, 0
-        self.port, self.clock = Port(self.refuses, self.writing), Clock()
+        self.mask, self.port, self.clock = mask, Port(self.refuses, self.writing), Clock()
 
     def count(self, *calls):
         return sum(call in calls for call in self.port.did())
 
-    def line_calls(self):
-        """How often the line was called. The calls of a restore that was refused do not count."""
-        return self.count("T", "R") - self.uncounted
-
     def refuses(self, number):
-        place = self.line_calls() + number - 1
+        place = self.count("T", "R") + number - 1
         return place < MASKED and self.mask >> place & 1 == 1
 
     def writing(self):
         return "n" if len(self.port.output()) >= ROOM else ""
 
     def restore(self, *start):
-        before, reply = self.line_calls(), self.port.restore(*start)
-        self.uncounted += self.line_calls() - before if reply == "trigger" else 0
+        reply = self.port.restore(*start)
+        if reply == "trigger":
+            self.port.past.pop()  # the calls of a restore that was refused do not count
         return reply
 
-    def load(self, data):
-        reply = load_reply(SERIAL, data)
-        return self.restore(start_fact(data[8:17], data[17:])) if reply == "ok" else reply
-
-    def load_clock(self, data):
-        reply = load_reply(CLOCK, data)
+    def load(self, kind, data):
+        reply = load_reply(kind, data)
+        if reply == "ok" and kind == SERIAL:
+            return self.restore(start_fact(data[8:17], data[17:]))
         if reply == "ok":
-            self.clock.start(CLOCK_CONTENTS.unpack(data[8:]))
+            self.clock = Clock(*CLOCK_CONTENTS.unpack(data[8:]))
         return reply
 
     def of_clock(self, moment, offset, *value):
@@ -87,16 +73,16 @@ class Board:
     def reply(self, line):
         name, *fields = line.split(" ")
         port = self.port
-        of_bytes = {"sq": port.enqueue, "sl": self.load, "cl": self.load_clock}
-        if name in of_bytes:
-            return of_bytes[name](data_of(*fields))
+        if name in ("sq", "sl", "cl"):
+            data = bytes.fromhex("".join(fields).strip("-"))
+            return port.enqueue(data) if name == "sq" else self.load(SERIAL if name == "sl" else CLOCK, data)
         return {"sr": port.read, "sw": port.write, "si": port.character_timeout, "sc": lambda: f"{port.room():02x}",
                 "sd": port.drain, "ss": self.restore, "sb": lambda: form(SERIAL, port.state() + port.held()).hex(),
-                "so": lambda: port.output().hex(), "st": lambda: f"{self.line_calls():016x}",
+                "so": lambda: port.output().hex(), "st": lambda: f"{self.count('T', 'R'):016x}",
                 "se": lambda: " ".join(f"{self.count(event):016x}" for event in "bole"),
                 "cb": lambda: form(CLOCK, CLOCK_CONTENTS.pack(*self.clock.state())).hex(), "cr": self.of_clock,
                 "cw": self.of_clock, "kr": lambda _: "00",
-                "kw": lambda *write: "reset" if resets(*write) else "ok"}[name](*map(number, fields))
+                "kw": lambda *write: "reset" if resets(*write) else "ok"}[name](*(int(field, 16) for field in fields))
 
 
 def script_replies(script):
@@ -106,7 +92,7 @@ def script_replies(script):
     refuse = re.fullmatch("refuse ([0-9A-Fa-f]{16})", lines[0]) if lines else None
     first = 1 if refuse else 0
     bad = next((place for place, line in enumerate(lines) if place >= first and not LINE.fullmatch(line)), None)
-    board = Board(number(refuse[1]) if refuse else 0)
+    board = Board(int(refuse[1], 16) if refuse else 0)
     answered = lines[first:bad]
     return answered, [board.reply(line) for line in answered], None if bad is None else bad + 1
 
@@ -119,9 +105,9 @@ class Monitor(Board):
         """What stands after ` = ` in a line of a recording, of what stands before."""
         call, self.words = re.fullmatch("(.*?)((?: [12nfiu])*)", line).groups()
         name, *fields = call.split(" ")
-        own = {"sp": self.port.retry, "sh": lambda: f"{self.port.due() > 0:02x}", "ss": self.replace, "sl": self.put,
-               "cs": self.clock_text, "cl": self.put_clock}
         before = len(self.port.past)
+        own = {"sp": self.port.retry, "sh": lambda: f"{self.port.due() > 0:02x}", "ss": self.replaced, "sl": self.put,
+               "cs": self.clock_text, "cl": self.put_clock}
         reply = own[name](*fields) if name in own else super().reply(call)
         if reply == "invalid":
             return {"cr": "a5a5a5a5 i", "cw": "ok j"}[name]
@@ -135,21 +121,21 @@ class Monitor(Board):
     def writing(self):
         return self.words
 
-    def replace(self, *start):
+    def replaced(self, *start):
         reply = self.port.restore(*start)
         state = f"{self.port.state().hex()} {self.port.held().hex() or '-'} {self.port.room():02x}"
         return state if reply == "ok" else reply
 
     def put(self, registers, digits):
-        held = data_of(digits)
-        return "full" if len(held) > FIFO_SIZE else self.replace(start_fact(data_of(registers), held))
+        held = bytes.fromhex(digits.strip("-"))
+        return "full" if len(held) > FIFO_SIZE else self.replaced(start_fact(bytes.fromhex(registers), held))
 
     def clock_text(self):
         lr, mr, imsc, ris, offset, armed = self.clock.state()
         return f"{lr:08x} {offset} {mr:08x} {imsc:08x} {ris:08x}{' armed' * armed}"
 
     def put_clock(self, lr, offset, mr, imsc, ris, *armed):
-        self.clock.start([*map(number, (lr, mr, imsc, ris)), int(offset), len(armed)])
+        self.clock = Clock(*(int(field, 16) for field in (lr, mr, imsc, ris)), int(offset), len(armed))
         return self.clock_text()
 
 

@@ -36,11 +36,6 @@ class Fact(NamedTuple):
     starts: bool = False                  # whether it is a start state, before which no byte is from
 
 
-def last(past, name):
-    """What the newest call that changed it made of a register or bit."""
-    return next(fact.made[name] for fact in reversed(past) if name in fact.made)
-
-
 def start_fact(registers, held):
     """The start state of a port. Bits that mean nothing stay with the registers that show them."""
     made = dict(zip(FRESH, registers))
@@ -48,18 +43,21 @@ def start_fact(registers, held):
     return Fact(made | own, held, starts=True)
 
 
-class Port:
+class Device:
+    """A device, as a search of its past."""
+
+    def last(self, name):
+        """What the newest call that changed it made of a register or bit."""
+        return next(fact.made[name] for fact in reversed(self.past) if name in fact.made)
+
+
+class Port(Device):
     """A serial port. `refuses` says of a number whether the interrupt line refuses that call in a call of the port,
     counted from 1. `writing` has the words of tests/calls for what the writer does with a byte: n, f, i, u or none."""
 
     def __init__(self, refuses, writing):
         self.refuses, self.writing = refuses, writing
         self.past = [start_fact(FRESH.values(), b"")]
-
-    # What the past says.
-
-    def last(self, name):
-        return last(self.past, name)
 
     def register(self, name):
         """A register, with its bits that are facts of their own."""
@@ -99,8 +97,6 @@ class Port:
     def due(self):
         """How many conditions are pending and enabled."""
         return sum(self.last(condition) for condition, bit in ENABLED_BY.items() if self.last("IER") & bit)
-
-    # Calls, each with its reply.
 
     def line_calls(self, count):
         """What the interrupt line does in so many calls, up to its first refusal."""
@@ -198,15 +194,11 @@ class Port:
         return self.done("ok", {}, did)
 
 
-class Clock:
-    """A real-time clock."""
+class Clock(Device):
+    """A real-time clock, from the fields of a state on."""
 
-    def __init__(self):
-        self.start([0] * len(CLOCK_FIELDS))
-
-    def start(self, fields):
-        """Begins at a state."""
-        self.past = [Fact(dict(zip(CLOCK_FIELDS, fields)))]
+    def __init__(self, *fields):
+        self.past = [Fact(dict(zip(CLOCK_FIELDS, fields or [0] * len(CLOCK_FIELDS))))]
 
     def raw_status(self):
         """The bits that were raised, by the start or by an access, and that no write has cleared since."""
@@ -216,20 +208,20 @@ class Clock:
         return bits
 
     def state(self):
-        return [self.raw_status() if name == "RIS" else last(self.past, name) for name in CLOCK_FIELDS]
+        return [self.raw_status() if name == "RIS" else self.last(name) for name in CLOCK_FIELDS]
 
     def access(self, moment, offset, value=None):
         """Makes an access. Returns the number that a read shows, 0 for a write, or None for an invalid access."""
         time = moment % 2**32
-        counter = time + last(self.past, "offset")
+        counter = time + self.last("offset")
         guest_time = counter if 0 <= counter < 2**32 else time
-        is_reached = last(self.past, "armed") and guest_time >= last(self.past, "MR")
+        is_reached = self.last("armed") and guest_time >= self.last("MR")
         found = {"RIS": 1, "armed": 0} if is_reached else {}
         name = CLOCK_AT.get(offset)
         if value is None:
             self.past.append(Fact(found))
-            status, mask = self.raw_status(), last(self.past, "IMSC")
-            shown = {"DR": guest_time, "MR": last(self.past, "MR"), "LR": last(self.past, "LR"), "CR": 1, "IMSC": mask,
+            status, mask = self.raw_status(), self.last("IMSC")
+            shown = {"DR": guest_time, "MR": self.last("MR"), "LR": self.last("LR"), "CR": 1, "IMSC": mask,
                      "RIS": status, "MIS": status & mask}
             return shown.get(name, IDENTIFICATION[offset - 0xFE0 >> 2] if 0xFE0 <= offset < 0x1000 else None)
         writes = {

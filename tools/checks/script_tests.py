@@ -1,4 +1,4 @@
-"""Scripts with their replies, as `tools/checks/scripts` describes them."""
+"""Scripts with their replies, in the form that tests/README.md describes."""
 import json
 import lzma
 import re
@@ -40,34 +40,27 @@ class Script(NamedTuple):
                 f"ended with {got[0]}, {got[2]} instead of {self.end!r}, of {self.script[:400]}")
 
 
-def text_of(lines):
-    return "".join(f"{line}\n" for line in lines).encode()
-
-
 def text(expression):
     """The bytes that an expression of strings stands for."""
     terms = [re.fullmatch(r'(".*?")(?: \* (\d+))?', term) for term in re.split(r' \+ (?=")', expression)]
     return b"".join(json.loads(term[1]).encode("latin-1") * int(term[2] or 1) for term in terms)
 
 
-def of_rows(place, rows, end):
-    """The script that has lines and replies side by side."""
-    lines, replies = zip(*(entry for row in rows for entry in entries_of(row)))
-    return Script(place, text_of(lines), text_of(reply for reply in replies if reply is not None), end)
-
-
-def of_texts(place, rows, end):
-    """The scripts that stand as strings, each with the same replies and end."""
-    found = {"script": [], "replies": []}
-    for kind, expression in (row.split(" ", 1) for row in rows):
-        found[kind].append(text(expression))
-    return [Script(place, script, b"".join(found["replies"]), end) for script in found["script"]]
+def joined(lines):
+    return "".join(f"{line}\n" for line in lines).encode()
 
 
 def of_block(place, rows):
     """The scripts of rows without an empty line between them."""
-    end = rows.pop() if END.fullmatch(rows[-1]) else ""
-    return of_texts(place, rows, end) if rows[0].startswith("script ") else [of_rows(place, rows, end)]
+    end = rows[-1] if END.fullmatch(rows[-1]) else ""
+    rows = rows[:-1] if end else rows
+    if not rows[0].startswith("script "):
+        lines, replies = zip(*(entry for row in rows for entry in entries_of(row)))
+        return [Script(place, joined(lines), joined(reply for reply in replies if reply is not None), end)]
+    found = {"script": [], "replies": []}
+    for kind, expression in (row.split(" ", 1) for row in rows):
+        found[kind].append(text(expression))
+    return [Script(place, script, b"".join(found["replies"]), end) for script in found["script"]]
 
 
 def scripts_of(path):
