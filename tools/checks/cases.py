@@ -4,7 +4,7 @@ import random
 import re
 from itertools import product
 
-from expected import CLOCK, CLOCK_CONTENTS, SERIAL, form
+from expected import CLOCK, CLOCK_CONTENTS, SERIAL, clock_text, form, port_text
 from oracle import FIFO_SIZE, FRESH
 
 LINES, CALLS = 36, 40                 # of a random script at most, and of a random run
@@ -32,16 +32,6 @@ def clock_state(source):
     return [*(number(source) for _ in range(4)), ahead, source.randrange(2)]
 
 
-def port_text(source):
-    registers, held = port_state(source)
-    return f"{registers.hex()} {held.hex() or '-'}"
-
-
-def clock_text(source):
-    lr, mr, imsc, ris, ahead, armed = clock_state(source)
-    return f"{lr:08x} {ahead} {mr:08x} {imsc:08x} {ris:08x}{' armed' * armed}"
-
-
 # What is drawn for a word in capitals. A moment mostly moves a clock about the ends of 32 bits.
 DRAWN = {
     "BYTE": lambda source: f"{source.randrange(256):02x}",
@@ -52,8 +42,8 @@ DRAWN = {
     "MOMENT": lambda source: f"{source.choice((0, 0, 1, source.getrandbits(32))):08x}{number(source):08x}",
     "MASK": lambda source: f"{source.getrandbits(64) & source.choice((-1, source.getrandbits(64), 0x3F)):016x}",
     "WORDS": lambda source: source.choice((*[""] * 6, *"12nfui", "1 2", "1 f", "1 u", "2 n")),
-    "PORT": port_text,
-    "CLOCK": clock_text,
+    "PORT": lambda source: port_text(*port_state(source)),
+    "CLOCK": lambda source: clock_text(*clock_state(source)),
     "SAVED": lambda source: form(SERIAL, b"".join(port_state(source))).hex(),
     "KEPT": lambda source: form(CLOCK, CLOCK_CONTENTS.pack(*clock_state(source))).hex(),
 }
@@ -113,23 +103,20 @@ def broken_lines():
             yield from (line[:place], *(line[:place] + other + line[place + 1:] for other in others))
 
 
-def loaded_bytes():
-    """Saved states cut short at each place, or longer; two with each byte changed; and random bytes."""
-    source = random.Random("loads")
-    whole = [bytes.fromhex(drawn(source, kind)) for kind in ("SAVED", "KEPT") * 25]
-    bounds = [(SERIAL, 0), (SERIAL, 8), (SERIAL, 9), (SERIAL, 72), (SERIAL, 73), (SERIAL, 74), (CLOCK, 24), (CLOCK, 26)]
-    for data in (*whole, *(form(kind, bytes(length)) for kind, length in bounds)):
-        yield from (*(data[:length] for length in range(1, len(data) + 1)), data + b"\x00", data + data[:30])
-    for data, place, value in product(whole[:2], range(33), range(256)):
-        yield data[:place] + bytes([value]) + data[place + 1:]
-    for start in (b"", b"SIOS", b"SIOS\x01\x01", b"SIOS\x02\x01") * 500:
-        yield start + source.randbytes(source.randrange(1, 80))
+def spoilt(source):
+    """A saved state, which may have a byte changed, be cut short or longer, or have random or other contents."""
+    data, more = bytes.fromhex(drawn(source, source.choice(("SAVED", "KEPT")))), source.randbytes(source.randrange(80))
+    place = source.choice((source.randrange(8), source.randrange(len(data))))
+    changed = data[:place] + source.randbytes(1) + data[place + 1:]
+    bound = form(data[4], bytes(source.choice((8, 9, 24, 25, 26, 72, 73, 74))))
+    return source.choice((data, changed, changed, data[:place], data + more[:8], data[:8] + more, bound))
 
 
 def every_load():
-    """Each of these bytes is loaded as a port and as a clock, which are saved after it."""
-    for data in dict.fromkeys(loaded_bytes()):
-        yield from (f"sl {data.hex()}", "sb", f"cl {data.hex()}", "cb")
+    """Each of many spoilt states is loaded as a port and as a clock, which are saved after it."""
+    source = random.Random("loads")
+    for digits in dict.fromkeys(spoilt(source).hex() for _ in range(20_000)):
+        yield from (f"sl {digits}".rstrip(), "sb", f"cl {digits}".rstrip(), "cb")
 
 
 def every_answer():

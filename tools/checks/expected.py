@@ -2,7 +2,7 @@
 import re
 from struct import Struct
 
-from oracle import FIFO_SIZE, FRESH, Clock, Port, resets, start_fact
+from oracle import FIFO_SIZE, FRESH, Clock, Port, start_fact
 
 ROOM = 256                            # bytes that the output of a script's board takes
 MASKED = 64                           # calls of the interrupt line that a script can refuse
@@ -35,27 +35,47 @@ def load_reply(kind, data):
     return next((fault for fault, is_good in checks if not is_good), "ok")
 
 
+def port_text(registers, held):
+    """The state of a port, as recorded calls have it."""
+    return f"{registers.hex()} {held.hex() or '-'}"
+
+
+def clock_text(lr, mr, imsc, ris, offset, armed):
+    """The state of a clock, as recorded calls have it."""
+    return f"{lr:08x} {offset} {mr:08x} {imsc:08x} {ris:08x}{' armed' * armed}"
+
+
 class Board:
     """The devices of a script, as docs/SCRIPT.md describes it. The interrupt line refuses the calls of a mask, and the
     output takes 256 bytes."""
 
     def __init__(self, mask=0):
-        self.mask, self.port, self.clock = mask, Port(self.refuses, self.writing), Clock()
+        self.mask, self.output, self.did = mask, b"", []
+        self.port, self.clock = Port(self), Clock()
 
-    def count(self, *calls):
-        return sum(call in calls for call in self.port.did())
+    def tell(self, event):
+        self.did.append(event)
 
-    def refuses(self, number):
-        place = self.count("T", "R") + number - 1
+    def line_calls(self):
+        return self.did.count("T") + self.did.count("R")
+
+    def line(self):
+        is_refused = self.refuses(self.line_calls())
+        self.tell("R" if is_refused else "T")
+        return not is_refused
+
+    def refuses(self, place):
         return place < MASKED and self.mask >> place & 1 == 1
 
-    def writing(self):
-        return "n" if len(self.port.output()) >= ROOM else ""
+    def write(self, value):
+        is_taken = len(self.output) < ROOM
+        self.output += bytes([value]) * is_taken
+        return is_taken
 
     def restore(self, *start):
-        reply = self.port.restore(*start)
+        before, reply = len(self.did), self.port.restore(*start)
         if reply == "trigger":
-            self.port.past.pop()  # the calls of a restore that was refused do not count
+            del self.did[before:]  # the calls of a restore that was refused do not count
         return reply
 
     def load(self, kind, data):
@@ -78,11 +98,11 @@ class Board:
             return port.enqueue(data) if name == "sq" else self.load(SERIAL if name == "sl" else CLOCK, data)
         return {"sr": port.read, "sw": port.write, "si": port.character_timeout, "sc": lambda: f"{port.room():02x}",
                 "sd": port.drain, "ss": self.restore, "sb": lambda: form(SERIAL, port.state() + port.held()).hex(),
-                "so": lambda: port.output().hex(), "st": lambda: f"{self.count('T', 'R'):016x}",
-                "se": lambda: " ".join(f"{self.count(event):016x}" for event in "bole"),
+                "so": self.output.hex, "st": lambda: f"{self.line_calls():016x}",
+                "se": lambda: " ".join(f"{self.did.count(event):016x}" for event in "bole"),
                 "cb": lambda: form(CLOCK, CLOCK_CONTENTS.pack(*self.clock.state())).hex(), "cr": self.of_clock,
                 "cw": self.of_clock, "kr": lambda _: "00",
-                "kw": lambda *write: "reset" if resets(*write) else "ok"}[name](*(int(field, 16) for field in fields))
+                "kw": lambda *write: "reset" if write == (4, 0xFE) else "ok"}[name](*(int(it, 16) for it in fields))
 
 
 def script_replies(script):
@@ -105,38 +125,33 @@ class Monitor(Board):
         """What stands after ` = ` in a line of a recording, of what stands before."""
         call, self.words = re.fullmatch("(.*?)((?: [12nfiu])*)", line).groups()
         name, *fields = call.split(" ")
-        before = len(self.port.past)
-        own = {"sp": self.port.retry, "sh": lambda: f"{self.port.due() > 0:02x}", "ss": self.replaced, "sl": self.put,
-               "cs": self.clock_text, "cl": self.put_clock}
+        self.did = []
+        own = {"sp": self.port.retry, "sh": lambda: f"{bool(self.port.due()):02x}", "ss": self.replaced, "sl": self.put,
+               "cs": lambda: clock_text(*self.clock.state()), "cl": self.put_clock}
         reply = own[name](*fields) if name in own else super().reply(call)
-        if reply == "invalid":
-            return {"cr": "a5a5a5a5 i", "cw": "ok j"}[name]
         if reply == "reset":
-            return "trigger R" if self.refuses(1) else "ok T"
-        return " ".join([reply, *self.port.did(before)])
+            reply = "ok" if self.line() else "trigger"
+        return {"cr": "a5a5a5a5 i", "cw": "ok j"}[name] if reply == "invalid" else " ".join([reply, *self.did])
 
-    def refuses(self, number):
-        return str(number) in self.words
+    def refuses(self, place):
+        return str(place + 1) in self.words
 
-    def writing(self):
-        return self.words
+    def write(self, value):
+        is_taken = "n" not in self.words and "f" not in self.words
+        self.did += [f"W{value:02x}"] * (2 if "i" in self.words else 1) + ["F"] * is_taken
+        return is_taken and "u" not in self.words
 
     def replaced(self, *start):
-        reply = self.port.restore(*start)
-        state = f"{self.port.state().hex()} {self.port.held().hex() or '-'} {self.port.room():02x}"
-        return state if reply == "ok" else reply
+        reply, port = self.port.restore(*start), self.port
+        return f"{port_text(port.state(), port.held())} {port.room():02x}" if reply == "ok" else reply
 
     def put(self, registers, digits):
         held = bytes.fromhex(digits.strip("-"))
         return "full" if len(held) > FIFO_SIZE else self.replaced(start_fact(bytes.fromhex(registers), held))
 
-    def clock_text(self):
-        lr, mr, imsc, ris, offset, armed = self.clock.state()
-        return f"{lr:08x} {offset} {mr:08x} {imsc:08x} {ris:08x}{' armed' * armed}"
-
     def put_clock(self, lr, offset, mr, imsc, ris, *armed):
         self.clock = Clock(*(int(field, 16) for field in (lr, mr, imsc, ris)), int(offset), len(armed))
-        return self.clock_text()
+        return clock_text(*self.clock.state())
 
 
 def recording_of(calls, devices=None):

@@ -1,11 +1,11 @@
 """What devices show, by a search of all that was done before: slow, and plainly right.
 
 There are no registers, and no rule is shared with the definitions that the proofs use. Of each call a fact is kept:
-what it wrote, raised and acknowledged, which bytes came in, were taken and went out, and the calls of objects. What a
-call shows is found by a search of the facts before it. A search ends at the latest at the newest start state, a fact of
-the past too. docs/DEVICES.md has the rules.
+what it wrote, raised and acknowledged, and which bytes came in and were taken. What a call shows is found by a search
+of the facts before it. A search ends at the latest at the newest start state, a fact of the past too. docs/DEVICES.md
+has the rules.
 """
-from typing import NamedTuple, Sequence
+from typing import NamedTuple
 
 FIFO_SIZE = 64
 DLAB, LOOPBACK, FIFO_BITS = 0x80, 0x10, 0xC0   # of LCR, of MCR, and of what a guest reads of IIR
@@ -28,12 +28,10 @@ IDENTIFICATION = bytes.fromhex("31 10 04 00 0d f0 05 b1")   # from 0xFE0 on, at 
 class Fact(NamedTuple):
     """What a call did."""
 
-    made: dict                            # what it made of registers and bits, by their names
-    accepted: bytes = b""                 # the bytes that came in and found room
-    took: bool = False                    # whether it took the oldest byte
-    sent: bytes = b""                     # what the writer took
-    did: Sequence = ()                    # the calls of objects, as tests/calls names them
-    starts: bool = False                  # whether it is a start state, before which no byte is from
+    made: dict              # what it made of registers and bits, by their names
+    accepted: bytes = b""   # the bytes that came in and found room
+    took: bool = False      # whether it took the oldest byte
+    starts: bool = False    # whether it is a start state, before which no byte is from
 
 
 def start_fact(registers, held):
@@ -52,11 +50,11 @@ class Device:
 
 
 class Port(Device):
-    """A serial port. `refuses` says of a number whether the interrupt line refuses that call in a call of the port,
-    counted from 1. `writing` has the words of tests/calls for what the writer does with a byte: n, f, i, u or none."""
+    """A serial port over objects. Their `line` and `write` say whether a call of the interrupt line or of the writer
+    succeeded, and `tell` takes events, by the letters of tests/calls."""
 
-    def __init__(self, refuses, writing):
-        self.refuses, self.writing = refuses, writing
+    def __init__(self, objects):
+        self.objects = objects
         self.past = [start_fact(FRESH.values(), b"")]
 
     def register(self, name):
@@ -87,79 +85,67 @@ class Port(Device):
         """The registers of a saved state."""
         return bytes(map(self.register, FRESH))
 
-    def did(self, start=0):
-        """The calls of objects, from a fact on."""
-        return [call for fact in self.past[start:] for call in fact.did]
-
-    def output(self):
-        return b"".join(fact.sent for fact in self.past)
-
     def due(self):
-        """How many conditions are pending and enabled."""
-        return sum(self.last(condition) for condition, bit in ENABLED_BY.items() if self.last("IER") & bit)
+        """The conditions that are pending and enabled."""
+        return [condition for condition, bit in ENABLED_BY.items() if self.last("IER") & bit and self.last(condition)]
 
-    def line_calls(self, count):
-        """What the interrupt line does in so many calls, up to its first refusal."""
-        did = []
-        while len(did) < count and "R" not in did:
-            did.append("R" if self.refuses(len(did) + 1) else "T")
-        return did
-
-    def raises(self, conditions, enable):
-        """What raising these conditions in order makes of them, and the calls of the line, up to a refusal."""
-        made, did = {}, []
+    def raised(self, conditions, enable):
+        """What raising these conditions in order makes of them, up to a refusal, and whether there was none."""
+        made = {}
         for condition in conditions:
-            if enable & ENABLED_BY[condition] and not self.last(condition) and "R" not in did:
+            if enable & ENABLED_BY[condition] and not self.last(condition):
                 made |= {condition: True, "NONE": False}
-                did = self.line_calls(len(did) + 1)
-        return made, did
+                if not self.objects.line():
+                    return made, False
+        return made, True
 
-    def done(self, reply, made, did, **fact):
+    def done(self, reply, made, is_taken=True, **fact):
         """Remembers a call, and returns its reply. A refusal takes the place of any other reply."""
-        self.past.append(Fact(made, did=did, **fact))
-        return "trigger" if "R" in did else reply
+        self.past.append(Fact(made, **fact))
+        return reply if is_taken else "trigger"
 
     def read(self, offset):
         name = self.at(offset)
         if name == "RBR":
-            held = self.held()
-            made = {"RDA": False} | ({} if self.register("IIR") & ~BITS["IIR"]["RDA"] else {"NONE": True})
-            if len(held) > 1:
-                return self.done(f"{held[0]:02x}", made, ["b"], took=True)
-            return self.done(held.hex() or "00", made | {"READY": False}, ["e", "b"], took=bool(held))
+            return self.take()
         shown = self.register(name) if name else 0
         if name == "IIR":
-            self.done("", {"IIR": 0, "RDA": False, "THRE": False, "NONE": True}, [])
+            self.done("", {"IIR": 0, "RDA": False, "THRE": False, "NONE": True})
             shown |= FIFO_BITS
         if name == "MSR" and self.is_looped():
             outputs = self.last("MCR")
             shown = shown & 0x0F | sum(seen for bit, seen in LOOPED if outputs & bit)
         return f"{shown:02x}"
 
+    def take(self):
+        """Takes the oldest byte, and acknowledges RDA. The last byte, or none, clears data ready."""
+        held = self.held()
+        made = {"RDA": False} | ({} if self.register("IIR") & ~BITS["IIR"]["RDA"] else {"NONE": True})
+        for event in "b" if len(held) > 1 else "eb":
+            self.objects.tell(event)
+        return self.done(held[:1].hex() or "00", made | ({} if len(held) > 1 else {"READY": False}), took=bool(held))
+
     def write(self, offset, value):
         name = self.at(offset)
         if name == "RBR":
             return self.receive(bytes([value])[:self.room()], "ok") if self.is_looped() else self.send(value)
         if name == "IER":
-            raised, did = self.raises(["RDA", "THRE"] if self.held() else ["THRE"], value)
-            return self.done("ok", {"IER": value & 0x0F} | raised, did)
-        return self.done("ok", {name: value} if name in ("DLL", "DLM", "LCR", "MCR", "SCR") else {}, [])
+            raised, is_taken = self.raised(["RDA", "THRE"] if self.held() else ["THRE"], value)
+            return self.done("ok", {"IER": value & 0x0F} | raised, is_taken)
+        return self.done("ok", {name: value} if name in ("DLL", "DLM", "LCR", "MCR", "SCR") else {})
 
     def send(self, value):
-        """Writes a byte, flushes it if it was taken, and reports it. Raises THRE, whatever became of it."""
-        writing = self.writing()
-        sent = b"" if "n" in writing or "f" in writing else bytes([value])
-        is_lost = not sent or "u" in writing
-        written = [f"W{value:02x}"] * (2 if "i" in writing else 1) + ["F"] * len(sent) + ["l" if is_lost else "o"]
-        made, did = self.raises(["THRE"], self.last("IER"))
-        return self.done("io" if is_lost else "ok", made, written + did, sent=sent)
+        """Writes a byte, and reports what became of it. Raises THRE in any case."""
+        is_sent = self.objects.write(value)
+        self.objects.tell("o" if is_sent else "l")
+        return self.done("ok" if is_sent else "io", *self.raised(["THRE"], self.last("IER")))
 
     def receive(self, accepted, reply):
         """Takes bytes for which there is room. If there are any, they raise RDA."""
         if not accepted:
             return reply
-        made, did = self.raises(["RDA"], self.last("IER"))
-        return self.done(reply, made | {"READY": True}, did, accepted=accepted)
+        made, is_taken = self.raised(["RDA"], self.last("IER"))
+        return self.done(reply, made | {"READY": True}, is_taken, accepted=accepted)
 
     def enqueue(self, data):
         if self.is_looped():
@@ -169,18 +155,17 @@ class Port(Device):
 
     def character_timeout(self):
         """Bytes that are left raise RDA again."""
-        made, did = self.raises(["RDA"] if self.held() else [], self.last("IER"))
-        return self.done("ok", made, did)
+        return self.done("ok", *self.raised(["RDA"] if self.held() else [], self.last("IER")))
 
     def retry(self):
-        """Calls the line for what is due. Nothing else changes."""
-        return self.done("ok", {}, self.line_calls(self.due()))
+        """Calls the line for what is due, up to a refusal. Nothing else changes."""
+        return "ok" if all(self.objects.line() for _ in self.due()) else "trigger"
 
     def drain(self):
         """What a driver gets that reads RBR while LSR shows data ready. With DLAB set it cannot reach RBR."""
         got = ""
         while self.at(0) == "RBR" and self.last("READY"):
-            got += self.read(0)
+            got += self.take()
         return got
 
     def restore(self, *start):
@@ -188,10 +173,10 @@ class Port(Device):
         what is due then."""
         own = len(self.past)
         self.past += start
-        did = self.line_calls(self.due())
-        if "R" in did:
+        reply = self.retry()
+        if reply == "trigger":
             del self.past[own:]
-        return self.done("ok", {}, did)
+        return reply
 
 
 class Clock(Device):
@@ -216,8 +201,7 @@ class Clock(Device):
         counter = time + self.last("offset")
         guest_time = counter if 0 <= counter < 2**32 else time
         is_reached = self.last("armed") and guest_time >= self.last("MR")
-        found = {"RIS": 1, "armed": 0} if is_reached else {}
-        name = CLOCK_AT.get(offset)
+        name, found = CLOCK_AT.get(offset), {"RIS": 1, "armed": 0} if is_reached else {}
         if value is None:
             self.past.append(Fact(found))
             status, mask = self.raw_status(), self.last("IMSC")
@@ -232,8 +216,3 @@ class Clock(Device):
             "ICR": {"cleared": value}}
         self.past.append(Fact(found | writes.get(name, {})))
         return 0 if name in writes else None
-
-
-def resets(offset, value):
-    """Whether a write of the controller is the reset command."""
-    return (offset, value) == (4, 0xFE)

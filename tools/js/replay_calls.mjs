@@ -1,10 +1,9 @@
 /**
  * Makes the recorded calls of tests/calls, which come on standard input, over the board of the page and so over the
- * JavaScript package, and compares them.
+ * JavaScript package, and compares them. The board has the trigger and the events, which the devices leave to their
+ * caller. What becomes of a byte that goes out is not compared.
  *
- * The board has the trigger and the events, which the devices leave to their caller. What becomes of a byte that goes
- * out is not compared. Prints the first ten lines that differ, and how many calls did the same. Exits 1 if one differs,
- * or if there was no call.
+ * Prints the first ten lines that differ, and how many calls did the same. Exits 1 if one differs or there is none.
  */
 import process from "node:process";
 import { text } from "node:stream/consumers";
@@ -24,11 +23,6 @@ function port(reply) {
   return reply === "ok" ? state : reply;
 }
 
-function clock() {
-  const { lr, mr, imsc, ris, offset, armed } = board.clock.state;
-  return `${hex(lr, 8)} ${offset} ${hex(mr, 8)} ${hex(imsc, 8)} ${hex(ris, 8)}${armed ? " armed" : ""}`;
-}
-
 /** The calls that no line of a script makes, and those that it makes or shows otherwise. */
 const OWN = {
   sq: (digits) => board.reply({ name: "sq", values: [bytesOf(digits)] }),
@@ -40,33 +34,31 @@ const OWN = {
     const inBuffer = bytesOf(digits);
     return inBuffer.length > FIFO_SIZE ? "full" : port(board.restore(Serial.fromState({ ...state, inBuffer })));
   },
-  cs: clock,
-  cl(lr, offset, mr, imsc, ris, armed) {
-    const [loaded, match, mask, raw] = [lr, mr, imsc, ris].map(number);
-    const state = { lr: loaded, mr: match, imsc: mask, ris: raw, offset: BigInt(offset), armed: Boolean(armed) };
-    board.clock = Rtc.fromState(state);
-    return clock();
+  cs() {
+    const { lr, mr, imsc, ris, offset, armed } = board.clock.state;
+    return `${hex(lr, 8)} ${offset} ${hex(mr, 8)} ${hex(imsc, 8)} ${hex(ris, 8)}${armed ? " armed" : ""}`;
+  },
+  cl(first, offset, ...others) {
+    const [lr, mr, imsc, ris] = [first, ...others].map(number);
+    board.clock = Rtc.fromState({ lr, mr, imsc, ris, offset: BigInt(offset), armed: others.length > 3 });
+    return OWN.cs();
   },
 };
-
-/** The reply of a call of a script. A reset calls the trigger, and an access of the clock tells that it is invalid. */
-function scripted(name, [first, ...others]) {
-  const values = name.startsWith("c") ? [BigInt(`0x${first}`), ...others.map(number)] : [first, ...others].map(number);
-  const reply = board.reply({ name, values });
-  if (reply === "reset") return answer(board.ask(1));
-  return reply === "invalid" ? { cr: "a5a5a5a5 i", cw: "ok j" }[name] : reply;
-}
 
 /** The reply of a call, and the calls of objects in it. The words `1` and `2` after it refuse those of the trigger. */
 function make(call) {
   const [, line, words] = call.match(/^(.*?)((?: [12nfiu])*)$/);
   const [name, ...fields] = line.split(" ");
-  const mask = BigInt(words.includes("1") + 2 * words.includes("2"));
+  const values = fields.map((field, place) => (name[0] === "c" && place === 0 ? BigInt(`0x${field}`) : number(field)));
   const counts = { bufferRead: 0, outByte: 0, txLostByte: 0, inBufferEmpty: 0 };
+  const mask = BigInt(words.includes("1") + 2 * words.includes("2"));
   Object.assign(board, { mask, counts, asked: 0, answers: [], output: "" });
-  const reply = OWN[name]?.(...fields) ?? scripted(name, fields);
-  return [reply, ...(counts.inBufferEmpty ? ["e"] : []), ...(counts.bufferRead ? ["b"] : []),
-    ...(board.output ? [`W${fields[1]}`] : []), ...board.answers.map((isTaken) => (isTaken ? "T" : "R"))].join(" ");
+  let reply = OWN[name] ? OWN[name](...fields) : board.reply({ name, values });
+  if (reply === "reset") reply = answer(board.ask(1));
+  if (reply === "invalid") reply = { cr: "a5a5a5a5 i", cw: "ok j" }[name];
+  const events = (counts.inBufferEmpty ? " e" : "") + (counts.bufferRead ? " b" : "");
+  const answers = board.answers.map((isTaken) => (isTaken ? " T" : " R")).join("");
+  return `${reply}${events}${board.output && ` W${fields[1]}`}${answers}`;
 }
 
 const rows = (await text(process.stdin)).split("\n").filter((line) => line.includes(" = "));
