@@ -20,10 +20,10 @@ def number(source):
 
 def port_state(source):
     """Any registers, and bytes that are held. DLAB and loopback are mostly clear."""
-    masks = (0xFF, 0xFF, 0xFF, source.choice((0x07, 0xFF)), source.choice((0x7F, 0x7F, 0xFF)), 0xFF,
-             source.choice((0xEF, 0xEF, 0xFF)), 0xFF, 0xFF)
-    registers = bytes(byte & mask for byte, mask in zip(source.randbytes(len(FRESH)), masks))
-    return registers, source.randbytes(source.choice((0, 1, 2, FIFO_SIZE, source.randrange(FIFO_SIZE + 2))))
+    registers = bytearray(source.randbytes(len(FRESH)))
+    registers[4] &= source.choice((0x7F, 0x7F, 0xFF))
+    registers[6] &= source.choice((0xEF, 0xEF, 0xFF))
+    return bytes(registers), source.randbytes(source.choice((0, 1, 2, FIFO_SIZE, source.randrange(FIFO_SIZE + 2))))
 
 
 def clock_state(source):
@@ -109,14 +109,14 @@ def spoilt(source):
     place = source.choice((source.randrange(8), source.randrange(len(data))))
     changed = data[:place] + source.randbytes(1) + data[place + 1:]
     bound = form(data[4], bytes(source.choice((8, 9, 24, 25, 26, 72, 73, 74))))
-    return source.choice((data, changed, changed, data[:place], data + more[:8], data[:8] + more, bound))
+    return source.choice((data, changed, changed, data[:place + 1], data + more[:8], data[:8] + more, bound))
 
 
 def every_load():
     """Each of many spoilt states is loaded as a port and as a clock, which are saved after it."""
     source = random.Random("loads")
     for digits in dict.fromkeys(spoilt(source).hex() for _ in range(20_000)):
-        yield from (f"sl {digits}".rstrip(), "sb", f"cl {digits}".rstrip(), "cb")
+        yield from (f"sl {digits}", "sb", f"cl {digits}", "cb")
 
 
 def every_answer():

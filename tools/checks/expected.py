@@ -5,7 +5,6 @@ from struct import Struct
 from oracle import FIFO_SIZE, FRESH, Clock, Port, start_fact
 
 ROOM = 256                            # bytes that the output of a script's board takes
-MASKED = 64                           # calls of the interrupt line that a script can refuse
 # Any line of a script but the first.
 LINE = re.compile("s[bcdeiloqst]|c[bl]|(sq|[sc]l) (HH){1,128}|[sk]r HH|[sk]w HH HH|cr H{16} H{4}|cw H{16} H{4} H{8}"
                   .replace("H", "[0-9A-Fa-f]"))
@@ -56,16 +55,16 @@ class Board:
     def tell(self, event):
         self.did.append(event)
 
-    def line_calls(self):
-        return self.did.count("T") + self.did.count("R")
+    def count(self, events):
+        return sum(map(self.did.count, events))
 
     def line(self):
-        is_refused = self.refuses(self.line_calls())
-        self.tell("R" if is_refused else "T")
-        return not is_refused
+        is_taken = not self.refuses(self.count("TR"))
+        self.tell("T" if is_taken else "R")
+        return is_taken
 
     def refuses(self, place):
-        return place < MASKED and self.mask >> place & 1 == 1
+        return self.mask >> place & 1
 
     def write(self, value):
         is_taken = len(self.output) < ROOM
@@ -98,8 +97,8 @@ class Board:
             return port.enqueue(data) if name == "sq" else self.load(SERIAL if name == "sl" else CLOCK, data)
         return {"sr": port.read, "sw": port.write, "si": port.character_timeout, "sc": lambda: f"{port.room():02x}",
                 "sd": port.drain, "ss": self.restore, "sb": lambda: form(SERIAL, port.state() + port.held()).hex(),
-                "so": self.output.hex, "st": lambda: f"{self.line_calls():016x}",
-                "se": lambda: " ".join(f"{self.did.count(event):016x}" for event in "bole"),
+                "so": self.output.hex, "st": lambda: f"{self.count('TR'):016x}",
+                "se": lambda: " ".join(f"{self.count(event):016x}" for event in "bole"),
                 "cb": lambda: form(CLOCK, CLOCK_CONTENTS.pack(*self.clock.state())).hex(), "cr": self.of_clock,
                 "cw": self.of_clock, "kr": lambda _: "00",
                 "kw": lambda *write: "reset" if write == (4, 0xFE) else "ok"}[name](*(int(it, 16) for it in fields))
@@ -110,9 +109,8 @@ def script_replies(script):
     `None`."""
     lines = script.removesuffix("\n").split("\n") if script else []
     refuse = re.fullmatch("refuse ([0-9A-Fa-f]{16})", lines[0]) if lines else None
-    first = 1 if refuse else 0
+    first, board = (1, Board(int(refuse[1], 16))) if refuse else (0, Board())
     bad = next((place for place, line in enumerate(lines) if place >= first and not LINE.fullmatch(line)), None)
-    board = Board(int(refuse[1], 16) if refuse else 0)
     answered = lines[first:bad]
     return answered, [board.reply(line) for line in answered], None if bad is None else bad + 1
 

@@ -34,10 +34,9 @@ class Script(NamedTuple):
             return None
         if got is None:
             return f"{self.place}: did not end"
-        expected, printed = (replies.split(b"\n") for replies in (self.replies, got[1]))
-        same = len(commonprefix([expected, printed]))
-        return (f"{self.place}: after {same} replies {printed[same:same + 1]} instead of {expected[same:same + 1]}, "
-                f"ended with {got[0]}, {got[2]} instead of {self.end!r}, of {self.script[:400]}")
+        same = len(commonprefix([self.replies, got[1]]))
+        return (f"{self.place}: {self.script[:400]}\n  after {same} bytes {got[1][same:same + 80]} instead of "
+                f"{self.replies[same:same + 80]}, and {got[0]}, {got[2]} instead of {self.end!r}")
 
 
 def text(expression):
