@@ -9,10 +9,9 @@ from typing import NamedTuple
 
 FIFO_SIZE = 64
 DLAB, LOOPBACK, FIFO_BITS = 0x80, 0x10, 0xC0   # of LCR, of MCR, and of what a guest reads of IIR
-# The registers of a new port, in the order of a saved state, and the names by offset, of which DLAB changes two.
+# The registers of a new port, in the order of a saved state, and those by offset. DLAB changes the first two.
 FRESH = {"DLL": 0x0C, "DLM": 0, "IER": 0, "IIR": 0x01, "LCR": 0x03, "LSR": 0x60, "MCR": 0x08, "MSR": 0xB0, "SCR": 0}
 BY_OFFSET = ["RBR", "IER", "IIR", "LCR", "MCR", "LSR", "MSR", "SCR"]
-WITH_LATCH = ["DLL", "DLM", *BY_OFFSET[2:]]
 # The bits of registers that are facts of their own: the two conditions, that none is pending, and data ready.
 BITS = {"IIR": {"RDA": 0x04, "THRE": 0x02, "NONE": 0x01}, "LSR": {"READY": 0x01}}
 ENABLED_BY = {"RDA": 0x01, "THRE": 0x02}
@@ -66,7 +65,8 @@ class Port(Device):
 
     def at(self, offset):
         """The name of the register that an offset reaches."""
-        return (WITH_LATCH if self.last("LCR") & DLAB else BY_OFFSET)[offset] if offset < 8 else None
+        names = ["DLL", "DLM", *BY_OFFSET[2:]] if self.last("LCR") & DLAB else BY_OFFSET
+        return names[offset] if offset < 8 else None
 
     def is_looped(self):
         return self.last("MCR") & LOOPBACK != 0

@@ -78,4 +78,4 @@ class Players(FolderTest):
 
     @unittest.skipUnless(shutil.which("node"), "node is needed")
     def test_calls_in_javascript(self):
-        self.judge_player(["node", ROOT / "tools" / "js" / "replay_calls.mjs"])
+        self.judge_player(["node", ROOT / "bindings" / "js" / "tests" / "replay_calls.mjs"])

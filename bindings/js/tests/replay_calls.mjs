@@ -7,8 +7,8 @@
  */
 import process from "node:process";
 import { text } from "node:stream/consumers";
-import { Board, bytesOf, hex, hexOf } from "../../bindings/js/page/board.mjs";
-import { Rtc, Serial } from "../../bindings/js/superio.mjs";
+import { Board, bytesOf, hex, hexOf } from "../page/board.mjs";
+import { Rtc, Serial } from "../superio.mjs";
 
 const FIFO_SIZE = 64;
 const REGISTERS = Object.keys(new Serial().state).filter((name) => name !== "inBuffer");
