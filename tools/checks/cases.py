@@ -8,7 +8,7 @@ from expected import CLOCK, CLOCK_CONTENTS, SERIAL, clock_text, form, port_text
 from oracle import FIFO_SIZE, FRESH
 
 LINES, CALLS = 36, 40                 # of a random script at most, and of a random run
-# The fields of each line of a script, with zeros for digits.
+# A line of each form of a script, with zeros for digits.
 FORMS = ["refuse 0000000000000000", "sr 00", "sw 00 00", "sq 0000", "si", "sc", "sd", "ss", "sb", "sl 0000", "so", "st",
          "se", "cr 0000000000000000 0000", "cw 0000000000000000 0000 00000000", "cb", "cl 0000", "kr 00", "kw 00 00"]
 
