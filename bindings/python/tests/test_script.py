@@ -1,28 +1,22 @@
-"""The lines of a script: what they mean, why others have no form, and what the package replies, as the program does.
-
-The program `superio` is the one that the environment variable SUPERIO_PROGRAM names, or else the built one. Without it
-the tests beside it are skipped.
-"""
+"""The lines of a script: what they mean, why others have no form, and what the package replies."""
 import io
-import os
-import random
 import unittest
-from pathlib import Path
 
 from support import ROOT
 
-from program import run_all, seed_of
+from cases import random_cases, random_script
+from expected import script_replies
+from program import seed_of
 from script_tests import scripts_of
 
 from superio import Board, ScriptError, parse
 from superio.script import FORMS, text_of
 from superio.session import Session
 
-PROGRAM = Path(os.environ.get("SUPERIO_PROGRAM", ROOT / "crates" / "superio" / "out" / "superio"))
 # All but those that are too long.
 SCRIPTS = [test for path in sorted((ROOT / "tests").glob("*.txt")) for test in scripts_of(path)
            if test.expected[0] in (0, 1)]
-BROKEN = 2_000
+RANDOM_SCRIPTS = 2_000
 
 # Why lines have no form.
 BAD = {
@@ -69,15 +63,6 @@ def run_board(script):
     return 0, "".join(replies).encode(), b""
 
 
-def broken(script, randomness):
-    """A script with one byte changed, taken out, put in or doubled, or cut off."""
-    place = randomness.randrange(len(script))
-    byte = bytes([randomness.choice([*b" \n\r0f\xff", randomness.randrange(256)])])
-    return randomness.choice([script[:place] + byte + script[place + 1:], script[:place] + script[place + 1:],
-                              script[:place] + byte + script[place:], script[:place],
-                              script[:place] + script[place:place + 1] + script[place:]])
-
-
 class Replies(unittest.TestCase):
     def test_replies_are_those_of_the_tests(self):
         """On a board, and those of a good script in the shell too."""
@@ -88,14 +73,10 @@ class Replies(unittest.TestCase):
                 Session(out).run_lines("script", lines_of(test.script))
                 self.assertEqual(test.expected[1].decode(), out.getvalue(), test.place)
 
-
-@unittest.skipUnless(PROGRAM.exists(), f"{PROGRAM} is not built")
-class Program(unittest.TestCase):
-    def test_examples_and_broken_scripts(self):
-        """The scripts of tests/ have their replies there: tools/checks/scripts and Replies compare both with those."""
-        randomness = random.Random(seed_of(ROOT))
-        whole = [test.script for test in SCRIPTS if 0 < len(test.script) < 3000]
-        scripts = [path.read_bytes() for path in (ROOT / "examples").glob("*.script")]
-        scripts += [broken(randomness.choice(whole), randomness) for _ in range(BROKEN)]
-        for script, expected in zip(scripts, run_all(PROGRAM, scripts)):
-            self.assertEqual(expected, run_board(script), script)
+    def test_random_scripts_do_what_a_search_of_the_past_says(self):
+        """One of eight is broken. Each commit has others."""
+        for name, script in random_cases(random_script, "python", seed_of(ROOT), RANDOM_SCRIPTS):
+            _, replies, bad_line = script_replies(script)
+            expected = (bool(bad_line), "".join(reply + "\n" for reply in replies).encode(),
+                        b"bad line %d\n" % bad_line if bad_line else b"")
+            self.assertEqual(expected, run_board(script.encode("latin-1")), name)
