@@ -12,9 +12,6 @@ use superio::{I8042Device, Rtc, Trigger};
 
 mod moment;
 
-/// The bytes that are enqueued.
-const INPUT: [u8; 64] = [0x61; 64];
-
 /// Counts its calls, and refuses none.
 #[derive(Debug, Default)]
 struct Counter(Cell<u64>);
@@ -41,7 +38,9 @@ impl Board {
         match kind {
             b'r' => return self.serial.read(offset).into(),
             b'w' => return self.serial.write(offset, value).is_err().into(),
-            b'e' => return self.serial.enqueue_raw_bytes(&INPUT[..usize::from(value).min(64)]).unwrap_or(0) as u64,
+            b'e' => {
+                return self.serial.enqueue_raw_bytes(&[0x61; 64][..usize::from(value).min(64)]).unwrap_or(0) as u64;
+            }
             b's' => {
                 let port = Serial::from_state(&self.serial.state(), Counter::default(), NoEvents, sink());
                 self.serial = port.expect("a port of its own state");

@@ -43,7 +43,7 @@ impl Devices {
         self.object.begin(&words[count..]);
         let done = catch_unwind(AssertUnwindSafe(|| self.carry_out(&words[..count])));
         let reply = done.unwrap_or_else(|_| Err("panics".into())).unwrap_or_else(|error| error);
-        reply + &self.object.end()
+        reply + &self.object.log()
     }
 
     fn carry_out(&mut self, words: &[&str]) -> Outcome {

@@ -8,15 +8,12 @@ use superio::Trigger;
 use superio::rtc_pl031::RtcEvents;
 use superio::serial::SerialEvents;
 
-/// The words of a behaviour, and the signs of the calls of objects.
-#[derive(Debug, Default)]
-struct Script {
-    behaviour: Vec<String>,
-    log: Vec<String>,
-}
-
+/// The words of a behaviour, and the signs of the calls in which an object was asked.
 #[derive(Clone, Debug, Default)]
-pub struct Object(Rc<RefCell<Script>>);
+pub struct Object {
+    behaviour: Rc<RefCell<String>>,
+    log: Rc<RefCell<Vec<String>>>,
+}
 
 impl Object {
     /// Whether a word says how objects behave, as those of tests/calls/README.md do, or such as `p2`: the call of an
@@ -27,29 +24,29 @@ impl Object {
 
     /// Begins a call, in which the object behaves as the words say.
     pub fn begin(&self, words: &[&str]) {
-        self.0.replace(Script { behaviour: words.iter().map(|word| word.to_string()).collect(), log: Vec::new() });
+        self.behaviour.replace(words.join(" "));
+        self.log.take();
     }
 
-    /// Ends a call, and returns its log, with a space before each sign.
-    pub fn end(&self) -> String {
-        self.0.take().log.iter().map(|sign| format!(" {sign}")).collect()
+    /// The log of the call, with a space before each sign.
+    pub fn log(&self) -> String {
+        self.log.borrow().iter().map(|sign| format!(" {sign}")).collect()
     }
 
     fn behaves(&self, word: &str) -> bool {
-        self.0.borrow().behaviour.iter().any(|it| it == word)
+        self.behaviour.borrow().split(' ').any(|it| it == word)
     }
 
     fn note(&self, sign: &str) {
-        let panics = self.behaves(&format!("p{}", self.0.borrow().log.len()));
-        self.0.borrow_mut().log.push(sign.into());
-        if panics {
+        self.log.borrow_mut().push(sign.into());
+        if self.behaves(&format!("p{}", self.log.borrow().len() - 1)) {
             panic::resume_unwind(Box::new("an object panics")); // which prints nothing
         }
     }
 
-    /// How often the trigger was called in this call, or the writer.
+    /// How many signs of the log begin so.
     fn count(&self, signs: &[char]) -> usize {
-        self.0.borrow().log.iter().filter(|it| it.starts_with(signs)).count()
+        self.log.borrow().iter().filter(|it| it.starts_with(signs)).count()
     }
 }
 
