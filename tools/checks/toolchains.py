@@ -10,13 +10,10 @@ DEBIAN = Path("/usr/bin/rustc")
 
 
 class Toolchain(NamedTuple):
-    """The compiler of a toolchain, beside which Cargo is, and its version."""
+    """The compiler of a toolchain, the Cargo beside it, and its version."""
     rustc: str
+    cargo: str
     version: str
-
-    @property
-    def cargo(self):
-        return str(Path(self.rustc).with_name("cargo"))
 
     def environment(self, **more):
         return {**os.environ, "RUSTC": self.rustc, "RUSTDOC": str(Path(self.rustc).with_name("rustdoc")), **more}
@@ -25,9 +22,10 @@ class Toolchain(NamedTuple):
 def toolchains():
     """The toolchains, the one of PATH first."""
     for rustc in dict.fromkeys((shutil.which("rustc"), str(DEBIAN))):
-        if rustc and Path(rustc).with_name("cargo").is_file():
+        cargo = Path(rustc or "nowhere").with_name("cargo")
+        if cargo.is_file():
             said = subprocess.run([rustc, "--version"], capture_output=True, text=True)
-            yield Toolchain(rustc, said.stdout.split()[1])
+            yield Toolchain(rustc, str(cargo), said.stdout.split()[1])
 
 
 def toolchain_for(target):
