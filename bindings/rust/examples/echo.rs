@@ -5,8 +5,7 @@
 //! program.
 use std::cell::Cell;
 use std::collections::VecDeque;
-use std::io::{self, BufRead, Stdout};
-use std::rc::Rc;
+use std::io::{self, BufRead, Write};
 
 use vm_superio::serial::timeout::CharacterTimeout;
 use vm_superio::serial::{Error, NoEvents};
@@ -24,8 +23,8 @@ const FIFO_SIZE: usize = 64;
 const MOST: usize = 16;
 
 /// The interrupt line: a flag that the guest's processor looks at. An eventfd in its place may refuse an interrupt.
-#[derive(Clone, Default)]
-struct Line(Rc<Cell<bool>>);
+#[derive(Default)]
+struct Line(Cell<bool>);
 
 impl Trigger for Line {
     type E = io::Error;
@@ -36,19 +35,17 @@ impl Trigger for Line {
     }
 }
 
-/// The monitor: the port, its interrupt line, input that the FIFO had no room for yet, and whether to ask for a refused
-/// interrupt again.
-struct Machine {
-    port: Serial<Line, NoEvents, Stdout>,
-    line: Line,
+/// The monitor: the port with its interrupt line and its output, input that the FIFO had no room for yet, and whether
+/// to ask for a refused interrupt again.
+pub struct Machine<L: Trigger, W: Write> {
+    pub port: Serial<L, NoEvents, W>,
     waiting: VecDeque<u8>,
     must_retry: bool,
 }
 
-impl Machine {
-    fn new() -> Machine {
-        let line = Line::default();
-        Machine { port: Serial::new(line.clone(), io::stdout()), line, waiting: VecDeque::new(), must_retry: false }
+impl<L: Trigger, W: Write> Machine<L, W> {
+    pub fn new(line: L, output: W) -> Self {
+        Machine { port: Serial::new(line, output), waiting: VecDeque::new(), must_retry: false }
     }
 
     /// Offers the input that waits, once: a guest need not read, and takes nothing while it is in loopback. The port
@@ -63,7 +60,7 @@ impl Machine {
 
     /// The guest reads a register. Bytes that it has left in the FIFO interrupt it again once it has read that nothing
     /// is pending: a monitor that leaves this out leaves such bytes, and the guest, waiting.
-    fn read(&mut self, offset: u8) -> u8 {
+    pub fn read(&mut self, offset: u8) -> u8 {
         let value = self.port.read(offset);
         if offset == DATA && self.port.fifo_capacity() == FIFO_SIZE {
             self.offer();
@@ -75,7 +72,7 @@ impl Machine {
     }
 
     /// The guest writes a register. A write to MCR may have ended loopback.
-    fn write(&mut self, offset: u8, value: u8) -> io::Result<()> {
+    pub fn write(&mut self, offset: u8, value: u8) -> io::Result<()> {
         match self.port.write(offset, value) {
             Err(Error::IOError(fault)) => return Err(fault),
             written => self.must_retry |= written.is_err(),
@@ -87,7 +84,7 @@ impl Machine {
     }
 
     /// A turn of the event loop, with the input that has arrived. A monitor bounds what waits.
-    fn input(&mut self, bytes: &[u8]) {
+    pub fn input(&mut self, bytes: &[u8]) {
         self.waiting.extend(bytes);
         self.must_retry = self.must_retry && self.port.retry_interrupts().is_err();
         self.offer();
@@ -95,7 +92,7 @@ impl Machine {
     }
 
     /// The guest's interrupt handler, as drivers of a 16550 have it.
-    fn handle_interrupt(&mut self) -> io::Result<()> {
+    pub fn handle_interrupt(&mut self) -> io::Result<()> {
         while self.read(INTERRUPT_IDENTIFICATION) & 1 == 0 {
             for _ in 0..MOST {
                 if self.read(LINE_STATUS) & 1 == 0 {
@@ -110,11 +107,11 @@ impl Machine {
 }
 
 fn main() -> io::Result<()> {
-    let mut machine = Machine::new();
+    let mut machine = Machine::new(Line::default(), io::stdout());
     machine.write(INTERRUPT_ENABLE, 0x01)?; // the guest's driver starts
     for typed in io::stdin().lock().lines() {
         machine.input(format!("{}\n", typed?).as_bytes());
-        while machine.line.0.replace(false) {
+        while machine.port.interrupt_evt().0.replace(false) {
             machine.handle_interrupt()?;
         }
     }

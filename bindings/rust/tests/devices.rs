@@ -1,6 +1,7 @@
 //! What a monitor in Rust alone sees of the devices: their writers and objects, the host's time, long input, texts,
 //! conversions and what threads may do. What any monitor sees is in the lines of tests/calls and
 //! tools/c/tests/shared.txt of the repository.
+use std::error::Error as StdError;
 use std::io;
 use std::panic::{RefUnwindSafe, UnwindSafe};
 use std::sync::atomic::{AtomicU32, Ordering};
@@ -89,7 +90,7 @@ fn five_fields_are_made_only_without_an_alarm() {
     assert_eq!(RtcSnapshot::from(state), RtcSnapshot { state, armed: false });
     assert_eq!(RtcState::try_from(RtcSnapshot { state, armed: false }), Ok(state));
     assert_eq!(RtcState::try_from(RtcSnapshot { state, armed: true }), Err(AlarmIsSet));
-    let error: Box<dyn std::error::Error> = AlarmIsSet.into();
+    let error: Box<dyn StdError> = AlarmIsSet.into();
     assert_eq!(error.to_string(), "an alarm is set, and the five fields of RtcState cannot hold it");
 }
 
@@ -128,6 +129,22 @@ fn devices_print_their_registers_and_no_byte_that_the_guest_has_read() {
 fn is_sent_and_shared<T: Send + Sync>() {}
 
 fn goes_to_another_thread<T: Send + Sync + Unpin + UnwindSafe + RefUnwindSafe>() {}
+
+fn are_values<T: Clone + Default + Eq>() {}
+
+fn are_copied<T: Copy>() {}
+
+#[test]
+fn types_have_the_traits_and_errors_the_texts_of_vm_superio() {
+    are_values::<(SerialState, RtcState)>();
+    are_copied::<(RtcState, NoEvents, rtc_pl031::NoEvents)>();
+    assert_eq!(Rtc::default().state(), RtcState::default());
+    let failed = Serial::new(Line::default(), &mut [][..]).write(0, b'a').unwrap_err().to_string();
+    assert_eq!(failed, "Couldn't write/flush to the given destination: failed to write whole buffer");
+    let refused: Box<dyn StdError> = Error::Trigger(io::Error::from(io::ErrorKind::WouldBlock)).into();
+    assert_eq!(refused.to_string(), "Failed to trigger interrupt: operation would block");
+    assert!(refused.source().is_none());
+}
 
 #[test]
 fn what_threads_may_do_with_its_objects_they_may_do_with_a_device() {

@@ -2,15 +2,14 @@
 #![cfg(test)]
 
 use serde::{de::DeserializeOwned, Serialize};
-use serde_json::{from_value, json, to_value};
 use vm_superio::rtc_pl031::RtcSnapshot;
 use vm_superio::{RtcState, SerialState};
 
 /// States that programs over vm-superio 0.8.2 saved: as JSON, and by bincode, as hexadecimal digits.
-const PORT: [&str; 2] = [
+const PORT: &str = concat!(
     r#"{"baud_divisor_low":1,"baud_divisor_high":2,"interrupt_enable":1,"interrupt_identification":4,"#,
     r#""line_control":27,"line_status":97,"modem_control":8,"modem_status":176,"scratch":90,"in_buffer":[104,105]}"#,
-];
+);
 const PORT_IN_BINCODE: &str = "010201041b6108b05a02000000000000006869";
 const CLOCK: &str = r#"{"lr":1704067200,"offset":-3600,"mr":1704067260,"imsc":1,"ris":0}"#;
 const CLOCK_IN_BINCODE: &str = "80009265f0f1ffffffffffffbc0092650100000000000000";
@@ -24,15 +23,9 @@ fn is_read_and_written<T: Serialize + DeserializeOwned>(text: &str, digits: &str
 }
 
 #[test]
-fn what_vm_superio_saved_is_read_and_written_again() {
-    is_read_and_written::<SerialState>(&PORT.concat(), PORT_IN_BINCODE);
+fn what_was_saved_is_read_and_written_again() {
+    is_read_and_written::<SerialState>(PORT, PORT_IN_BINCODE);
     is_read_and_written::<RtcState>(CLOCK, CLOCK_IN_BINCODE);
-}
-
-#[test]
-fn a_snapshot_in_json_is_a_state_and_whether_an_alarm_is_set() {
-    let snapshot = RtcSnapshot { armed: true, ..RtcState { lr: 1, offset: -2, mr: 3, imsc: 1, ris: 3 }.into() };
-    let whole = to_value(snapshot).unwrap();
-    assert_eq!(whole, json!({ "state": { "lr": 1, "offset": -2, "mr": 3, "imsc": 1, "ris": 3 }, "armed": true }));
-    assert_eq!(from_value::<RtcSnapshot>(whole).unwrap(), snapshot);
+    let snapshot = format!(r#"{{"state":{CLOCK},"armed":true}}"#); // which vm-superio does not have
+    is_read_and_written::<RtcSnapshot>(&snapshot, &format!("{CLOCK_IN_BINCODE}01"));
 }

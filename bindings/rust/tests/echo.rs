@@ -1,0 +1,132 @@
+//! What a monitor owes its guest, by scripted accesses of the one in examples/echo.rs. Each step says how often it
+//! interrupts the guest, and how much room the FIFO has after it.
+use std::cell::Cell;
+use std::io;
+
+use vm_superio::Trigger;
+
+use echo::Machine;
+use Step::*;
+
+#[allow(dead_code)] // its main
+#[path = "../examples/echo.rs"]
+mod echo;
+
+const DATA: u8 = 0;
+const IER: u8 = 1;
+const IIR: u8 = 2;
+const MCR: u8 = 4;
+const LSR: u8 = 5;
+const SCR: u8 = 7;
+
+/// An interrupt line that counts the interrupts that it takes, and refuses so many before it takes one.
+#[derive(Default)]
+struct Line {
+    taken: Cell<usize>,
+    refusals: Cell<usize>,
+}
+
+impl Trigger for Line {
+    type E = io::Error;
+
+    fn trigger(&self) -> io::Result<()> {
+        if let Some(left) = self.refusals.get().checked_sub(1) {
+            self.refusals.set(left);
+            return Err(io::ErrorKind::WouldBlock.into());
+        }
+        self.taken.set(self.taken.get() + 1);
+        Ok(())
+    }
+}
+
+enum Step {
+    /// So many bytes arrive in a turn of the event loop.
+    Input(usize),
+    /// The guest reads this value at an offset.
+    Read(u8, u8),
+    /// The guest reads so many of the bytes that came.
+    Take(usize),
+    /// The guest writes a value at an offset.
+    Write(u8, u8),
+    /// The line refuses so many interrupts.
+    Refuse(usize),
+}
+
+/// A name, and the steps.
+type Script = (&'static str, &'static [(Step, usize, usize)]);
+
+#[rustfmt::skip] // several steps a line
+const SCRIPTS: [Script; 9] = [
+    ("bytes that are left interrupt again once the guest has read that nothing is pending", &[
+        (Write(IER, 1), 0, 64), (Input(3), 1, 61), (Read(IIR, 0xC4), 0, 61), (Take(1), 0, 62),
+        (Read(LSR, 0x61), 0, 62), (Read(IIR, 0xC1), 1, 62), (Read(IIR, 0xC4), 0, 62),
+    ]),
+    ("bytes that are left interrupt again at the next turn, and no input interrupts by itself", &[
+        (Write(IER, 1), 0, 64), (Input(0), 0, 64), (Input(3), 1, 61), (Input(0), 0, 61),
+        (Read(IIR, 0xC4), 0, 61), (Input(0), 1, 61),
+    ]),
+    ("input beyond the FIFO follows once the guest has emptied it", &[
+        (Write(IER, 1), 0, 64), (Input(100), 1, 0), (Take(63), 0, 63), (Take(1), 1, 28), (Take(36), 0, 64),
+    ]),
+    ("a turn offers what waits as far as there is room", &[
+        (Input(100), 0, 0), (Take(10), 0, 10), (Write(IER, 1), 1, 10), (Input(1), 0, 0), (Take(1), 0, 1),
+        (Input(0), 1, 0), (Take(64), 1, 38),
+    ]),
+    ("a full FIFO is no refusal", &[
+        (Write(IER, 1), 0, 64), (Input(64), 1, 0), (Input(1), 0, 0), (Input(1), 0, 0), (Take(64), 1, 62),
+    ]),
+    ("input that came in loopback follows at its end", &[
+        (Write(IER, 1), 0, 64), (Write(MCR, 0x18), 0, 64), (Input(2), 0, 64), (Write(MCR, 0x08), 1, 62),
+    ]),
+    ("a refused byte is in the FIFO, and interrupts once the line takes it", &[
+        (Write(IER, 1), 0, 64), (Refuse(3), 0, 64), (Input(2), 0, 62), (Input(0), 0, 62), (Input(0), 0, 62),
+        (Input(0), 1, 62), (Input(0), 0, 62),
+    ]),
+    ("a refused timeout interrupts at the next turn, whether a read or a turn made it", &[
+        (Write(IER, 1), 0, 64), (Input(2), 1, 62), (Read(IIR, 0xC4), 0, 62), (Refuse(1), 0, 62),
+        (Read(IIR, 0xC1), 0, 62), (Input(0), 1, 62), (Read(IIR, 0xC4), 0, 62), (Refuse(1), 0, 62),
+        (Input(0), 0, 62), (Input(0), 1, 62),
+    ]),
+    ("a refused write is made up for, whatever is taken before, and bytes that are left are not forgotten over it", &[
+        (Write(IER, 3), 1, 64), (Input(100), 1, 0), (Read(IIR, 0xC6), 0, 0), (Refuse(1), 0, 0),
+        (Write(DATA, b'A'), 0, 0), (Write(SCR, 0), 0, 0), (Take(64), 1, 28), (Input(0), 2, 28),
+        (Read(IIR, 0xC6), 0, 28), (Refuse(3), 0, 28), (Write(DATA, b'B'), 0, 28), (Input(0), 0, 28),
+        (Read(IIR, 0xC6), 0, 28),
+    ]),
+];
+
+#[test]
+fn a_guest_is_interrupted_for_each_byte_that_waits_and_for_nothing_else() {
+    for (name, steps) in SCRIPTS {
+        let mut machine = Machine::new(Line::default(), io::sink());
+        for (number, (step, interrupts, room)) in steps.iter().enumerate() {
+            match *step {
+                Input(count) => machine.input(&vec![b'x'; count]),
+                Read(offset, value) => assert_eq!(machine.read(offset), value, "{name}, step {number}"),
+                Take(count) => (0..count).for_each(|_| assert_eq!(machine.read(DATA), b'x', "{name}, step {number}")),
+                Write(offset, value) => machine.write(offset, value).unwrap(),
+                Refuse(count) => machine.port.interrupt_evt().refusals.set(count),
+            }
+            let seen = (machine.port.interrupt_evt().taken.take(), machine.port.fifo_capacity());
+            assert_eq!(seen, (*interrupts, *room), "{name}, step {number}");
+        }
+    }
+}
+
+#[test]
+fn what_is_typed_comes_back_in_capitals() {
+    let typed = "hi there, ".repeat(7000) + "\n"; // more than 16 bits count
+    let mut machine = Machine::new(Line::default(), Vec::new());
+    machine.write(IER, 1).unwrap();
+    machine.input(typed.as_bytes());
+    while machine.port.interrupt_evt().taken.take() > 0 {
+        machine.handle_interrupt().unwrap();
+    }
+    assert_eq!(String::from_utf8_lossy(machine.port.writer()), typed.to_uppercase());
+}
+
+#[test]
+fn an_output_that_fails_is_told_of() {
+    let mut machine = Machine::new(Line::default(), &mut [][..]);
+    assert!(machine.write(DATA, b'A').is_err());
+}
