@@ -32,15 +32,21 @@ def build(*steps):
     os.unlink(log.name)
 
 
-def built_program(arguments=(), crate="superio"):
-    """The program that the arguments name, or else that of a crate, which is built if it is missing or out of date."""
+def proved_program():
+    """The program that was proved and built, and `None` if it is missing or older than its sources."""
+    program, of = CRATES / "superio" / "out" / "superio", crates_of(ROOT)["superio"]
+    sources = [path for it in [*of.below(), of] for path in (it.folder / "src").rglob("*.rt")]
+    is_current = program.exists() and program.stat().st_mtime >= max(path.stat().st_mtime for path in sources)
+    return program if is_current else None
+
+
+def built_program(arguments=()):
+    """The program that the arguments name, or else the proved one, which is proved and built if it is not there."""
     if arguments:
         return Path(arguments[0]).resolve()
-    program, of = CRATES / crate / "out" / crate, crates_of(ROOT)[crate]
-    sources = [path for it in [*of.below(), of] for path in (it.folder / "src").rglob("*.rt")]
-    if not program.exists() or program.stat().st_mtime < max(path.stat().st_mtime for path in sources):
-        build(*((it.name, "lib") for it in of.below()), (crate, "run"))
-    return program
+    if not proved_program():
+        build(*((it.name, "lib") for it in crates_of(ROOT)["superio"].below()), ("superio", "run"))
+    return CRATES / "superio" / "out" / "superio"
 
 
 def run(program, script, *arguments):
