@@ -23,10 +23,8 @@ from superio.saved import LoadStatus  # noqa: E402
 from tally import run, takes_no_argument  # noqa: E402
 from toolchains import DEBIAN  # noqa: E402
 
-TARGET, MODULE = "wasm32-unknown-unknown", "wasm32/superio.wasm"
-PACKAGE = ROOT / "bindings" / "js"
-EMBEDDED = PACKAGE / "module.mjs"
-SOURCES = "bindings/rust/capi/src"
+TARGET, MODULE, SOURCES = "wasm32-unknown-unknown", "wasm32/superio.wasm", "bindings/rust/capi/src"
+EMBEDDED = ROOT / "bindings" / "js" / "module.mjs"
 # The compiler whose bytes the repository holds, the library of its target, and Debian's packages that have them.
 VERSION, LIBRARY = "rustc 1.63.0\n", DEBIAN.parents[1] / "lib" / "rustlib" / TARGET
 PACKAGES = "Debian 12's rustc, libstd-rust-dev-wasm32 and lld"
@@ -34,6 +32,7 @@ PACKAGES = "Debian 12's rustc, libstd-rust-dev-wasm32 and lld"
 # those below the top of the repository, so that its bytes are the same in any folder.
 OPTIONS = """--crate-name superio --crate-type cdylib --edition 2021 -C opt-level=z -C lto=fat -C panic=abort
     -C codegen-units=1 -C strip=symbols -C link-arg=-zstack-size=16384 -C link-arg=--initial-memory=131072""".split()
+# Kinds of numbers, as DataView names them.
 KINDS = {ctypes.c_uint32: "Uint32", ctypes.c_int64: "BigInt64", ctypes.c_uint64: "BigUint64"}
 
 
@@ -48,37 +47,35 @@ def build(place):
     return run([DEBIAN, *OPTIONS, "--target", TARGET, "-o", place, f"{SOURCES}/lib.rs"], cwd=ROOT)
 
 
-def rows(registers):
-    """The registers as JavaScript has them: each with its bits from the lowest on, and without its text."""
-    for register in registers.values():
-        row = {**register._asdict(), "bits": sorted(register.bits)}
+def tables():
+    """The tables of the Python package, by their names in module.mjs: a register without its text, and with its bits
+    from the lowest on; of a field of the clock's struct the name, the place, the kind, and whether it is a flag."""
+    serial, clock = ([one._replace(bits=sorted(one.bits))._asdict() for one in registers.values()]
+                     for registers in (SERIAL, CLOCK))
+    for row in (*serial, *clock):
         del row["about"]
-        yield row
+    fields = [(name, getattr(RtcStruct, name).offset, KINDS[kind], isinstance(getattr(RtcState, name), bool))
+              for name, kind in RtcStruct._fields_]
+    statuses = [status.name.lower().replace("_", " ") for status in LoadStatus]
+    return {"ABI": ABI, "CLOCK_SIZE": ctypes.sizeof(RtcStruct), "CLOCK_SAVED_SIZE": RTC_SAVED_SIZE,
+            "LOAD_STATUSES": statuses, "CLOCK_STRUCT": fields, "SERIAL_ROWS": serial, "CLOCK_ROWS": clock}
 
 
-def fields():
-    """The fields of the clock's struct: names, places, kinds as DataView names them, and whether each is a flag."""
-    for name, kind in RtcStruct._fields_:
-        yield name, getattr(RtcStruct, name).offset, KINDS[kind], isinstance(getattr(RtcState, name), bool)
-
-
-def embedded(module):
-    """The text of module.mjs, which has the module's bytes and the tables of the Python package."""
-    words = [status.name.lower().replace("_", " ") for status in LoadStatus]
-    tables = {"ABI": ABI, "CLOCK_SIZE": ctypes.sizeof(RtcStruct), "CLOCK_SAVED_SIZE": RTC_SAVED_SIZE,
-              "LOAD_STATUSES": words, "CLOCK_STRUCT": fields(), "SERIAL_ROWS": rows(SERIAL), "CLOCK_ROWS": rows(CLOCK)}
-    lines = [f"// Made by the command tools/js/prebuild.py from prebuilt/{MODULE}, whose bytes these are in base 64, and",
-             "// from registers.py, library.py and saved.py of bindings/python/superio.",
-             f'export default "{base64.b64encode(module).decode()}";']
-    for name, value in tables.items():
-        listed = value if isinstance(value, int) else "\n".join(["[", *(f"  {json.dumps(one)}," for one in value), "]"])
-        lines.append(f"export const {name} = {listed};")
+def embedded():
+    """The text of module.mjs, which has the module's bytes and the tables."""
+    module = base64.b64encode((PREBUILT / MODULE).read_bytes()).decode()
+    lines = [f"// Made by the command tools/js/prebuild.py from prebuilt/{MODULE}, whose bytes these are in base 64,",
+             "// and from registers.py, library.py and saved.py of bindings/python/superio.", f'export default "{module}";']
+    for name, value in tables().items():
+        rows = value if isinstance(value, int) else "\n".join(["[", *(f"  {json.dumps(row)}," for row in value), "]"])
+        lines.append(f"export const {name} = {rows};")
     return "\n".join([*lines, ""])
 
 
-def module_sources():
-    """The module's line of prebuilt/SOURCES."""
-    return source_line([SOURCES, "bindings/rust/src/core"], ".rs")
+def listed():
+    """The module's lines of prebuilt/SHA256SUMS and prebuilt/SOURCES, by the name of the file."""
+    return {"SHA256SUMS": sums_of(PREBUILT, [MODULE])[0],
+            "SOURCES": source_line([SOURCES, "bindings/rust/src/core"], ".rs")}
 
 
 def main():
@@ -87,9 +84,9 @@ def main():
     if not built or built.returncode:
         sys.exit(f"tools/js/prebuild.py: {built.stdout if built else ''}the module needs {PACKAGES}")
     (PREBUILT / MODULE).chmod(0o644)
-    EMBEDDED.write_text(embedded((PREBUILT / MODULE).read_bytes()), encoding="ascii")
-    replace_lines(PREBUILT / "SHA256SUMS", sums_of(PREBUILT, [MODULE]))
-    replace_lines(PREBUILT / "SOURCES", [module_sources()])
+    EMBEDDED.write_text(embedded(), encoding="ascii")
+    for name, line in listed().items():
+        replace_lines(PREBUILT / name, [line])
 
 
 if __name__ == "__main__":
