@@ -65,7 +65,8 @@ def embedded():
     """The text of module.mjs, which has the module's bytes and the tables."""
     module = base64.b64encode((PREBUILT / MODULE).read_bytes()).decode()
     lines = [f"// Made by the command tools/js/prebuild.py from prebuilt/{MODULE}, whose bytes these are in base 64,",
-             "// and from registers.py, library.py and saved.py of bindings/python/superio.", f'export default "{module}";']
+             "// and from registers.py, library.py and saved.py of bindings/python/superio.",
+             f'export default "{module}";']
     for name, value in tables().items():
         rows = value if isinstance(value, int) else "\n".join(["[", *(f"  {json.dumps(row)}," for row in value), "]"])
         lines.append(f"export const {name} = {rows};")
