@@ -4,16 +4,7 @@ export default "AGFzbQEAAAABTA1gBH9/f38AYAJ/fwBgAX8AYAR/f39+AGAEf39/fgF/YAF/AX9g
 export const ABI = 3;
 export const CLOCK_SIZE = 32;
 export const CLOCK_SAVED_SIZE = 33;
-export const LOAD_STATUSES = [
-  "ok",
-  "too short",
-  "not a saved state",
-  "other device",
-  "unknown version",
-  "wrong length",
-  "too many bytes",
-  "invalid armed",
-];
+export const LOAD_STATUSES = ["ok", "too short", "not a saved state", "other device", "unknown version", "wrong length", "too many bytes", "invalid armed"];
 export const CLOCK_STRUCT = [
   ["lr", 0, "Uint32", false],
   ["mr", 4, "Uint32", false],

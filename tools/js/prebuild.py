@@ -56,7 +56,7 @@ def tables():
         del row["about"]
     fields = [(name, getattr(RtcStruct, name).offset, KINDS[kind], isinstance(getattr(RtcState, name), bool))
               for name, kind in RtcStruct._fields_]
-    statuses = [status.name.lower().replace("_", " ") for status in LoadStatus]
+    statuses = tuple(status.name.lower().replace("_", " ") for status in LoadStatus)
     return {"ABI": ABI, "CLOCK_SIZE": ctypes.sizeof(RtcStruct), "CLOCK_SAVED_SIZE": RTC_SAVED_SIZE,
             "LOAD_STATUSES": statuses, "CLOCK_STRUCT": fields, "SERIAL_ROWS": serial, "CLOCK_ROWS": clock}
 
@@ -68,8 +68,8 @@ def embedded():
              "// and from registers.py, library.py and saved.py of bindings/python/superio.",
              f'export default "{module}";']
     for name, value in tables().items():
-        rows = value if isinstance(value, int) else "\n".join(["[", *(f"  {json.dumps(row)}," for row in value), "]"])
-        lines.append(f"export const {name} = {rows};")
+        rows = [f"  {json.dumps(row)}," for row in value] if isinstance(value, list) else []
+        lines.append(f"export const {name} = " + ("\n".join(["[", *rows, "];"]) if rows else f"{json.dumps(value)};"))
     return "\n".join([*lines, ""])
 
 

@@ -4,7 +4,6 @@
  */
 const { address, shown, features, pictures, scripts } = JSON.parse(document.getElementById("tried").textContent);
 const [HEIGHT, WIDTHS, SCHEMES, MOST_MILLISECONDS] = [860, [1280, 400], ["light", "dark"], 500];
-const CONTROLS = ["button", "textbox", "checkbox", "slider", "combobox", "link"];
 
 const tell = (kind, wrong, number = 1) => console.log(JSON.stringify({ kind, number, wrong: wrong.join("\n  ") }));
 const until = async (test) => { while (!test()) await new Promise((done) => setTimeout(done)); };
@@ -117,7 +116,7 @@ async function tryLooks(width, scheme) {
   const visible = all("body *").filter((one) => one.checkVisibility());
   const hasText = (one) => Array.from(one.childNodes).some((node) => node.nodeType === 3 && node.textContent.trim());
   const unused = "svg, script, .hidden, .skip, :disabled, .later";
-  const controls = visible.filter((one) => CONTROLS.includes(one.computedRole));
+  const controls = visible.filter((one) => one.matches("a, button, input, select, textarea"));
   const faults = {
     "hardly stands out": visible.filter((one) => hasText(one) && !one.closest(unused) && contrast(one) < 4.5),
     "is cut": visible.filter((one) => one.matches("button, label, .bit, .register b") && one.clientWidth &&

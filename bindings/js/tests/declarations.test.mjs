@@ -1,6 +1,6 @@
 /** superio.d.ts declares what the package has, and the package takes its own module alone. */
 import assert from "node:assert/strict";
-import { readFileSync } from "node:fs";
+import { readFileSync, readdirSync } from "node:fs";
 import test from "node:test";
 import text, { ABI as own, LOAD_STATUSES } from "../module.mjs";
 import * as superio from "../superio.mjs";
@@ -58,7 +58,10 @@ test("superio.d.ts declares each status of a load", () => {
   assert.deepEqual(["ok", ...Array.from(union.matchAll(/"(.*?)"/g), ([, status]) => status)], LOAD_STATUSES);
 });
 
-test("package.json names what it exports", () => {
+test("package.json names the files that the package has, and those that a release puts beside them", () => {
+  const isOwn = (name) => !["package.json", "page", "tests"].includes(name);
+  const there = readdirSync(new URL("..", import.meta.url)).filter(isOwn);
+  assert.deepEqual(new Set(files), new Set([...there, "LICENSE", "LICENSES"]));
   assert.deepEqual(Object.values(exports).filter((name) => !files.includes(name.slice(2))), []);
 });
 
