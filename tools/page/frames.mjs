@@ -156,9 +156,12 @@ async function tryScripts() {
   tell("scripts", different.map((one) => one.join("\n  ")), scripts.length);
 }
 
-for (const feature of features) await tryFeature(feature);
-for (const width of WIDTHS) for (const scheme of SCHEMES) await tryLooks(width, scheme);
-for (const picture of pictures) await take(picture);
-await tryScripts();
+/** Waits for what is tried, and tells if it cannot be. */
+const end = (what, trying) => trying.catch((error) => tell("features", [`${what}: ${error}`]));
+
+for (const feature of features) await end(feature, tryFeature(feature));
+for (const width of WIDTHS) for (const scheme of SCHEMES) await end("looks", tryLooks(width, scheme));
+for (const picture of pictures) await end(picture, take(picture));
+await end("scripts", tryScripts());
 tell("loading", fastest > MOST_MILLISECONDS ? [`the page took ${fastest} milliseconds at its fastest`] : []);
 console.log(JSON.stringify({ end: true }));
