@@ -24,7 +24,7 @@ async function open(fragment, width = WIDTHS[0], scheme = SCHEMES[0]) {
 
 const by = (id) => page.document.getElementById(id);
 const all = (selector, within = page.document) => Array.from(within.querySelectorAll(selector));
-const texts = (selector, within) => all(selector, within).map((one) => one.textContent);
+const texts = (selector) => all(selector).map((one) => one.textContent);
 const labels = (selector) => all(selector).map((one) => one.getAttribute("aria-label") ?? one.id).join(", ");
 /** The shown registers, by their offsets. */
 const register = (offset) => all("#registers .register:not([hidden])")[offset];
@@ -64,7 +64,7 @@ const SEEN = {
   names: () => texts("#registers .register:not([hidden]) b").join(" "),
   changed: () => texts("#registers .changed b").join(" "),
   flipped: () => texts("#registers .flipped").join(" "),
-  ignored: () => labels("#registers .ignored").replaceAll(", which is ignored", ""),
+  ignored: () => labels("#registers [aria-label$=ignored]"),
   invalid: () => labels("[aria-invalid=true]"),
   lit: () => texts("#port .lit").join(", "),
   held: () => by("fifo").querySelector("text").textContent,
