@@ -5,7 +5,7 @@
  * superio.d.ts says what each call does, takes and returns. Each makes the call of that name of superio.h, compiled to
  * WebAssembly, on a copy of the device's struct. A wrong argument throws an error that names it, and changes nothing.
  */
-import text, { ABI, CLOCK_SAVED_SIZE, CLOCK_SIZE, CLOCK_STRUCT } from "./module.mjs";
+import text, { ABI, CLOCK_SAVED_SIZE, CLOCK_SIZE, CLOCK_STRUCT, LOAD_STATUSES } from "./module.mjs";
 import { RegisterError, clockOffset, serialOffset } from "./registers.mjs";
 
 export { RegisterError };
@@ -80,10 +80,6 @@ function pass(bytes) {
   return some.length;
 }
 
-/** The statuses of a load, by their numbers in `enum superio_load` of superio.h. */
-const REFUSALS = [null, "too short", "not a saved state", "other device", "unknown version", "wrong length",
-  "too many bytes", "invalid armed"];
-
 /** Bytes are not the saved state of this device. `status` says why, in the words of a script. */
 export class SavedStateError extends Error {
   name = "SavedStateError";
@@ -96,7 +92,7 @@ export class SavedStateError extends Error {
 
 function load(device, call, bytes) {
   const status = onDevice(device, call, DEVICE, PASSED, pass(bytes));
-  if (status) throw new SavedStateError(REFUSALS[status]);
+  if (status) throw new SavedStateError(LOAD_STATUSES[status]);
 }
 
 /**

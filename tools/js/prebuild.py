@@ -11,106 +11,83 @@ import base64
 import ctypes
 import json
 import shutil
-import subprocess
 import sys
 from pathlib import Path
 
 ROOT = Path(__file__).resolve().parent.parent.parent
 sys.path[:0] = [str(ROOT / "tools" / "checks"), str(ROOT / "tools" / "c"), str(ROOT / "bindings" / "python")]
-from libraries import PREBUILT, BuildError, replace_lines, source_line, sums_of  # noqa: E402
+from libraries import PREBUILT, replace_lines, source_line, sums_of  # noqa: E402
 from superio.library import ABI, RTC_SAVED_SIZE, RtcStruct  # noqa: E402
 from superio.registers import CLOCK, SERIAL, RtcState  # noqa: E402
+from superio.saved import LoadStatus  # noqa: E402
+from tally import run, takes_no_argument  # noqa: E402
 from toolchains import DEBIAN  # noqa: E402
-from tally import takes_no_argument  # noqa: E402
 
-TARGET = "wasm32-unknown-unknown"
-MODULE = "wasm32/superio.wasm"
-PACKAGE = ROOT / "bindings" / "js"
-EMBEDDED = PACKAGE / "module.mjs"
-SOURCES = "bindings/rust/capi/src"
-# The compiler whose bytes the repository holds, and Debian's packages that have it.
-VERSION = "rustc 1.63.0"
+TARGET, MODULE, SOURCES = "wasm32-unknown-unknown", "wasm32/superio.wasm", "bindings/rust/capi/src"
+EMBEDDED = ROOT / "bindings" / "js" / "module.mjs"
+# The compiler whose bytes the repository holds, the library of its target, and Debian's packages that have them.
+VERSION, LIBRARY = "rustc 1.63.0\n", DEBIAN.parents[1] / "lib" / "rustlib" / TARGET
 PACKAGES = "Debian 12's rustc, libstd-rust-dev-wasm32 and lld"
-# The linker's: a small stack, and memory for a device and the longest bytes that a call can be passed.
-OPTIONS = ["opt-level=z", "lto=fat", "panic=abort", "codegen-units=1", "strip=symbols", "link-arg=-zstack-size=16384",
-           "link-arg=--initial-memory=131072"]
-
-
-def rustc(*words):
-    """Runs the compiler at the top of the repository, and returns what it prints."""
-    try:
-        ran = subprocess.run([DEBIAN, *words], cwd=ROOT, stdout=subprocess.PIPE, stderr=subprocess.STDOUT, text=True)
-    except OSError as error:
-        raise BuildError(f"{error}: the module needs {PACKAGES}") from error
-    if ran.returncode != 0:
-        raise BuildError(f"{ran.stdout}the module needs {PACKAGES}")
-    return ran.stdout.strip()
+# A small stack, and memory for a device and the longest bytes that a call can be passed. The paths in the module are
+# those below the top of the repository, so that its bytes are the same in any folder.
+OPTIONS = """--crate-name superio --crate-type cdylib --edition 2021 -C opt-level=z -C lto=fat -C panic=abort
+    -C codegen-units=1 -C strip=symbols -C link-arg=-zstack-size=16384 -C link-arg=--initial-memory=131072""".split()
+# Kinds of numbers, as DataView names them.
+KINDS = {ctypes.c_uint32: "Uint32", ctypes.c_int64: "BigInt64", ctypes.c_uint64: "BigUint64"}
 
 
 def has_compiler():
-    """Whether the compiler, its library for the target and the linker are there."""
-    try:
-        is_there = Path(rustc("--print", "target-libdir", "--target", TARGET)).is_dir() and shutil.which("wasm-ld")
-        return bool(is_there) and rustc("--version") == VERSION
-    except BuildError:
-        return False
+    """Whether the compiler of these bytes, its library for the target and the linker are there."""
+    is_there = DEBIAN.exists() and LIBRARY.is_dir() and shutil.which("wasm-ld")
+    return bool(is_there) and run([DEBIAN, "--version"]).stdout == VERSION
 
 
 def build(place):
-    """Builds the module. The paths in it are those below the top of the repository, so that its bytes are the same in
-    any folder."""
-    place.parent.mkdir(parents=True, exist_ok=True)
-    options = [word for option in OPTIONS for word in ("-C", option)]
-    rustc("--crate-name", "superio", "--crate-type", "cdylib", "--edition", "2021", "--target", TARGET, *options,
-          f"{SOURCES}/lib.rs", "-o", place)
-    place.chmod(0o644)
+    """Builds the module. Gives the compiler's status and what it printed."""
+    return run([DEBIAN, *OPTIONS, "--target", TARGET, "-o", place, f"{SOURCES}/lib.rs"], cwd=ROOT)
 
 
-def rows(registers):
-    """The registers as JavaScript has them: each with its bits from the lowest on, and without its text."""
-    shown = [{**one._asdict(), "bits": sorted(one.bits)} for one in registers.values()]
-    return [{name: value for name, value in one.items() if name != "about"} for one in shown]
+def tables():
+    """The tables of the Python package, by their names in module.mjs: a register without its text, and with its bits
+    from the lowest on; of a field of the clock's struct the name, the place, the kind, and whether it is a flag."""
+    serial, clock = ([one._replace(bits=sorted(one.bits))._asdict() for one in registers.values()]
+                     for registers in (SERIAL, CLOCK))
+    for row in (*serial, *clock):
+        del row["about"]
+    fields = [(name, getattr(RtcStruct, name).offset, KINDS[kind], isinstance(getattr(RtcState, name), bool))
+              for name, kind in RtcStruct._fields_]
+    statuses = tuple(status.name.lower().replace("_", " ") for status in LoadStatus)
+    return {"ABI": ABI, "CLOCK_SIZE": ctypes.sizeof(RtcStruct), "CLOCK_SAVED_SIZE": RTC_SAVED_SIZE,
+            "LOAD_STATUSES": statuses, "CLOCK_STRUCT": fields, "SERIAL_ROWS": serial, "CLOCK_ROWS": clock}
 
 
-def fields():
-    """The fields of the clock's struct: names, places, kinds as DataView names them, and whether each is a flag."""
-    kinds = {ctypes.c_uint32: "Uint32", ctypes.c_int64: "BigInt64", ctypes.c_uint64: "BigUint64"}
-    return [(name, getattr(RtcStruct, name).offset, kinds[kind], isinstance(getattr(RtcState, name), bool))
-            for name, kind in RtcStruct._fields_]
+def embedded():
+    """The text of module.mjs, which has the module's bytes and the tables."""
+    module = base64.b64encode((PREBUILT / MODULE).read_bytes()).decode()
+    lines = [f"// Made by the command tools/js/prebuild.py from prebuilt/{MODULE}, whose bytes these are in base 64,",
+             "// and from registers.py, library.py and saved.py of bindings/python/superio.",
+             f'export default "{module}";']
+    for name, value in tables().items():
+        rows = [f"  {json.dumps(row)}," for row in value] if isinstance(value, list) else []
+        lines.append(f"export const {name} = " + ("\n".join(["[", *rows, "];"]) if rows else f"{json.dumps(value)};"))
+    return "\n".join([*lines, ""])
 
 
-def embedded(module):
-    """The text of module.mjs, which has the module's bytes and the tables of the Python package."""
-    tables = {"ABI": ABI, "CLOCK_SIZE": ctypes.sizeof(RtcStruct), "CLOCK_SAVED_SIZE": RTC_SAVED_SIZE}
-    lists = {"CLOCK_STRUCT": fields(), "SERIAL_ROWS": rows(SERIAL), "CLOCK_ROWS": rows(CLOCK)}
-    text = base64.b64encode(module).decode("ascii")
-    return (f"// Made by the command tools/js/prebuild.py from prebuilt/{MODULE}, whose bytes these are in base 64, and\n"
-            f"// from registers.py and library.py of bindings/python/superio.\n"
-            f'export default "{text}";\n'
-            + "".join(f"export const {name} = {value};\n" for name, value in tables.items())
-            + "".join(f"export const {name} = [\n{''.join(f'  {json.dumps(one)},{chr(10)}' for one in some)}];\n"
-                      for name, some in lists.items()))
-
-
-def sum_line():
-    return sums_of(PREBUILT, [MODULE])[0]
-
-
-def module_sources():
-    return source_line([SOURCES, "bindings/rust/src/core"], ".rs")
+def listed():
+    """The module's lines of prebuilt/SHA256SUMS and prebuilt/SOURCES, by the name of the file."""
+    return {"SHA256SUMS": sums_of(PREBUILT, [MODULE])[0],
+            "SOURCES": source_line([SOURCES, "bindings/rust/src/core"], ".rs")}
 
 
 def main():
     takes_no_argument(__doc__)
-    try:
-        if not has_compiler():
-            raise BuildError(f"the module needs {PACKAGES}")
-        build(PREBUILT / MODULE)
-    except BuildError as error:
-        sys.exit(f"tools/js/prebuild.py: {error}")
-    EMBEDDED.write_text(embedded((PREBUILT / MODULE).read_bytes()), encoding="ascii")
-    replace_lines(PREBUILT / "SHA256SUMS", [sum_line()])
-    replace_lines(PREBUILT / "SOURCES", [module_sources()])
+    built = has_compiler() and build(PREBUILT / MODULE)
+    if not built or built.returncode:
+        sys.exit(f"tools/js/prebuild.py: {built.stdout if built else ''}the module needs {PACKAGES}")
+    (PREBUILT / MODULE).chmod(0o644)
+    EMBEDDED.write_text(embedded(), encoding="ascii")
+    for name, line in listed().items():
+        replace_lines(PREBUILT / name, [line])
 
 
 if __name__ == "__main__":

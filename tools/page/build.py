@@ -15,6 +15,9 @@ import zlib
 from pathlib import Path
 
 ROOT = Path(__file__).resolve().parent.parent.parent
+sys.path.append(str(ROOT / "tools" / "checks"))
+from tally import takes_no_argument  # noqa: E402
+
 PACKAGE = ROOT / "bindings" / "js"
 RECORDINGS = ROOT / "examples" / "linux-boot"
 PAGE = ROOT / "docs" / "try.html"
@@ -26,24 +29,19 @@ LEFT_OUT = re.compile(r"^(?:import [^;]+;|export \{[^}]*\};| *//.*| */\*\*[\s\S]
 PACKED = re.compile(r'(<script type="text/plain" id="([\w-]+)">)([^<]*)')
 
 
-def one_script():
-    """The modules as one: their names stay, and an import is of a name before it. Each is a block of its own, so that
-    only what it exports is seen."""
-    parts = []
+def sources():
+    """What is packed, by the name of its element: the boots, and the modules as one script. There each is a block of
+    its own, so that only what it exports is seen; names stay, and an import is of a name before it."""
+    script = []
     for name in MODULES:
         text = (PACKAGE / name).read_text(encoding="utf-8")
         text = LEFT_OUT.sub("", text).replace("export default ", "export const text = ")
         names = ", ".join(re.findall(r"^export (?:async )?(?:const|class|function) (\w+)", text, flags=re.M))
         body = re.sub(r"^export ", "", text, flags=re.M)
-        parts.append(f"const {{ {names} }} = await (async () => {{\n{body}return {{ {names} }};\n}})();\n")
-    return "\n".join(parts).encode()
-
-
-def sources():
-    """What is packed, by the name of its element."""
+        script.append(f"const {{ {names} }} = await (async () => {{\n{body}return {{ {names} }};\n}})();\n")
     boots = {f"{name}-recording": lzma.decompress((RECORDINGS / f"{name}.recording.xz").read_bytes())
              for name in ("boot", "console")}
-    return {**boots, "modules": one_script()}
+    return {**boots, "modules": "\n".join(script).encode()}
 
 
 def packed(source):
@@ -57,8 +55,7 @@ def unpacked(page):
 
 
 if __name__ == "__main__":
-    if sys.argv[1:]:
-        sys.exit(__doc__)
+    takes_no_argument(__doc__)
     parts = sources()
     page = PACKED.sub(lambda found: found[1] + packed(parts[found[2]]), PAGE.read_text(encoding="utf-8"))
     PAGE.write_text(page, encoding="utf-8")

@@ -1,12 +1,13 @@
 /** superio.d.ts declares what the package has, and the package takes its own module alone. */
 import assert from "node:assert/strict";
-import { readFileSync } from "node:fs";
+import { readFileSync, readdirSync } from "node:fs";
 import test from "node:test";
-import text, { ABI as own } from "../module.mjs";
+import text, { ABI as own, LOAD_STATUSES } from "../module.mjs";
 import * as superio from "../superio.mjs";
 
 const read = (name) => readFileSync(new URL(`../${name}`, import.meta.url), "utf8");
-const declarations = read("superio.d.ts").replace(/^ *\/\*\*[^]*?\*\/\n/gm, "");
+const { exports, files } = JSON.parse(read("package.json"));
+const declarations = read(exports.types).replace(/^ *\/\*\*[^]*?\*\/\n/gm, "");
 
 /** The declared members of a class, each as its kind, its name and its parameters' names. */
 const declared = (body) => Array.from(body.matchAll(/^  (static |readonly )?(\w+)(?:\((.*)\))?(?:: .*)?;$/gm),
@@ -50,6 +51,18 @@ test("superio.d.ts declares the fields of what calls give", () => {
     assert.deepEqual(Object.fromEntries(Object.entries(value).map(([field, one]) => [field, typeOf(one)])),
       fieldsOf(name));
   }
+});
+
+test("superio.d.ts declares each status of a load", () => {
+  const [union] = /readonly status: [^;]*/.exec(declarations);
+  assert.deepEqual(["ok", ...Array.from(union.matchAll(/"(.*?)"/g), ([, status]) => status)], LOAD_STATUSES);
+});
+
+test("package.json names the files that the package has, and those that a release puts beside them", () => {
+  const isOwn = (name) => !["package.json", "page", "tests"].includes(name);
+  const there = readdirSync(new URL("..", import.meta.url)).filter(isOwn);
+  assert.deepEqual(new Set(files), new Set([...there, "LICENSE", "LICENSES"]));
+  assert.deepEqual(Object.values(exports).filter((name) => !files.includes(name.slice(2))), []);
 });
 
 test("the module needs nothing", () => {
