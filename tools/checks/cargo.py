@@ -28,8 +28,8 @@ overflow-checks = true
 """
 
 
-def lacking_for(_project):
-    """What is not here of what builds a project of Cargo, or `None`. By cc it links programs."""
+def lacking():
+    """What is not here of what builds with Cargo, or `None`. By cc it links programs."""
     return next((tool for tool in ("cargo", "cc") if not shutil.which(tool)), None)
 
 

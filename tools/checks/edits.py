@@ -2,7 +2,6 @@
 import re
 from collections import Counter, defaultdict
 from dataclasses import dataclass, field
-from pathlib import Path
 
 from contracts import functions_of
 

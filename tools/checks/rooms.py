@@ -2,7 +2,6 @@
 import os
 import re
 import shutil
-import subprocess
 from dataclasses import dataclass, field
 from pathlib import Path
 
@@ -62,10 +61,3 @@ def make_room(folder, crate, texts=()):
         (copy / file).write_text(text, encoding="utf-8")
     (folder / "crates.txt").write_text("".join(it.line + "\n" for it in crates), encoding="utf-8")
     return copy
-
-
-def run(command, folder):
-    """Runs a command in a folder, by `env`, which says if there is none. Returns the lines printed, and the status."""
-    ran = subprocess.run(["env", *command], cwd=folder, stdin=subprocess.DEVNULL, stdout=subprocess.PIPE,
-                         stderr=subprocess.STDOUT, text=True, errors="replace")
-    return ran.stdout.splitlines(), ran.returncode
