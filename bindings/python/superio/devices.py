@@ -7,10 +7,9 @@ changes.
 from functools import lru_cache
 from typing import NamedTuple, Optional, Union
 
-from .arguments import byte_string, number
 from .library import RTC_SAVED_SIZE, SERIAL_SAVED_MAX, RtcStruct, SerialStruct, load
 from .registers import (CLOCK, CLOCK_KEPT, FIELDS, FIFO_SIZE, SERIAL, Register, RtcState, SerialState, bit_names,
-                        clock_offset, serial_offset)
+                        byte_string, clock_offset, number, serial_offset)
 from .saved import Saved
 
 _NEVER = 2 ** 64 - 1

@@ -3,9 +3,8 @@ from ctypes import byref, c_uint8
 from enum import IntEnum
 from typing import Any, Callable, Tuple, Type, TypeVar
 
-from .arguments import byte_string, check_kind
 from .library import load
-from .registers import State
+from .registers import State, byte_string, check_kind
 
 _Device = TypeVar("_Device", bound="Saved")
 

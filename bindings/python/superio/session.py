@@ -5,10 +5,9 @@ import time
 from typing import IO, Callable, Dict, Iterable, List, Optional, Tuple
 
 from .board import Board, Call
-from .files import BadLine, write_text
-from .prompt import Help, Prompt
+from .prompt import Help, Prompt, write_text
 from .registers import CLOCK
-from .script import FORMS, LINES, MASK, Command, ScriptError, form_of, parse, text_of
+from .script import FORMS, LINES, MASK, BadLine, Command, ScriptError, form_of, parse, text_of
 from .tell import Story, changes, clock_registers, registers, told
 from .words import Speaker, UsageError
 

@@ -1,0 +1,206 @@
+"""Scripts and recorded traces: what the package replies, and how traces are searched, listed and drawn.
+
+The program `superio` is the one that the environment variable SUPERIO_PROGRAM names, or else the built one. Without it
+the test beside it is skipped.
+"""
+import io
+import os
+import random
+import re
+import unittest
+from contextlib import redirect_stderr
+from pathlib import Path
+from xml.etree import ElementTree
+
+from support import ROOT, FolderTest, run
+
+from program import run_all, seed_of
+from script_tests import scripts_of
+
+from superio import Board, ScriptError, parse
+from superio.recording import picture, replay
+from superio.script import FORMS, BadLine, text_of
+from superio.session import Session
+from superio.view import Viewer, table
+
+PROGRAM = Path(os.environ.get("SUPERIO_PROGRAM", ROOT / "crates" / "superio" / "out" / "superio"))
+# All but those that are too long.
+SCRIPTS = [test for path in sorted((ROOT / "tests").glob("*.txt")) for test in scripts_of(path)
+           if test.expected[0] in (0, 1)]
+BROKEN = 2_000
+
+
+def lines_of(script):
+    """The lines of a script. The last one may lack its LF."""
+    return script[:-1 if script.endswith(b"\n") else None].split(b"\n") if script else []
+
+
+def run_board(script):
+    """What the package makes of a script, as the program does: the status, the replies, and what is wrong."""
+    board, replies = Board(), []
+    for number, line in enumerate(lines_of(script), 1):
+        try:
+            reply = board.reply(parse(line, is_first=number == 1))
+        except ScriptError:
+            return 1, "".join(replies).encode(), b"bad line %d\n" % number
+        replies += [] if reply is None else [reply + "\n"]
+    return 0, "".join(replies).encode(), b""
+
+
+def broken(script, randomness):
+    """A script that is cut off, or has other bytes in the place of one, or of none."""
+    place = randomness.randrange(len(script))
+    byte = bytes([randomness.choice([*b" \n\r0f\xff", randomness.randrange(256)])])
+    new = randomness.choice([byte, b"", script[place:place + 1] * 2])
+    return script[:place] + randomness.choice([b"", new + script[place + randomness.randrange(2):]])
+
+
+class Scripts(unittest.TestCase):
+    def test_the_text_of_a_command_is_its_line(self):
+        """Of each good line of tests/, among them each form."""
+        lines = {line for test in SCRIPTS if test.expected[0] == 0 for line in lines_of(test.script)}
+        commands = {line: parse(line, is_first=True) for line in lines}
+        self.assertEqual({line: line.decode().lower() for line in lines},
+                         {line: text_of(command) for line, command in commands.items()})
+        self.assertEqual(set(FORMS), {command.name for command in commands.values()})
+
+    def test_replies_are_those_of_the_tests(self):
+        """On a board, and those of a good script in the shell too."""
+        for test in SCRIPTS:
+            self.assertEqual(test.expected, run_board(test.script), test.place)
+            if test.expected[0] == 0:
+                out = io.StringIO()
+                Session(out).run_lines("script", lines_of(test.script))
+                self.assertEqual(test.expected[1].decode(), out.getvalue(), test.place)
+
+    @unittest.skipUnless(PROGRAM.exists(), f"{PROGRAM} is not built")
+    def test_examples_and_broken_scripts(self):
+        """The scripts of tests/ have their replies there, with which tools/checks/scripts compares the program."""
+        randomness = random.Random(seed_of(ROOT))
+        whole = [test.script for test in SCRIPTS if 0 < len(test.script) < 3000]
+        scripts = [path.read_bytes() for path in (ROOT / "examples").glob("*.script")]
+        scripts += [broken(randomness.choice(whole), randomness) for _ in range(BROKEN)]
+        for script, expected in zip(scripts, run_all(PROGRAM, scripts)):
+            self.assertEqual(expected, run_board(script), script)
+
+
+RECORDING = ROOT / "examples" / "linux-boot" / "boot.recording.xz"
+WITH_INPUT = RECORDING.with_name("console.recording.xz")
+FIGURE = ROOT / "docs" / "linux-boot.svg"
+
+TRACE = b"""\
+# both conditions, a refusal, and a reset
+refuse 0000000000000002
+sw 01 01                             ok
+sq 6162                              02
+sr 05                                61
+sr 00                                61
+sw 01 03                             trigger
+sr 02                                c4
+sw 00 41                             ok
+si                                   ok
+
+2 kr 04  00
+kw 04 fe  ok
+"""
+
+# The calls that commands lead to, one after the other in TRACE, or what is said where none is.
+PLACES = [("next", 2), ("next 3", 5), ("back 2", 3), ("next thre", 8), ("back rda", 6), ("back rda", 3),
+          ("next input", "no input further on"), ("first", 1), ("next interrupt", 3), ("next refused", 6),
+          ("next sent", 8), ("next reset", 12), ("back IIR", 7), ("back lsr", 4), ("first", 1),
+          ("next difference", 12), ("goto 4", 4), ("next change", 5), ("back input", 3), ("last", 12),
+          ("next", "there is no call further on"), ("goto 0", "there is no call before"),
+          ("goto x", "the form is: goto N"), ("first", 1), ("back", "there is no call before"), ("", 2),
+          ("foo", "no command is called foo: help lists them"), ("next timeout", 9)]
+
+# Traces, and the bars of their lanes in the picture.
+PICTURES = [
+    (b"sw 01 01\nsq 61\nsr 02\nsr 05\n",
+     ["RDA pending", "M320 80v-34h200v34z", "bytes held", "M320 128v-5h600v5z", "interrupts", "M320 176v-34h200v34z"]),
+    # A refused call is no interrupt.
+    (b"refuse 0000000000000001\nsw 01 01\nsq 61\nsr 05\n",
+     ["RDA pending", "M520 80v-34h400v34z", "bytes held", "M520 128v-5h400v5z", "refused", "M520 176v-34h200v34z"]),
+    # A column of many calls has their mean.
+    (b"sq 61\nsr 00\n" * 800, ["bytes held", "M120 80v-5h800v5z"]),
+    (b"sq " + b"00" * 32 + b"\nsr 05\n", ["bytes held", "M120 80v-17h800v17z"]),
+    (b"sr 05\n", []),
+]
+
+
+def steps_of(trace):
+    return list(replay("trace", trace.splitlines(keepends=True)))
+
+
+class Traces(FolderTest):
+    def said(self, viewer, line):
+        """What the viewer says to a command."""
+        viewer.stdout = io.StringIO()
+        with redirect_stderr(viewer.stdout):
+            viewer.onecmd(line)
+        return viewer.stdout.getvalue()
+
+    def test_each_piece_begins_on_a_fresh_board(self):
+        steps = steps_of(b"sw 07 05\n\nsr 07\n# comment\nsr 07\n\n\nrefuse 0000000000000001\n")
+        self.assertEqual([(1, "ok"), (2, "00"), (2, "00"), (3, None)],
+                         [(step.piece, step.call.reply) for step in steps])
+
+    def test_faults(self):
+        for trace, reason in ((b"sr 05\nsr 5\n", 'trace:2: "sr 5": the form is: sr OO'),
+                              (b'sent "\xc3\xa9"\n', "the text is no JSON string of ASCII"),
+                              (b"sr 05\nrefuse 0000000000000001\n", "a mask comes before every other line")):
+            with self.subTest(trace), self.assertRaisesRegex(BadLine, reason):
+                steps_of(trace)
+
+    def test_places(self):
+        viewer = Viewer(steps_of(TRACE), "trace", None)
+        for line, place in PLACES:
+            with self.subTest(line):
+                expected = place if isinstance(place, str) else f"call {place} of 12"
+                self.assertEqual(expected, self.said(viewer, line).partition(",")[0].strip())
+        self.assertIn("nothing is called foo", self.said(viewer, "next foo"))
+
+    def test_what_is_shown(self):
+        viewer = Viewer(steps_of(TRACE), "trace", None)
+        self.assertEqual("call 6 of 12, piece 1: sw 01 03  trigger\n  IER: ok; interrupt for RDA refused\n"
+                         "  IER 0x01 -> 0x03  RDA THRE\n  IIR 0xc1 -> 0xc4  RDA\n  interrupt refused\n",
+                         self.said(viewer, "goto 6"))
+        self.assertIn("  pending: RDA\n", self.said(viewer, "regs"))
+        rows = self.said(viewer, "list").splitlines()
+        self.assertEqual([*range(1, 12)], [int(row.lstrip("> ").split()[0]) for row in rows])
+        self.assertIn(">       6  sw 01 03", rows[5])
+
+    def test_a_reply_that_differs(self):
+        steps = steps_of(TRACE)
+        self.assertEqual([12], [number for number, step in enumerate(steps, 1) if step.differs])
+        self.assertTrue(table(steps).endswith("     12  kw 04 fe                  reset  recorded: ok\n"))
+
+    def test_bars(self):
+        for trace, parts in PICTURES:
+            drawn = picture(steps_of(trace), "a <title> & more")
+            ElementTree.fromstring(drawn)
+            self.assertEqual(parts, re.findall(r'(?:"end">|d=")([^"<]+)(?:</text>|" fill)', drawn), trace[:30])
+
+    def test_files(self):
+        steps = steps_of(TRACE)
+        for name, text in (("table", table(steps)), ("svg", picture(steps, "-"))):
+            self.assertEqual((0, "", ""), run("view", "-", f"--{name}", self.path, script=TRACE))
+            self.assertEqual(text, self.path.read_text())
+        self.assertEqual((0, "", ""), run("view", RECORDING, "--svg", self.path))
+        self.assertEqual(FIGURE.read_text(), self.path.read_text())
+
+    def test_tables_of_the_recordings(self):
+        for recording, rows, row in (
+                (RECORDING, 42839 + 66, "  26491  sw 01 0f                  ok        IER 0x00 -> 0x0f  RDA THRE RLS "
+                                        "MS, IIR 0xc1 -> 0xc2  THRE, interrupt taken\n"),
+                (WITH_INPUT, None, "  sq 756e616d65202d73720a   0a        ")):
+            status, output, errors = run("view", recording, "--table")
+            self.assertEqual((0, rows or output.count("\n"), ""), (status, output.count("\n"), errors))
+            self.assertNotIn("recorded:", output)
+            self.assertIn(row, output)
+
+    def test_a_damaged_recording(self):
+        for packed in (RECORDING.read_bytes()[:-100], TRACE):
+            path = self.folder / "trace.xz"
+            path.write_bytes(packed)
+            status, output, errors = run("view", path, "--table")
+            self.assertEqual((1, "", True), (status, output, errors.startswith(f"{path}: ")), errors)
