@@ -5,7 +5,7 @@ It replies to each line as the program `superio` does.
 from dataclasses import replace
 from typing import Any, Callable, Dict, List, NamedTuple, Optional, Tuple, Union
 
-from .devices import I8042, Rtc, Serial, clock_state, serial_state
+from .devices import I8042, Rtc, Serial
 from .registers import (DLAB, SERIAL, Register, RtcState, SerialState, bits_by_name, check_kind, clock_register,
                         serial_register)
 from .saved import LoadStatus, SavedStateError
@@ -38,21 +38,13 @@ class Counts(NamedTuple):
 
 
 class Snapshot(NamedTuple):
-    """What the board is at a moment. The states are decoded when they are asked for."""
+    """What the board is at a moment."""
 
-    port: bytes  # the serial port, as its struct of superio.h
-    rtc: bytes   # the clock, as its struct
-    sent: int    # how many bytes went out
-    calls: int   # how often the interrupt line was called
+    serial: SerialState
+    clock: RtcState
+    sent: int   # how many bytes went out
+    calls: int  # how often the interrupt line was called
     counts: Counts
-
-    @property
-    def serial(self) -> SerialState:
-        return serial_state(self.port)
-
-    @property
-    def clock(self) -> RtcState:
-        return clock_state(self.rtc)
 
 
 class Call(NamedTuple):
@@ -116,7 +108,7 @@ class Board:
 
     def snapshot(self) -> Snapshot:
         """What the board is now."""
-        return Snapshot(self.serial.raw, self.clock.raw, len(self.output), self.calls, self.counts)
+        return Snapshot(self.serial.state, self.clock.state, len(self.output), self.calls, self.counts)
 
     def _refuse(self, mask: int) -> None:
         self.mask, self.calls = mask, 0

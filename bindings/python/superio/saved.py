@@ -67,11 +67,6 @@ class Saved:
         device._load(data)
         return device
 
-    @property
-    def raw(self) -> bytes:
-        """The struct of superio.h, as it is in memory. `serial_state` and `clock_state` tell its state."""
-        return bytes(self._struct)
-
     def _load(self, data: bytes) -> None:
         status = LoadStatus(self._function("load")(self._pointer, data, len(data)))
         if status is not LoadStatus.OK:
