@@ -8,9 +8,8 @@ import subprocess
 import sys
 import threading
 import time
-import unittest
-import unittest.mock
 from contextlib import suppress
+from unittest import mock
 
 from support import ENVIRONMENT, ROOT, TIMEOUT, FolderTest, ended, run
 
@@ -26,7 +25,6 @@ RUNS = [
     ([], b"# comment\nkr 04\nread XYZ\nkr 04\n",
      (1, "00\n", '<stdin>:3: "read XYZ": XYZ is no offset, and no register: '
                  "those are RBR THR DLL IER DLM IIR FCR LCR MCR LSR MSR SCR\n")),
-    ([], b"kr 04\nsr\nkr 04\n", (1, "00\n", '<stdin>:2: "sr": the form is: sr OO\n')),
     ([], b"\xff\x1b\n", (1, "", '<stdin>:1: "\\xff\\x1b": no command is called \\xff\\x1b: help lists them\n')),
     ([], b"\n   # indented\n  kr 04  \t\r\nread LSR\r\n\r\nkr 04", (0, "00\nLSR = 0x60  THRE TEMT\n00\n", "")),
     ([], b"# " + b"x" * 200_000 + b"\nkr 04\nkr", (1, "00\n", '<stdin>:3: "kr": the form is: kr OO\n')),
@@ -34,7 +32,6 @@ RUNS = [
     ([], b"kr 04\nquit\nkr 04\n", (0, "00\n", "")),
     ([], b"write SCR 7\nreset\nread SCR\n", (0, "ok\na fresh board\nSCR = 0x00\n", "")),
     ([], b"kr 04\nload /nowhere/at/all\nkr 04\n", (1, "00\n", '<stdin>:2: "load /nowhere/at/all": ' + NOWHERE)),
-    ([], b"regs all\n", (1, "", '<stdin>:1: "regs all": the form is: regs [serial|clock]\n')),
     (["/"], b"", (2, "", "python3 -m superio: /: Is a directory\n")),
     (["/nowhere/at/all"], b"", (2, "", "python3 -m superio: " + NOWHERE)),
     (["view", "/nowhere/at/all"], b"", (2, "", "python3 -m superio: " + NOWHERE)),
@@ -68,7 +65,19 @@ FILES = [
     ({}, "kr 04\nreset\nsr 07\ntrace on\nread SCR\ntrace off\nread SCR\ntrace\ntrace new\n",
      (0, "00\na fresh board\n00\ntrace is on\nsr 07\nSCR = 0x00\ntrace is off\nSCR = 0x00\nsr 07\nsr 07\nsr 07\n"
          "the calls since the last reset are in new\n"), "", {"new": "sr 07\nsr 07\nsr 07\n"}),
-    ({}, "save none/at/all\n", (1, ""), "No such file or directory", {}),
+]
+
+
+SUPERIO = f"{sys.executable} -m superio"
+
+# Commands for bash, and the status, the output and a part of the errors.
+COMMANDS = [
+    (f"yes 'kr 04' | {SUPERIO} | head -n 1; exit ${{PIPESTATUS[1]}}", (128 + signal.SIGPIPE, "00\n", "")),
+    (f"{SUPERIO} view {BOOT} --table | head -n 1; exit ${{PIPESTATUS[0]}}", (128 + signal.SIGPIPE, "piece 1\n", "")),
+    (f"echo 'kr 04' | {SUPERIO} > /dev/full", (2, "", "No space left on device")),
+    (f"echo 'save /dev/stdout' | {SUPERIO} | tail -n 1", (0, "port and clock saved to /dev/stdout\n", "")),
+    (f"SUPERIO_LIBRARY=/nowhere/lib.so {SUPERIO}", (2, "", "python3 -m superio: /nowhere/lib.so cannot be loaded")),
+    *((f"{SUPERIO} {wrong}", (2, "", "usage: ")) for wrong in ("--unknown", "a b", "view", "view --unknown a")),
 ]
 
 
@@ -117,21 +126,6 @@ class Runs(FolderTest):
         self.assertEqual((0o640, True), (self.path.stat().st_mode & 0o777, link.is_symlink()))
         self.assertTrue(self.path.read_text().startswith("sl "))
 
-
-SUPERIO = f"{sys.executable} -m superio"
-
-# Commands for bash, and the status, the output and a part of the errors.
-COMMANDS = [
-    (f"yes 'kr 04' | {SUPERIO} | head -n 1; exit ${{PIPESTATUS[1]}}", (128 + signal.SIGPIPE, "00\n", "")),
-    (f"{SUPERIO} view {BOOT} --table | head -n 1; exit ${{PIPESTATUS[0]}}", (128 + signal.SIGPIPE, "piece 1\n", "")),
-    (f"echo 'kr 04' | {SUPERIO} > /dev/full", (2, "", "No space left on device")),
-    (f"echo 'save /dev/stdout' | {SUPERIO} | tail -n 1", (0, "port and clock saved to /dev/stdout\n", "")),
-    (f"SUPERIO_LIBRARY=/nowhere/lib.so {SUPERIO}", (2, "", "python3 -m superio: /nowhere/lib.so cannot be loaded")),
-    *((f"{SUPERIO} {wrong}", (2, "", "usage: ")) for wrong in ("--unknown", "a b", "view", "view --unknown a")),
-]
-
-
-class Streams(unittest.TestCase):
     def test_commands(self):
         for command, (status, output, said) in COMMANDS:
             with self.subTest(command):
@@ -267,6 +261,6 @@ class Terminal(FolderTest):
         lines = self.kept("kr 04", SUPERIO_HISTORY=path)["a file"].splitlines()
         self.assertEqual([*(f"read {number}" for number in range(1, 1000)), "kr 04"], lines)
         self.path.unlink()
-        with unittest.mock.patch.dict(ENVIRONMENT):
+        with mock.patch.dict(ENVIRONMENT):
             del ENVIRONMENT["SUPERIO_HISTORY"]
             self.assertEqual({".superio_history": "kr 04\n"}, self.kept("kr 04", HOME=home))

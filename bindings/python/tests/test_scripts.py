@@ -19,7 +19,7 @@ from script_tests import scripts_of
 
 from superio import Board, ScriptError, parse
 from superio.recording import picture, replay
-from superio.script import FORMS, BadLine, text_of
+from superio.script import BadLine, text_of
 from superio.session import Session
 from superio.view import Viewer, table
 
@@ -56,22 +56,17 @@ def broken(script, randomness):
 
 
 class Scripts(unittest.TestCase):
-    def test_the_text_of_a_command_is_its_line(self):
-        """Of each good line of tests/, among them each form."""
-        lines = {line for test in SCRIPTS if test.expected[0] == 0 for line in lines_of(test.script)}
-        commands = {line: parse(line, is_first=True) for line in lines}
-        self.assertEqual({line: line.decode().lower() for line in lines},
-                         {line: text_of(command) for line, command in commands.items()})
-        self.assertEqual(set(FORMS), {command.name for command in commands.values()})
-
     def test_replies_are_those_of_the_tests(self):
-        """On a board, and those of a good script in the shell too."""
+        """On a board, and those of a good script in the shell too, whose trace then has the script's lines."""
         for test in SCRIPTS:
             self.assertEqual(test.expected, run_board(test.script), test.place)
             if test.expected[0] == 0:
                 out = io.StringIO()
-                Session(out).run_lines("script", lines_of(test.script))
+                session = Session(out)
+                session.run_lines("script", lines_of(test.script))
                 self.assertEqual(test.expected[1].decode(), out.getvalue(), test.place)
+                made = [text_of(command).encode() for command in session.commands]
+                self.assertEqual(test.script.lower().split(), b" ".join(made).split(), test.place)
 
     @unittest.skipUnless(PROGRAM.exists(), f"{PROGRAM} is not built")
     def test_examples_and_broken_scripts(self):
