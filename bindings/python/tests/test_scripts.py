@@ -139,6 +139,12 @@ class Traces(FolderTest):
         self.assertEqual([(1, "ok"), (2, "00"), (2, "00"), (3, None)],
                          [(step.piece, step.call.reply) for step in steps])
 
+    def test_short_forms(self):
+        steps = steps_of(b'sent "Hi"\npolled "!"\nso "Hi!"\nsq "ab"  02\nreceived "ab"\n2 sr 05  60\n')
+        self.assertEqual("sw 00 48,sw 00 69,sr 05,sw 00 21,so,sq 6162,sr 05,sr 00,sr 05,sr 00,sr 05,sr 05",
+                         ",".join(text_of(step.call.command) for step in steps))
+        self.assertFalse(any(step.differs for step in steps))
+
     def test_faults(self):
         for trace, reason in ((b"sr 05\nsr 5\n", 'trace:2: "sr 5": the form is: sr OO'),
                               (b'sent "\xc3\xa9"\n', "the text is no JSON string of ASCII"),

@@ -142,6 +142,7 @@ ASKED = [
     (["sq 68", "diff"], ["sq 68", "  LSR 0x60 -> 0x61  DR THRE TEMT", "  FIFO 0 -> 1 byte"]),
     (["sw 00 41", "diff"], ["sw 00 41", "  output 0 -> 1 byte"]),
     (["si", "diff"], ["si", "  nothing changed"]),
+    (["sw 00 41"] * 256 + ["write THR 'B'"], ['"B" lost: the output is full, with 256 bytes']),
     (["write IER RDA|THRE", "write LCR 0x1a", 'type "hi"', "regs serial"],
      ["serial port", "  IER  0x03  RDA THRE", "  IIR  0xc6  RDA THRE", "  LCR  0x1a  7E1", "  MCR  0x08  OUT2",
       "  LSR  0x61  DR THRE TEMT", "  MSR  0xb0  CTS DSR DCD", "  SCR  0x00", "  divisor 12, FIFO 2 of 64", '  "hi"',
