@@ -1,20 +1,17 @@
 """The command line of `python3 -m superio`: the shell, a file of lines, or the viewer of a trace."""
 import argparse
-import io
 import os
 import signal
 import sys
 from contextlib import nullcontext
-from typing import IO, Any, List
+from typing import List
 
 from . import __version__
-from .files import reason_of
 from .library import LibraryError, load
 from .prompt import Leave, use_history
+from .script import reason_of
 from .session import Session
 from .view import view
-
-_PIECE = 65_536
 
 _EPILOG = """\
 exit status:
@@ -48,20 +45,6 @@ def _viewer_parser() -> argparse.ArgumentParser:
     return parser
 
 
-class _Pipe(io.RawIOBase):
-    """A file, perhaps a pipe. Before it waits for more lines, the replies to those before go out."""
-
-    def __init__(self, file: "IO[bytes]") -> None:
-        self._file = file
-
-    def readable(self) -> bool:
-        return True
-
-    def readinto(self, room: Any) -> int:
-        sys.stdout.flush()
-        return self._file.readinto1(room)  # type: ignore[attr-defined]
-
-
 def _run(arguments: List[str]) -> None:
     if arguments[:1] == ["view"]:
         options = _viewer_parser().parse_args(arguments[1:])
@@ -69,6 +52,7 @@ def _run(arguments: List[str]) -> None:
         return
     path = _parser().parse_args(arguments).file
     load()
+    sys.stdout.reconfigure(line_buffering=True)  # type: ignore[union-attr]  # each reply goes out at once
     session = Session(sys.stdout)
     if path is None and sys.stdin.isatty():
         use_history()
@@ -76,7 +60,7 @@ def _run(arguments: List[str]) -> None:
         return
     is_file = path not in (None, "-")
     with open(path, "rb") if is_file else nullcontext(sys.stdin.buffer) as file:
-        session.run_lines(path if is_file else "<stdin>", io.BufferedReader(_Pipe(file), _PIECE))
+        session.run_lines(path if is_file else "<stdin>", file)
 
 
 def main(arguments: List[str]) -> int:

@@ -5,9 +5,8 @@ It replies to each line as the program `superio` does.
 from dataclasses import replace
 from typing import Any, Callable, Dict, List, NamedTuple, Optional, Tuple, Union
 
-from .arguments import check_kind
-from .devices import I8042, Rtc, Serial, clock_state, serial_state
-from .registers import (DLAB, SERIAL, Register, RtcState, SerialState, bits_by_name, clock_register,
+from .devices import I8042, Rtc, Serial
+from .registers import (DLAB, SERIAL, Register, RtcState, SerialState, bits_by_name, check_kind, clock_register,
                         serial_register)
 from .saved import LoadStatus, SavedStateError
 from .script import Command
@@ -39,21 +38,13 @@ class Counts(NamedTuple):
 
 
 class Snapshot(NamedTuple):
-    """What the board is at a moment. The states are decoded when they are asked for."""
+    """What the board is at a moment."""
 
-    port: bytes  # the serial port, as its struct of superio.h
-    rtc: bytes   # the clock, as its struct
-    sent: int    # how many bytes went out
-    calls: int   # how often the interrupt line was called
+    serial: SerialState
+    clock: RtcState
+    sent: int   # how many bytes went out
+    calls: int  # how often the interrupt line was called
     counts: Counts
-
-    @property
-    def serial(self) -> SerialState:
-        return serial_state(self.port)
-
-    @property
-    def clock(self) -> RtcState:
-        return clock_state(self.rtc)
 
 
 class Call(NamedTuple):
@@ -65,7 +56,11 @@ class Call(NamedTuple):
     before: Snapshot
     after: Snapshot
     answers: Tuple[bool, ...]  # what the interrupt line answered: whether it took each call
-    is_lost: bool              # whether the line wrote a byte for which the output had no room
+
+    @property
+    def is_lost(self) -> bool:
+        """Whether the line wrote a byte for which the output had no room."""
+        return self.after.counts.tx_lost_byte > self.before.counts.tx_lost_byte
 
     @property
     def register(self) -> Optional[Register]:
@@ -96,13 +91,11 @@ class Board:
         self.counts = Counts()
         self.number = 0
         self._answers: List[bool] = []
-        self._is_lost = False
 
     def reply(self, command: Command) -> Optional[str]:
         """Carries out a command. Returns the line that a script prints for it, without the LF, or `None` if none."""
         check_kind("command", command, Command)
         self._answers = []
-        self._is_lost = False
         reply = _REPLIES[command.name](self, *command.values)
         self.number += 1
         return reply
@@ -111,11 +104,11 @@ class Board:
         """Carries out a command. Returns what it did."""
         before = self.snapshot()
         reply = self.reply(command)
-        return Call(self.number, command, reply, before, self.snapshot(), tuple(self._answers), self._is_lost)
+        return Call(self.number, command, reply, before, self.snapshot(), tuple(self._answers))
 
     def snapshot(self) -> Snapshot:
         """What the board is now."""
-        return Snapshot(self.serial.raw, self.clock.raw, len(self.output), self.calls, self.counts)
+        return Snapshot(self.serial.state, self.clock.state, len(self.output), self.calls, self.counts)
 
     def _refuse(self, mask: int) -> None:
         self.mask, self.calls = mask, 0
@@ -137,18 +130,19 @@ class Board:
 
     def _serial_write(self, offset: int, value: int) -> str:
         done = self.serial.write(offset, value)
-        if done.sends:
-            self._send(value)
+        is_lost = done.sends and not self._send(value)
         is_taken = self._ask(done.interrupts)
         if done.interrupts == 2 and not self._answers[0]:
             self.serial = without_thre(self.serial)
-        return "trigger" if not is_taken else "io" if self._is_lost else "ok"
+        return "trigger" if not is_taken else "io" if is_lost else "ok"
 
-    def _send(self, value: int) -> None:
-        self._is_lost = len(self.output) == OUTPUT_SIZE
-        if not self._is_lost:
+    def _send(self, value: int) -> bool:
+        """Writes a byte to the output. Returns whether there was room."""
+        has_room = len(self.output) < OUTPUT_SIZE
+        if has_room:
             self.output.append(value)
-        self._count(out_byte=not self._is_lost, tx_lost_byte=self._is_lost)
+        self._count(out_byte=has_room, tx_lost_byte=not has_room)
+        return has_room
 
     def _count(self, **events: bool) -> None:
         self.counts = self.counts._replace(**{name: getattr(self.counts, name) + happened

@@ -7,15 +7,13 @@ changes.
 from functools import lru_cache
 from typing import NamedTuple, Optional, Union
 
-from .arguments import byte_string, number
 from .library import RTC_SAVED_SIZE, SERIAL_SAVED_MAX, RtcStruct, SerialStruct, load
 from .registers import (CLOCK, CLOCK_KEPT, FIELDS, FIFO_SIZE, SERIAL, Register, RtcState, SerialState, bit_names,
-                        clock_offset, serial_offset)
+                        byte_string, clock_offset, number, serial_offset)
 from .saved import Saved
 
 _NEVER = 2 ** 64 - 1
 _STATES = 1024
-_HEAD, _LENGTH, _RING = SerialStruct.head.offset, SerialStruct.len.offset, SerialStruct.bytes.offset
 _OR_NAME = ", or the name of a register,"
 
 
@@ -146,7 +144,7 @@ class Serial(Saved):
     @property
     def state(self) -> SerialState:
         """The registers and the held bytes, as a value."""
-        return serial_state(bytes(self._struct))
+        return _serial_state(bytes(self._struct))
 
     @classmethod
     def from_state(cls, state: SerialState) -> "Serial":
@@ -214,7 +212,7 @@ class Rtc(Saved):
     @property
     def state(self) -> RtcState:
         """The registers, the offset and the alarm, as a value."""
-        return clock_state(bytes(self._struct))
+        return _clock_state(bytes(self._struct))
 
     @classmethod
     def from_state(cls, state: RtcState) -> "Rtc":
@@ -230,20 +228,17 @@ class Rtc(Saved):
 
 
 @lru_cache(maxsize=_STATES)
-def serial_state(raw: bytes) -> SerialState:
-    """The state that a struct has. Nothing is left to check: its registers are bytes, and its ring is 64 long."""
-    ring = raw[_RING:] * 2
-    head = raw[_HEAD] % FIFO_SIZE
-    state = object.__new__(SerialState)
-    state.__dict__.update(zip(FIELDS.values(), raw), in_buffer=ring[head:head + min(raw[_LENGTH], FIFO_SIZE)])
-    return state
+def _serial_state(raw: bytes) -> SerialState:
+    """The state that a struct has. A program looks at most states many times."""
+    port = SerialStruct.from_buffer_copy(raw)
+    held = bytes(port.bytes[port.head:]) + bytes(port.bytes[:port.head])
+    return SerialState(**{name: getattr(port, name) for name in SerialState.kinds()}, in_buffer=held[:port.len])
 
 
 @lru_cache(maxsize=_STATES)
-def clock_state(raw: bytes) -> RtcState:
-    """The state that a struct has."""
-    device = RtcStruct.from_buffer_copy(raw)
-    return RtcState(**{name: getattr(device, name) for name in RtcState.kinds()})
+def _clock_state(raw: bytes) -> RtcState:
+    clock = RtcStruct.from_buffer_copy(raw)
+    return RtcState(**{name: getattr(clock, name) for name in RtcState.kinds()})
 
 
 class I8042:

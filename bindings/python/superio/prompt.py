@@ -1,16 +1,18 @@
-"""Commands by their names, and lines of them at a prompt, with editing, completion, Ctrl-C and a history."""
+"""Commands by their names, and lines of them at a prompt, with editing, completion, Ctrl-C and a history. And how a
+file that a command names is written."""
 import atexit
 import cmd
 import glob
 import os
+import shutil
 import sys
+import tempfile
 from contextlib import suppress
 from pathlib import Path
 from typing import IO, Dict, List, NamedTuple, Tuple
 
-from .files import reason_of
 from .registers import CLOCK, SERIAL
-from .script import ScriptError, shown
+from .script import ScriptError, reason_of, shown
 from .words import UsageError
 
 HISTORY_VARIABLE = "SUPERIO_HISTORY"
@@ -41,6 +43,31 @@ def _files(text: str) -> List[str]:
     """The files whose names begin so."""
     found = glob.glob(glob.escape(os.path.expanduser(text)) + "*")
     return sorted(path + "/" if os.path.isdir(path) else path for path in found)
+
+
+def write_text(path: str, text: str) -> None:
+    """Writes a file whole and onto the disk, or leaves what was there. A terminal or a pipe is written itself."""
+    try:
+        if os.path.exists(path) and not os.path.isfile(path):
+            with open(path, "w", encoding="utf-8") as file:
+                file.write(text)
+        else:
+            _replace(os.path.realpath(path), text)
+    except OSError as error:
+        error.filename = path  # which an error of a write lacks
+        raise
+
+
+def _replace(target: str, text: str) -> None:
+    with tempfile.TemporaryDirectory(prefix=".superio-", dir=os.path.dirname(target)) as folder:
+        beside = os.path.join(folder, "new")
+        with open(beside, "w", encoding="utf-8") as file:
+            file.write(text)
+            file.flush()
+            os.fsync(file.fileno())
+        if os.path.exists(target):
+            shutil.copymode(target, beside)
+        os.replace(beside, target)
 
 
 class Prompt(cmd.Cmd):

@@ -12,9 +12,8 @@ from itertools import groupby
 from typing import Callable, Dict, Iterable, Iterator, List, NamedTuple, Optional, Sequence, Tuple
 
 from .board import Board, Call
-from .files import BadLine
 from .registers import FIFO_SIZE
-from .script import ScriptError, parse
+from .script import BadLine, ScriptError, parse
 from .tell import pending
 
 _TEXT = re.compile(r'(polled|sent|received|so|sq) +(".*")(?: {2,}(\S+))?')

@@ -1,10 +1,11 @@
-"""The registers of the serial port and of the clock, by names, offsets and bits, and the states that they make."""
+"""The registers of the serial port and of the clock, by names, offsets and bits, the states that they make, and how
+numbers and bytes for them are checked."""
+import reprlib
 from ctypes import c_int64, c_uint8, c_uint32, c_uint64, sizeof
 from dataclasses import dataclass, field, fields
 from functools import lru_cache
+from operator import index
 from typing import Any, Dict, List, Mapping, NamedTuple, Optional, Tuple, Type, TypeVar
-
-from .arguments import byte_string, number
 
 FIFO_SIZE = 64
 """How many received bytes a serial port holds at most."""
@@ -24,6 +25,45 @@ IDENTIFICATION = bytes.fromhex("31 10 04 00 0d f0 05 b1")
 
 class RegisterError(ValueError):
     """No register has this name, or an access would reach another one."""
+
+
+def _refusal(name: str, value: Any, wanted: str) -> str:
+    """Why an argument is refused. A long value is cut."""
+    try:
+        shown = reprlib.repr(value)
+    except ValueError:  # a number of more digits than Python converts
+        shown = "too large to show"
+    return f"{name} is {shown}, of type {type(value).__name__}: {wanted} is wanted"
+
+
+def number(name: str, value: Any, bits: int, is_signed: bool = False, instead: str = "") -> int:
+    """A number of so many bits. `instead` is what may stand in its place, as the message of the errors adds it."""
+    try:
+        whole = int(index(value))  # a Boolean is its own index
+        if not (whole + (1 << bits - 1) if is_signed else whole) >> bits:
+            return whole
+        kind = ValueError
+    except TypeError:
+        kind = TypeError
+    most = str((1 << bits) - 1) if bits <= 16 else f"2**{bits} - 1"
+    span = f"from -2**{bits - 1} to 2**{bits - 1} - 1" if is_signed else f"from 0 to {most}"
+    raise kind(_refusal(name, value, f"an int {span}{instead}"))
+
+
+def byte_string(name: str, value: Any) -> bytes:
+    """The bytes of an object that has its contents in memory, and not of a number, of which `bytes` makes zeros."""
+    if isinstance(value, bytes):
+        return value
+    try:
+        return bytes(memoryview(value))
+    except TypeError:
+        raise TypeError(_refusal(name, value, "a bytes-like object")) from None
+
+
+def check_kind(name: str, value: Any, kind: type) -> None:
+    """Raises `TypeError` if an argument is no object of this class."""
+    if not isinstance(value, kind):
+        raise TypeError(_refusal(name, value, kind.__name__))
 
 
 class Register(NamedTuple):
@@ -76,6 +116,7 @@ CLOCK: Dict[str, Register] = {register.name: register for register in (
       for index in range(len(IDENTIFICATION))),
 )}
 """The registers of the clock by name, each without the `RTC` that the data sheet begins it with."""
+
 
 def _named(registers: Dict[str, Register], name: str, plain: str) -> Register:
     if plain not in registers:

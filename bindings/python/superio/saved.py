@@ -3,9 +3,8 @@ from ctypes import byref, c_uint8
 from enum import IntEnum
 from typing import Any, Callable, Tuple, Type, TypeVar
 
-from .arguments import byte_string, check_kind
 from .library import load
-from .registers import State
+from .registers import State, byte_string, check_kind
 
 _Device = TypeVar("_Device", bound="Saved")
 
@@ -67,11 +66,6 @@ class Saved:
         device, data = cls(), byte_string("data", data)
         device._load(data)
         return device
-
-    @property
-    def raw(self) -> bytes:
-        """The struct of superio.h, as it is in memory. `serial_state` and `clock_state` tell its state."""
-        return bytes(self._struct)
 
     def _load(self, data: bytes) -> None:
         status = LoadStatus(self._function("load")(self._pointer, data, len(data)))

@@ -1,12 +1,12 @@
 """The lines of a script, as the program `superio` takes them: docs/SCRIPT.md has their forms.
 
-`parse` accepts exactly the lines that the program accepts.
+`parse` accepts exactly the lines that the program accepts. `BadLine` says which line of a file was not carried out.
 """
 import re
 from functools import lru_cache
 from typing import Dict, NamedTuple, Tuple, Union
 
-from .arguments import byte_string
+from .registers import byte_string
 
 _LINES = 4096
 
@@ -22,6 +22,21 @@ def shown(text: str, most: int = 24) -> str:
     data = text.encode("utf-8", "surrogateescape")
     cut = "".join(chr(byte) if 32 <= byte < 127 else f"\\x{byte:02x}" for byte in data[:most])
     return cut + ".." if len(data) > most else cut
+
+
+def reason_of(error: Exception) -> str:
+    """An error as a message says it, with the name of the file if there is one."""
+    if isinstance(error, OSError) and error.strerror:
+        return f"{error.filename}: {error.strerror}" if error.filename else error.strerror
+    return str(error)
+
+
+class BadLine(ValueError):
+    """A line of a file was not carried out. The message says which line, and why."""
+
+    def __init__(self, name: str, number: int, line: bytes, error: Exception) -> None:
+        text = shown(line.decode("utf-8", "surrogateescape"), 60)
+        super().__init__(f'{name}:{number}: "{text}": {reason_of(error)}')
 
 
 class Field(NamedTuple):

@@ -5,10 +5,9 @@ import time
 from typing import IO, Callable, Dict, Iterable, List, Optional, Tuple
 
 from .board import Board, Call
-from .files import BadLine, write_text
-from .prompt import Help, Prompt
-from .registers import CLOCK
-from .script import FORMS, LINES, MASK, Command, ScriptError, form_of, parse, text_of
+from .prompt import Help, Prompt, write_text
+from .registers import CLOCK, SERIAL
+from .script import FORMS, LINES, MASK, BadLine, Command, ScriptError, form_of, parse, text_of
 from .tell import Story, changes, clock_registers, registers, told
 from .words import Speaker, UsageError
 
@@ -22,7 +21,7 @@ Try:  write IER RDA    the guest asks for interrupts
       read RBR         and reads a byte
 help lists all commands, Tab completes, Ctrl-D ends."""
 
-
+_READ, _WRITTEN = (", ".join(name for name, register in SERIAL.items() if letter in register.access) for letter in "rw")
 _CLOCK_NAMES = ", ".join(name for name in CLOCK if not name.startswith("ID"))
 
 _OF_MASK = "Only before every other call. The line refuses call k, from 0, if bit k of the mask is set."
@@ -30,11 +29,10 @@ _OF_MASK = "Only before every other call. The line refuses call k, from 0, if bi
 _GROUPS: Dict[str, Tuple[Help, ...]] = {
     "Serial port": (
         Help("read REGISTER", "the guest reads: read LSR, read 5",
-             "REGISTER is RBR, IER, IIR, LCR, MCR, LSR, MSR, SCR, DLL or DLM, or an offset from 0 to 255.",
-             ("serial",), "sr"),
+             f"REGISTER is {_READ}, or an offset from 0 to 255.", ("serial",), "sr"),
         Help("write REGISTER VALUE", "the guest writes: write IER RDA|THRE",
-             "REGISTER is THR, IER, FCR, LCR, MCR, LSR, MSR, SCR, DLL or DLM, or an offset. VALUE is 65, "
-             "0x41, 'A', or names of bits as RDA|THRE.", ("serial", "bits"), "sw"),
+             f"REGISTER is {_WRITTEN}, or an offset. VALUE is 65, 0x41, 'A', or names of bits as RDA|THRE.",
+             ("serial", "bits"), "sw"),
         Help('type "TEXT"', "bytes arrive for the guest",
              r"""1 to 128 bytes. In quotes \n, \r, \t, \0, \e, \\, \" and \x41 are single bytes.""", (), "type"),
         Help("timeout", "raises RDA again if bytes wait without it",

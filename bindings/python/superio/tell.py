@@ -5,7 +5,6 @@ from typing import Dict, List, Optional, Tuple
 
 from .board import OUTPUT_SIZE, Board, Call, Snapshot
 from .devices import Rtc, Serial
-from .library import SerialStruct
 from .registers import (CLOCK, CLOCK_KEPT, FIELDS, FIFO_BITS, FIFO_SIZE, LOOPBACK, SERIAL, Register, RtcState,
                         SerialState, bit_names, bits_by_name)
 from .script import text_of
@@ -19,7 +18,6 @@ ENABLES = bits_by_name(SERIAL["IER"])
 # The registers in the order in which a call changes them, and the width of each as it is shown.
 _CHANGED = ("IER", "LCR", "MCR", "LSR", "MSR", "SCR", "DLL", "DLM", "IIR")
 _COMPARED = [*((SERIAL[name], 4) for name in _CHANGED), *((CLOCK[name], 10) for name in CLOCK_KEPT)]
-_IIR = SerialStruct.interrupt_identification.offset
 
 _ACKNOWLEDGED_BY = {"RDA": "A read of IIR or of RBR acknowledges it.", "THRE": "A read of IIR acknowledges it."}
 
@@ -220,8 +218,6 @@ class Story:
 
     def note(self, call: Call) -> None:
         """Remembers what a call raised and acknowledged. Calls are noted in their order, from a fresh board on."""
-        if call.before.port[_IIR] == call.after.port[_IIR] and not call.answers:
-            return
         before, after = pending(call.before.serial), pending(call.after.serial)
         answers = list(call.answers)
         for name in CONDITIONS:

@@ -6,8 +6,7 @@ import sys
 from itertools import groupby
 from typing import IO, Callable, Dict, List, Optional, Sequence
 
-from .files import write_text
-from .prompt import Help, Prompt
+from .prompt import Help, Prompt, write_text
 from .recording import Step, picture, replay
 from .registers import CLOCK, SERIAL
 from .script import ScriptError, shown, text_of

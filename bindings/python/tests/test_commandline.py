@@ -1,10 +1,15 @@
-"""`python3 -m superio` with a file, a pipe and wrong arguments: replies, statuses, messages, written files."""
+"""`python3 -m superio` in a terminal, with a file, a pipe and wrong arguments: what it shows, and writes to files."""
+import os
+import pty
 import re
 import resource
 import signal
 import subprocess
 import sys
-import unittest
+import threading
+import time
+from contextlib import suppress
+from unittest import mock
 
 from support import ENVIRONMENT, ROOT, TIMEOUT, FolderTest, ended, run
 
@@ -13,7 +18,6 @@ from superio import Rtc, RtcState, Serial, SerialState
 
 EXAMPLE = ROOT / "examples" / "three_devices.script"
 BOOT = ROOT / "examples" / "linux-boot" / "boot.recording.xz"
-
 NOWHERE = "/nowhere/at/all: No such file or directory\n"
 
 # Arguments and standard input, and the status, the output and the errors.
@@ -21,7 +25,6 @@ RUNS = [
     ([], b"# comment\nkr 04\nread XYZ\nkr 04\n",
      (1, "00\n", '<stdin>:3: "read XYZ": XYZ is no offset, and no register: '
                  "those are RBR THR DLL IER DLM IIR FCR LCR MCR LSR MSR SCR\n")),
-    ([], b"kr 04\nsr\nkr 04\n", (1, "00\n", '<stdin>:2: "sr": the form is: sr OO\n')),
     ([], b"\xff\x1b\n", (1, "", '<stdin>:1: "\\xff\\x1b": no command is called \\xff\\x1b: help lists them\n')),
     ([], b"\n   # indented\n  kr 04  \t\r\nread LSR\r\n\r\nkr 04", (0, "00\nLSR = 0x60  THRE TEMT\n00\n", "")),
     ([], b"# " + b"x" * 200_000 + b"\nkr 04\nkr", (1, "00\n", '<stdin>:3: "kr": the form is: kr OO\n')),
@@ -29,7 +32,6 @@ RUNS = [
     ([], b"kr 04\nquit\nkr 04\n", (0, "00\n", "")),
     ([], b"write SCR 7\nreset\nread SCR\n", (0, "ok\na fresh board\nSCR = 0x00\n", "")),
     ([], b"kr 04\nload /nowhere/at/all\nkr 04\n", (1, "00\n", '<stdin>:2: "load /nowhere/at/all": ' + NOWHERE)),
-    ([], b"regs all\n", (1, "", '<stdin>:1: "regs all": the form is: regs [serial|clock]\n')),
     (["/"], b"", (2, "", "python3 -m superio: /: Is a directory\n")),
     (["/nowhere/at/all"], b"", (2, "", "python3 -m superio: " + NOWHERE)),
     (["view", "/nowhere/at/all"], b"", (2, "", "python3 -m superio: " + NOWHERE)),
@@ -63,7 +65,19 @@ FILES = [
     ({}, "kr 04\nreset\nsr 07\ntrace on\nread SCR\ntrace off\nread SCR\ntrace\ntrace new\n",
      (0, "00\na fresh board\n00\ntrace is on\nsr 07\nSCR = 0x00\ntrace is off\nSCR = 0x00\nsr 07\nsr 07\nsr 07\n"
          "the calls since the last reset are in new\n"), "", {"new": "sr 07\nsr 07\nsr 07\n"}),
-    ({}, "save none/at/all\n", (1, ""), "No such file or directory", {}),
+]
+
+
+SUPERIO = f"{sys.executable} -m superio"
+
+# Commands for bash, and the status, the output and a part of the errors.
+COMMANDS = [
+    (f"yes 'kr 04' | {SUPERIO} | head -n 1; exit ${{PIPESTATUS[1]}}", (128 + signal.SIGPIPE, "00\n", "")),
+    (f"{SUPERIO} view {BOOT} --table | head -n 1; exit ${{PIPESTATUS[0]}}", (128 + signal.SIGPIPE, "piece 1\n", "")),
+    (f"echo 'kr 04' | {SUPERIO} > /dev/full", (2, "", "No space left on device")),
+    (f"echo 'save /dev/stdout' | {SUPERIO} | tail -n 1", (0, "port and clock saved to /dev/stdout\n", "")),
+    (f"SUPERIO_LIBRARY=/nowhere/lib.so {SUPERIO}", (2, "", "python3 -m superio: /nowhere/lib.so cannot be loaded")),
+    *((f"{SUPERIO} {wrong}", (2, "", "usage: ")) for wrong in ("--unknown", "a b", "view", "view --unknown a")),
 ]
 
 
@@ -112,21 +126,6 @@ class Runs(FolderTest):
         self.assertEqual((0o640, True), (self.path.stat().st_mode & 0o777, link.is_symlink()))
         self.assertTrue(self.path.read_text().startswith("sl "))
 
-
-SUPERIO = f"{sys.executable} -m superio"
-
-# Commands for bash, and the status, the output and a part of the errors.
-COMMANDS = [
-    (f"yes 'kr 04' | {SUPERIO} | head -n 1; exit ${{PIPESTATUS[1]}}", (128 + signal.SIGPIPE, "00\n", "")),
-    (f"{SUPERIO} view {BOOT} --table | head -n 1; exit ${{PIPESTATUS[0]}}", (128 + signal.SIGPIPE, "piece 1\n", "")),
-    (f"echo 'kr 04' | {SUPERIO} > /dev/full", (2, "", "No space left on device")),
-    (f"echo 'save /dev/stdout' | {SUPERIO} | tail -n 1", (0, "port and clock saved to /dev/stdout\n", "")),
-    (f"SUPERIO_LIBRARY=/nowhere/lib.so {SUPERIO}", (2, "", "python3 -m superio: /nowhere/lib.so cannot be loaded")),
-    *((f"{SUPERIO} {wrong}", (2, "", "usage: ")) for wrong in ("--unknown", "a b", "view", "view --unknown a")),
-]
-
-
-class Streams(unittest.TestCase):
     def test_commands(self):
         for command, (status, output, said) in COMMANDS:
             with self.subTest(command):
@@ -138,14 +137,133 @@ class Streams(unittest.TestCase):
         # What runs in the background ignores Ctrl-C, and so would the program.
         with subprocess.Popen([sys.executable, "-m", "superio"], env=ENVIRONMENT, **pipes,
                               preexec_fn=lambda: signal.signal(signal.SIGINT, signal.default_int_handler)) as process:
+            timer = threading.Timer(TIMEOUT, process.kill)  # else a reply that does not come is waited for without end
+            timer.start()
             for line, reply in ((b"kr 04\n", b"00\n"), (b"read LSR\n", b"LSR = 0x60  THRE TEMT\n")):
                 process.stdin.write(line)
                 process.stdin.flush()
                 self.assertEqual(reply, process.stdout.readline())
             process.send_signal(signal.SIGINT)
-            self.assertEqual((128 + signal.SIGINT, b""), (process.wait(TIMEOUT), process.stderr.read()))
+            self.assertEqual((128 + signal.SIGINT, b""), (process.wait(), process.stderr.read()))
+            timer.cancel()
 
-    def test_help_names_what_there_is(self):
-        for arguments, words in ((["--help"], "FILE|exit status|view"), (["view", "--help"], "TRACE|--table|--svg")):
-            status, output, _ = run(*arguments)
-            self.assertEqual((0, set(words.split("|"))), (status, set(re.findall(words, output))))
+
+PROMPT = "superio> "
+UP, LEFT, HOME, CTRL_C, CTRL_D = "\x1b[A", "\x1b[D", "\x01", "\x03", "\x04"
+CONTROL = re.compile(r"\x1b\[\??[0-9;]*[a-zA-Z]|\x07")
+
+# What is typed and said, each in a session of its own, and how that ends.
+SESSIONS = [
+    ([("write IER RDA", "ok\n"), ('type "hi"', "2 bytes received; interrupt for RDA\n"),
+      ("read IIR", "IIR = 0xc4  RDA\n"), ("read RBR", 'RBR = 0x68  "h"\n')], CTRL_D),
+    ([("foo", "no command is called foo: help lists them\n"), ("", ""), ("sr 05", "60\n")], "quit\r"),
+    ([("write SCR 7", "ok\n"), ("read SCR", "SCR = 0x07\n"), (UP + UP + "1", "ok\n"),  # write SCR 71
+      ("ead SCR" + HOME + "r", "SCR = 0x47\n"), ("read LR" + LEFT + "S", "LSR = 0x60  THRE TEMT\n")], "exit\r"),
+    ([("rea\tLS\t", "LSR = 0x60  THRE TEMT\n"), ("wri\tie\tRD\t|TH\t", "ok; interrupt for THRE\n"),
+      ("read ier", "IER = 0x03  RDA THRE\n"), ("source ses\t", "00\n")], CTRL_D),
+]
+
+
+class Terminal(FolderTest):
+    """The shell and the viewer in a pseudo-terminal, in the folder. One that goes on for too long is killed."""
+
+    def start(self, *arguments, prompt=PROMPT, **variables):
+        """What the package shows up to its prompt."""
+        self.process, self.end = pty.fork()
+        if self.process == 0:
+            signal.signal(signal.SIGINT, signal.SIG_DFL)  # what runs in the background ignores Ctrl-C
+            os.chdir(self.folder)
+            os.execve(sys.executable, [sys.executable, "-m", "superio", *arguments], {**ENVIRONMENT, **variables})
+        self.timer = threading.Timer(TIMEOUT, os.kill, (self.process, signal.SIGKILL))
+        self.timer.daemon = True
+        self.timer.start()
+        self.raw = b""
+        return self.shown_until(prompt)
+
+    def type(self, text):
+        os.write(self.end, text.encode())
+
+    def shown_until(self, text):
+        """What is shown up to this text, and the text, without colours and cursor movements."""
+        while text not in (shown := CONTROL.sub("", self.raw.decode(errors="replace")).replace("\r\n", "\n")):
+            with suppress(OSError):  # of a program that has ended
+                piece = os.read(self.end, 4096)
+                self.raw += piece
+                continue
+            self.fail(f"{text!r} does not come after {shown[-1000:]!r}")
+        head, found, rest = shown.partition(text)
+        self.raw = rest.encode()
+        return head + found
+
+    def answer(self, text, prompt=PROMPT):
+        """What is shown between a typed line, which the terminal echoes, and the next prompt."""
+        self.type(text + "\r")
+        return self.shown_until(prompt)[:-len(prompt)].partition("\n")[2]
+
+    def leave(self, text=CTRL_D):
+        """Types what ends the program, and waits for its end."""
+        self.type(text)
+        with suppress(OSError):
+            while os.read(self.end, 4096):
+                pass
+        self.assertEqual(0, os.waitpid(self.process, 0)[1])
+        self.timer.cancel()
+        os.close(self.end)
+
+    def kept(self, line, **variables):
+        """What is left in the folder after a session of one line."""
+        self.start(**variables)
+        self.answer(line)
+        self.leave()
+        return {path.name: path.read_text() for path in self.folder.iterdir()}
+
+    def test_sessions(self):
+        (self.folder / "session-one").write_text("kr 04\n")
+        for typed, end in SESSIONS:
+            greeting = self.start()
+            self.assertEqual(typed, [(line, self.answer(line)) for line, _ in typed])
+            self.leave(end)
+        tries = [line[6:].split("  ")[0] for line in greeting.splitlines() if line.startswith(("Try:", "      "))]
+        self.assertEqual([line for line, _ in SESSIONS[0][0]], tries)
+
+    def test_ctrl_c_drops_the_line_or_a_long_file_and_keeps_the_board(self):
+        (self.folder / "long").write_text("write SCR 7\n" + "st\n" * 2_000_000)
+        self.start()
+        for typed, shown in (("write SCR 9", "9"), ("source long\r", "0000000000000000\n")):
+            self.type(typed)
+            self.shown_until(shown)
+            time.sleep(0.5)
+            self.type(CTRL_C)
+            self.assertNotIn("Try:", self.shown_until("^C\n" + PROMPT))
+        self.assertEqual("SCR = 0x07\n", self.answer("read SCR"))
+        self.leave()
+
+    def test_a_python_without_readline(self):
+        (self.folder / "readline.py").write_text("raise ImportError\n")
+        self.start(PYTHONPATH=f"{self.folder}:{ENVIRONMENT['PYTHONPATH']}")
+        self.assertEqual("00\n", self.answer("kr 04"))
+        self.leave()
+
+    def test_stepping_in_the_viewer(self):
+        self.path.write_text("sw 01 02  ok\nsr 02  c2\n2 kr 04  00\n")
+        self.assertIn("4 calls in 1 piece", self.start("view", self.path, prompt="view> "))
+        for line, place in (("", 2), (UP + "next", 3), ("back", 2), ("back thre", 1)):
+            self.assertIn(f"call {place} of 4", self.answer(line, "view> "))
+        self.leave()
+
+    def test_the_history(self):
+        """It is in the home, elsewhere, or nowhere, outlasts the session, and has the last thousand lines."""
+        path, home = str(self.path), str(self.folder)
+        self.assertEqual({}, self.kept("kr 04", HOME=home))
+        self.assertEqual({}, self.kept("kr 04", SUPERIO_HISTORY="/nowhere/at/all"))
+        self.assertEqual({"a file": "write SCR 7\n"}, self.kept("write SCR 7", SUPERIO_HISTORY=path))
+        self.start(SUPERIO_HISTORY=path)
+        self.assertEqual("ok\n", self.answer(UP))
+        self.leave()
+        self.path.write_text("".join(f"read {number}\n" for number in range(1000)))
+        lines = self.kept("kr 04", SUPERIO_HISTORY=path)["a file"].splitlines()
+        self.assertEqual([*(f"read {number}" for number in range(1, 1000)), "kr 04"], lines)
+        self.path.unlink()
+        with mock.patch.dict(ENVIRONMENT):
+            del ENVIRONMENT["SUPERIO_HISTORY"]
+            self.assertEqual({".superio_history": "kr 04\n"}, self.kept("kr 04", HOME=home))

@@ -1,14 +1,15 @@
 """What people type: the commands that it means, what is said of it, and why it means none. And what documents show."""
 import doctest
 import io
+import os
 import re
 import unittest
+from unittest import mock
 
-from support import PACKAGE, ROOT, run
+from support import PACKAGE, ROOT, FolderTest, run
 
 from superio import Command
-from superio.files import reason_of
-from superio.registers import CLOCK, SERIAL
+from superio.script import reason_of
 from superio.session import Session
 from superio.tell import quoted
 from superio.words import characters
@@ -19,27 +20,22 @@ NOW = 0x6553F100
 MEANINGS = {
     "sr 05": ["read LSR", "read lsr", "read 5", "read 05", "sr LSR", "sr 5", "sr 0x05", "  sr 05\t\r"],
     "sr 0a": ["read 0x0a", "read 10"],
-    "sw 07 0a": ["write SCR 10"],
-    "sw 07 10": ["write SCR 0x10"],
+    "sr 10": ["read 16", "sr 10"],
+    "sw 07 0a": ["write SCR 10", "sw SCR a"],
     "sw 07 03": ["write SCR 0b11"],
-    "sw 01 03": ["write IER RDA|THRE"],
-    "sw 01 09": ["write ier rda|0x08"],
-    "sw 04 10": ["write MCR LOOP"],
+    "sw 01 09": ["write ier rda|0x08", "sw IER RDA|MS"],
     "sw 00 41": ["write THR 'A'"],
     "sw 00 20": ["write THR ' '"],
     "sw 00 0a": [r"write THR '\n'"],
-    "sq 68656c6c6f0a": ['type "hello\\n"'],
+    "sq 68656c6c6f0a": ['type "hello\\n"', r'sq "hello\n"'],
     "sq 6120226222": ["type 'a \"b\"'"],
     "sq 74776f20776f726473": ["type two words"],
-    "sq 00ff5c1b": [r'type "\x00\xff\\\e"'],
+    "sq 00ff5c1b090d000a": [r'type "\x00\xff\\\e\t\r\0\n"'],
     "sq c3a9": ['type "é"'],
-    "cr 000000006553f100 0000": ["clock read DR now", "cr now DR"],
-    "cr 000000006553f100 0018": ["clock read rtcmis"],
+    "cr 000000006553f100 0000": ["clock read DR now", "clock read rtcdr", "cr now DR"],
     "cr 000000006553f105 0fe4": ["clock read 0xfe4 +5"],
     "cr 000000006553f0ff 0004": ["clock read MR now-1"],
     "cr 0000000000000000 0004": ["clock read MR now-9999999999"],
-    "cw 0000000000000001 0008 ffffffff": ["clock write LR 0xffffffff 1"],
-    "sq 090d000a": [r'type "\t\r\0\n"'],
     "cw 00000000000003e8 0008 00000064": ["clock write LR 100 1000", "cw 3e8 LR 64"],
     "cw 000000006553f100 0010 00000001": ["clock write IMSC ALARM"],
     "cw 000000006553f100 0004 6553f105": ["alarm +5"],
@@ -47,50 +43,41 @@ MEANINGS = {
     "cw 000000006553f101 0004 00000010": ["alarm 0x10 now+1"],
     "kr 04": ["i8042 read 4", "kr 4"],
     "kw 04 fe": ["i8042 write 4 0xfe"],
-    "si": ["timeout"], "sd": ["drain"], "so": ["output"],
-    "ss": ["restore"],
-    "sr 10": ["sr 10"],
-    "sw 01 01": ["sw IER 1"],
-    "sw 03 80": ["sw LCR DLAB"],
-    "sq 6869": ['sq "hi"'],
+    "si": ["timeout"], "sd": ["drain"], "so": ["output"], "ss": ["restore"],
     "refuse 0000000000000002": ["refuse 2"],
 }
 
 # A part of why a line is none, and such lines, after those before them.
 FAULTS = {
     "no command is called reed: help lists them": ["reed LSR"],
-    "the form is: sr OO": ["sr"],
-    "XYZ is no offset, and no register: those are RBR": ["sr XYZ"],
+    "no command is called foo": ["help foo"],
+    "the form is: sr OO": ["sr", "sr 5 5"],
+    "the form is: sq HH..": ["sq 4"],
     "the form is: read REGISTER": ["read", "read LSR now"],
+    'the form is: type "TEXT"': ["type"],
+    "the form is: clock read|write REGISTER [VALUE] [MOMENT]": ["clock", "clock read", "clock set DR 1"],
+    "the form is: i8042 read|write OFFSET [VALUE]": ["i8042 read"],
+    "the form is: alarm +SECONDS": ["alarm", "alarm +1 now 2"],
+    "the form is: drain": ["drain 5"],
+    "the form is: regs [serial|clock]": ["regs all"],
+    "the form is: save FILE": ["save", "save a b", 'save "a'],
+    "XYZ is no offset, and no register: those are RBR": ["read XYZ", "sr XYZ"],
     "256 is no offset": ["read 256"],
     "-1 is no offset": ["read -1"],
-    "the form is: write REGISTER VALUE": ["write IER"],
     "FOO is no value, and IER has the bits RDA THRE RLS MS": ["write IER FOO"],
     "'AB' is not one byte": ["write THR 'AB'"],
     "256 is no value": ["write THR 256"],
-    'the form is: type "TEXT"': ["type"],
     'the text has no closing "': ['type "a', 'type "a" b', r'type "\"'],
     "no escape is called \\q": [r'type "\q"'],
     "1 to 128 bytes": ["type " + "x" * 129, 'type ""'],
-    "the form is: sq HH..": ["sq 4"],
-    "the form is: clock read|write REGISTER [VALUE] [MOMENT]": ["clock", "clock read", "clock set DR 1"],
     "noon is no moment": ["clock read DR noon"],
-    "is no number of seconds: it has 64 bits": [f"clock read DR now+{1 << 64}"],
+    "is no number of seconds": [f"clock read DR now+{1 << 64}", "clock read DR now+" + "9" * 5000],
     "is no moment: it has 64 bits": [f"clock read DR now+{(1 << 64) - NOW}"],
-    "is no number of seconds": ["clock read DR now+" + "9" * 5000],
     "guest time has 32 bits": ["alarm +4294967295", f"alarm +{(1 << 32) - NOW}"],
-    "the form is: i8042 read|write OFFSET [VALUE]": ["i8042 read"],
-    "the form is: drain": ["drain 5"],
-    "the form is: si": ["si 5"],
-    "the form is: why": ["why not"],
-    "the form is: regs": ["regs i8042"],
-    "the form is: save FILE": ["save", "save a b"],
-    "the form is: load FILE": ['load "a'],
-    "/nowhere/at/all: No such file or directory": ["load /nowhere/at/all"],
     "/: Is a directory": ["source /"],
+    "/nowhere/at/all: No such file or directory": ["save /nowhere/at/all"],
     "Input/output error": ["load /proc/self/mem"],
     "No space left on device": ["save /dev/full"],
-    "no command is called foo": ["help foo"],
     "no call was made yet": ["diff", "type hi\nreset\ndiff"],
     "RBR is out of reach while DLAB is set": ["write LCR 0x83\nwrite DLL 1\nread RBR"],
     "a mask comes before every other line; reset begins anew": ["# comment\nregs\nrefuse 1\nrefuse 2"],
@@ -98,40 +85,32 @@ FAULTS = {
 
 # Lines, and what is said of them, from a fresh board.
 DIALOGUES = [
-    (["write IER RDA", 'type "hi"', "read IIR", "read RBR", "read RBR", "read RBR"],
-     ["ok", "2 bytes received; interrupt for RDA", "IIR = 0xc4  RDA", 'RBR = 0x68  "h"', 'RBR = 0x69  "i"',
-      "RBR = 0x00  no byte was held"]),
-    (['type "hi"', "write IER RDA|THRE", "write IER RDA|THRE"],
-     ["2 bytes received; no interrupt: IER does not enable RDA", "ok; interrupt for RDA, THRE", "ok"]),
+    (['type "hi"', "write IER RDA|THRE", "write IER RDA|THRE", "read IIR", "sr LSR", "drain", "read RBR", "sd"],
+     ["2 bytes received; no interrupt: IER does not enable RDA", "ok; interrupt for RDA, THRE", "ok",
+      "IIR = 0xc6  RDA THRE", "61", '"hi"', "RBR = 0x00  no byte was held", ""]),
     (["refuse 1", "write IER RDA", "type a", "restore"],
      ["ok", "1 byte received; interrupt for RDA refused", "restored; interrupt for RDA"]),
-    (["timeout", "type a", "timeout", "write IER RDA", "timeout", "read IIR", "timeout", "type b", "read RBR",
-      "timeout", "st"],
+    (["timeout", "type a", "timeout", "write IER RDA", "timeout", "read IIR", "timeout", "type b", "read RBR", "st"],
      ["no interrupt: no byte is held", "1 byte received; no interrupt: IER does not enable RDA",
       "1 byte held; no interrupt: IER does not enable RDA", "ok; interrupt for RDA",
       "1 byte held; no interrupt: RDA is pending already", "IIR = 0xc4  RDA", "1 byte held; interrupt for RDA",
-      "1 byte received; no interrupt: RDA is pending already", 'RBR = 0x61  "a"', "1 byte held; interrupt for RDA",
-      "0000000000000003"]),
-    (["refuse 2", "write IER RDA|THRE", "type a", "read IIR", "write THR 'A'", "timeout", "read IIR"],
-     ["ok; interrupt for THRE", "1 byte received; interrupt for RDA refused", "IIR = 0xc6  RDA THRE",
-      'sent "A"; interrupt for THRE', "1 byte held; interrupt for RDA", "IIR = 0xc6  RDA THRE"]),
+      "1 byte received; no interrupt: RDA is pending already", 'RBR = 0x61  "a"', "0000000000000002"]),
+    (["refuse 2", "write IER RDA|THRE", "type a", "write THR 'A'", "write FCR 7", "write 9 1", "output"],
+     ["ok; interrupt for THRE", "1 byte received; interrupt for RDA refused", 'sent "A"', "ignored", "ignored", '"A"']),
     (["type " + "x" * 60, "type 12345", "type 6", "write MCR LOOP", "type 7", "sc"],
      ["60 bytes received; no interrupt: IER does not enable RDA", "4 of 5 bytes received: the FIFO is full",
       "0 of 1 byte received: the FIFO is full", "ok", "0 of 1 byte received: the port is in loopback", "00"]),
-    (["write THR 'A'", "write FCR 7", "write 9 1", "output"], ['sent "A"', "ignored", "ignored", '"A"']),
     (["clock read DR", "clock write DR 1", "clock read ICR", "clock write LR 100", "clock write MR 99",
       "clock write MR 100", "clock read RIS"],
      ["DR = 0x6553f100  2023-11-14 22:13:20 UTC", "invalid: nothing can be written at 0x0000, DR",
       "invalid: nothing can be read at 0x001c, ICR", "ok", "ok: that time is past",
       "ok: guest time is there, so the alarm is up", "RIS = 0x00000001  ALARM"]),
     (["i8042 read 4", "i8042 write 4 0xfe", "i8042 write 4 0xff"], ["0x00", "reset", "ok"]),
-    (["sr LSR", "sq 6869", "sd"], ["60", "02", "6869"]),
 ]
 
 NEITHER = "is not pending: no call has raised it. IER does not enable it"
-NEXT_THRE = "The next byte that goes out raises it, or a write to IER."
+NO_RDA, NO_THRE = f"RDA {NEITHER}.", f"THRE {NEITHER}."
 ENDS_RDA, ENDS_THRE = "A read of IIR or of RBR acknowledges it.", "A read of IIR acknowledges it."
-NO_THRE = f"THRE {NEITHER}."
 
 
 def raised(name, call, then, answer="took"):
@@ -143,7 +122,6 @@ ASKED = [
     (["sq 61", "why"], [f"RDA {NEITHER}, and 1 byte is held.", NO_THRE]),
     (["sw 01 01", "sq 6162", "sr 02", "why"], ["RDA is not pending: call 3, sr 02, acknowledged it. 2 bytes are held: "
                                               "a timeout, the next byte or a write to IER raises it.", NO_THRE]),
-    (["sw 01 01", "sq 6162", "sr 02", "si", "why"], [raised("RDA", "4, si", ENDS_RDA), NO_THRE]),
     (["sw 01 01", "sq 61", "sd", "why"], ["RDA is not pending: call 3, sd, acknowledged it. The next byte raises it.",
                                          NO_THRE]),
     (["refuse 1", "sw 01 01", "sq 61", "sw 01 00", "why"],
@@ -151,11 +129,11 @@ ASKED = [
     (["refuse 1", "sw 01 01", "sq 61", "ss", "why"], [raised("RDA", "4, ss", ENDS_RDA), NO_THRE]),
     (["refuse 2", "sq 61", "sw 01 03", "why"],
      [raised("RDA", "3, sw 01 03", ENDS_RDA), raised("THRE", "3, sw 01 03", ENDS_THRE, "refused")]),
-    (["sw 01 01", "sq " + "61" * 20, "why"], [raised("RDA", "2, sq 6161616161616161616..", ENDS_RDA), NO_THRE]),
-    (["sw 01 02", "why"], [f"RDA {NEITHER}.", raised("THRE", "1, sw 01 02", ENDS_THRE)]),
-    (["sw 01 02", "sr 02", "why"], [f"RDA {NEITHER}.", "THRE is not pending: call 2, sr 02, acknowledged it. "
-                                    + NEXT_THRE]),
-    (["type hi", "write IER RDA|THRE", "read IIR", "reset", "why"], [f"RDA {NEITHER}.", NO_THRE]),
+    (["sw 01 02", "sr 02", "why"], [NO_RDA, "THRE is not pending: call 2, sr 02, acknowledged it. "
+                                    "The next byte that goes out raises it, or a write to IER."]),
+    (["sw 01 03", "reset", "why"], [NO_RDA, NO_THRE]),
+    (["cw 0000000000000064 0004 00000069", "diff"],
+     ["cw 0000000000000064 0004 00000069", "  MR 0x00000000 -> 0x00000069", "  alarm set"]),
     (["cw 0000000000000064 0004 00000069", "cr 0000000000000069 0014", "diff"],
      ["cr 0000000000000069 0014", "  RIS 0x00000000 -> 0x00000001  ALARM", "  alarm over"]),
     (["cw 0000000000000069 0008 00000064", "diff"],
@@ -164,68 +142,60 @@ ASKED = [
     (["sq 68", "diff"], ["sq 68", "  LSR 0x60 -> 0x61  DR THRE TEMT", "  FIFO 0 -> 1 byte"]),
     (["sw 00 41", "diff"], ["sw 00 41", "  output 0 -> 1 byte"]),
     (["si", "diff"], ["si", "  nothing changed"]),
-    (["cw 0000000000000064 0004 00000069", "diff"],
-     ["cw 0000000000000064 0004 00000069", "  MR 0x00000000 -> 0x00000069", "  alarm set"]),
-    (["refuse 1", "sq 61", "sw 01 03", "diff"],
-     ["sw 01 03", "  IER 0x00 -> 0x03  RDA THRE", "  IIR 0xc1 -> 0xc4  RDA", "  interrupt refused"]),
-    (["write IER RDA|THRE", 'type "hi"', "regs serial"],
-     ["serial port", "  IER  0x03  RDA THRE", "  IIR  0xc6  RDA THRE", "  LCR  0x03  8N1", "  MCR  0x08  OUT2",
+    (["sw 00 41"] * 256 + ["write THR 'B'"], ['"B" lost: the output is full, with 256 bytes']),
+    (["write IER RDA|THRE", "write LCR 0x1a", 'type "hi"', "regs serial"],
+     ["serial port", "  IER  0x03  RDA THRE", "  IIR  0xc6  RDA THRE", "  LCR  0x1a  7E1", "  MCR  0x08  OUT2",
       "  LSR  0x61  DR THRE TEMT", "  MSR  0xb0  CTS DSR DCD", "  SCR  0x00", "  divisor 12, FIFO 2 of 64", '  "hi"',
       "  pending: RDA, THRE", "  line called 2 times, 0 bytes out"]),
-    (["sw 03 80", "sw 00 34", "sw 01 12", "sw 03 1a", "sw 04 10", "sw 07 5a", "sw 04 03", "sw 00 41", "regs serial"],
-     ["serial port", "  IER  0x00", "  IIR  0xc1  none", "  LCR  0x1a  7E1", "  MCR  0x03  DTR RTS",
-      "  LSR  0x60  THRE TEMT", "  MSR  0xb0  CTS DSR DCD", "  SCR  0x5a", "  divisor 4660, FIFO 0 of 64",
-      "  pending: nothing", "  line called 0 times, 1 byte out"]),
-    *(([*lines, "regs clock"],
-       ["clock, in UTC", "  DR   0x00000064  1970-01-01 00:01:40", *(f"  {row}" for row in rows)]) for lines, rows in (
+    *(([*lines, "regs clock"], ["clock, in UTC", "  DR   0x00000064  1970-01-01 00:01:40",
+                                *(f"  {row}" for row in rows)]) for lines, rows in (
           (["clock write LR 100", "clock write IMSC 1", "alarm +5"],
            ["MR   0x00000069", "LR   0x00000064", "IMSC 0x00000001  ALARM", "RIS  0x00000000", "alarm due in 5 s",
             "interrupt line down"]),
           (["clock write LR 100", "clock write IMSC 1", "alarm +5", "clock read MIS +5"],
            ["MR   0x00000069", "LR   0x00000064", "IMSC 0x00000001  ALARM", "RIS  0x00000001  ALARM", "no alarm is set",
-            "interrupt line up"]),
-          (["clock write LR 100", "clock write MR 95 now-10"],
-           ["MR   0x0000005f", "LR   0x00000064", "IMSC 0x00000000", "RIS  0x00000000", "alarm due now",
-            "interrupt line down"]))),
+            "interrupt line up"]))),
+]
+
+# What a completion follows, its beginning, and what it can be.
+COMPLETIONS = [
+    ("", "re", ["read ", "refuse ", "regs ", "reset ", "restore "]),
+    ("read ", "l", ["LCR ", "LSR "]),
+    ("write IER ", "rd", ["RDA"]),
+    ("write IER ", "RDA|t", ["RDA|THRE"]),
+    ("clock ", "r", ["read"]),
+    ("cr now ", "i", ["IMSC ", "ICR ", *(f"ID{index} " for index in range(8))]),
+    ("help ", "wh", ["why"]),
+    ("trace ", "o", ["on", "off"]),
+    ("kr ", "", []),
+    ("read LSR ", "", []),
 ]
 
 
-class SessionTest(unittest.TestCase):
-    def setUp(self):
-        self.begin()
-
-    def begin(self, **options):
+class Words(FolderTest):
+    def afresh(self, *lines):
+        """What is said to lines in a new session, line by line."""
         self.out = io.StringIO()
-        self.session = Session(self.out, **{"host_time": lambda: NOW + 0.75, **options})
+        self.session = Session(self.out, host_time=lambda: NOW + 0.75)
+        return self.said(*lines)
 
     def said(self, *lines):
-        """What is said of lines, as lines."""
         for line in lines:
+            start = self.out.tell()
             self.session.carry_out(line.encode())
-        said = self.out.getvalue().splitlines()
-        self.out.seek(0)
-        self.out.truncate()
-        return said
+        return self.out.getvalue()[start if lines else 0:].splitlines()
 
-    def afresh(self, lines, *asked):
-        """What is said to the last lines, in a new session, after the first ones."""
-        self.begin()
-        self.said(*lines)
-        return self.said(*asked)
-
-
-class Words(SessionTest):
     def test_meanings(self):
         for meaning, lines in MEANINGS.items():
             for line in lines:
                 with self.subTest(line):
-                    self.assertEqual([meaning], self.afresh([line], "trace"))
+                    self.assertEqual([meaning], self.afresh(line, "trace"))
 
     def test_faults(self):
         for reason, lines in FAULTS.items():
             for line in lines:
                 *before, last = line.split("\n")
-                self.afresh(before)
+                self.afresh(*before)
                 calls = self.session.commands[:]
                 with self.subTest(line), self.assertRaises(Exception) as caught:
                     self.said(last)
@@ -234,44 +204,50 @@ class Words(SessionTest):
 
     def test_dialogues(self):
         for lines, replies in DIALOGUES:
-            with self.subTest(lines):
-                self.assertEqual(replies, self.afresh([], *lines))
+            self.afresh(*lines)
+            self.assertEqual(replies, self.out.getvalue().splitlines(), lines)
 
     def test_what_is_asked(self):
-        for (*lines, asked), rows in ASKED:
+        for lines, rows in ASKED:
             # A register of the clock that no line changed need not be in the rows.
-            said = [row for row in self.afresh(lines, asked)
-                    if row in rows or not re.fullmatch("  [A-Z]+ +0x0{8}", row)]
+            said = [row for row in self.afresh(*lines) if row in rows or not re.fullmatch("  [A-Z]+ +0x0{8}", row)]
             self.assertEqual(rows, said, lines)
         self.assertEqual(self.said("regs serial") + self.said("regs clock"), self.said("regs"))
 
     def test_a_load(self):
         """It asks for what is pending, each time anew. If that is refused, the port stays."""
-        self.said("sw 01 01", "sq 61")
+        self.afresh("sw 01 01", "sq 61")
         saved = self.session.board.serial.to_bytes()
         for lines, times, expected in ((["sr 07"], 2, raised("RDA", f"3, sl {saved.hex()}"[:25] + "..", ENDS_RDA)),
-                                       (["refuse 1", "sw 07 5a"], 1, f"RDA {NEITHER}.")):
-            self.afresh(lines)
+                                       (["refuse 1", "sw 07 5a"], 1, NO_RDA)):
+            self.afresh(*lines)
             for _ in range(times):
                 self.session.run(Command("sl", (saved,)), is_short=True)
             self.assertEqual(expected, self.said("why")[-2])
-        self.assertEqual(["5a", "0000000000000000"], self.said("sr 07", "st"))
+        self.assertEqual([["5a"], ["0000000000000000"]], [self.said("sr 07"), self.said("st")])
 
     def test_what_is_quoted_can_be_typed(self):
         for data in (bytes([one, other]) for one in range(256) for other in b"a0\\\"\xff"):
             self.assertEqual(data, characters(quoted(data)))
 
-    def test_help(self):
-        """It names every command, and the registers that a command reaches."""
-        listed = "\n".join(self.said("help"))
-        for name in "read write type timeout si regs why save source sr cw refuse quit".split():
-            self.assertIn(f"  {name}", listed)
-            self.assertTrue(self.said(f"help {name}"))
-        for command, letter in (("read", "r"), ("write", "w")):
-            named = re.findall(r"\b[A-Z]{3}\b", self.session.help[command].more.partition(", or an offset")[0])
-            self.assertEqual(sorted(name for name, one in SERIAL.items() if letter in one.access), sorted(named))
-        named = self.session.help["clock"].more.partition(", ID0")[0].partition("REGISTER is ")[2].split(", ")
-        self.assertEqual([name for name in CLOCK if not name.startswith("ID")], named)
+    def test_help_names_each_command(self):
+        listed = "\n".join(self.afresh("help"))
+        for name in self.session.help.keys() - {"exit"}:
+            self.assertIn(f"\n  {name}", listed)
+            self.assertIn(name, self.said(f"help {name}")[0])
+        self.assertIn("REGISTER is RBR, DLL, IER, ", self.said("help read")[2])
+
+    def test_completions(self):
+        for before, text, expected in COMPLETIONS:
+            self.assertEqual(expected, Session(None).completions(before, text), before + text)
+        for name in ("b", "a[1]", "a1"):
+            (self.folder / name).touch()
+        (self.folder / "c").mkdir()
+        with mock.patch.dict(os.environ, {"HOME": str(self.folder)}):
+            for text, names in (("", ["a1", "a[1]", "b", "c/"]), ("a[", ["a[1]"]), ("?", [])):
+                for start in (self.folder, "~"):
+                    self.assertEqual([f"{self.folder}/{name}" for name in names],
+                                     Session(None).completions("save ", f"{start}/{text}"))
 
 
 class Documents(unittest.TestCase):
