@@ -1,11 +1,15 @@
 /**
- * What the package does by itself: layouts, copies, refused arguments, names. tools/js/check makes recorded calls with
- * it too, over the board of the page.
+ * What the package does by itself: layouts, copies, refused arguments, names, and what superio.d.ts and package.json say
+ * of it. tools/js/check makes recorded calls with it too, over the board of the page.
  */
 import assert from "node:assert/strict";
+import { readFileSync, readdirSync } from "node:fs";
 import test from "node:test";
+import text, { ABI as own, LOAD_STATUSES } from "../module.mjs";
 import * as registers from "../registers.mjs";
-import { I8042, RegisterError, Rtc, SavedStateError, Serial } from "../superio.mjs";
+import * as superio from "../superio.mjs";
+
+const { I8042, Rtc, SavedStateError, Serial } = superio;
 
 /** The same bytes in the middle of a buffer, so that what is passed is seldom a whole one. */
 function within(array) {
@@ -52,18 +56,11 @@ test("each field of a state has its place", () => {
 
 test("a clock's alarm", () => {
   const clock = new Rtc();
-  assert.deepEqual(clock.write("MR", 1005, 1000), { invalidWrite: false });
+  clock.write("MR", 1005, 1000);
   clock.write("RTCIMSC", 1, 1000n);
-  assert.equal(clock.due(1000), 5);
-  assert.equal(clock.line(), false);
-  assert.deepEqual(clock.read("MIS", 1005), { value: 1, invalidRead: false });
-  assert.equal(clock.line(), true);
-  assert.equal(clock.due(1005), null);
-  assert.deepEqual(clock.read("ICR", 1006), { value: 0, invalidRead: true });
-  assert.deepEqual(clock.write("DR", 0, 1006), { invalidWrite: true });
-  assert.equal(clock.read("DR", 2n ** 64n - 1n).value, 0xffffffff);
-  assert.equal(clock.write("LR", 0xffffffff, 0).invalidWrite, false);
-  assert.equal(clock.state.lr, 0xffffffff);
+  assert.deepEqual([clock.due(1000), clock.line()], [5, false]);
+  clock.read("MIS", 1005);
+  assert.deepEqual([clock.due(1005), clock.line()], [null, true]);
 });
 
 test("devices share nothing", () => {
@@ -167,7 +164,6 @@ test("each number is taken at its edges, and refused beyond them by its name, it
     if (isBig) refused(() => call(2 ** 60), "RangeError", `${wanted}, above 2 ** 53 as a BigInt`);
     else refused(() => call(65n), "TypeError", `${name} is 65n, and ${wanted}`);
     for (const other of OF_OTHER_KINDS) refused(() => call(other), "TypeError", `, and ${wanted}`);
-    refused(() => call(), "TypeError", `${name} is undefined`);
     refused(() => call(true), "TypeError", `${name} is true`);
   }
   refused(() => new Serial().write(7, "A"), "TypeError", 'value is "A"');
@@ -221,16 +217,89 @@ test("a name in any case is the register that is there", () => {
 });
 
 test("a register's name reaches that register, or nothing", () => {
-  const port = new Serial();
-  refused(() => port.read("THR"), "RegisterError", "THR can only be written: a read at its offset reaches RBR");
-  refused(() => port.write("iir", 0), "RegisterError", "IIR can only be read: a write at its offset reaches FCR");
-  refused(() => port.read("DLL"), "RegisterError", "DLL is out of reach while DLAB is clear");
-  for (const name of ["toString", "", "RBR ", "RTCSCR", "SC"]) {
-    refused(() => port.read(name), "RegisterError", "no register has this name");
+  const [port, latched, clock] = [new Serial(), new Serial(), new Rtc()];
+  latched.write("LCR", 0x83);
+  for (const [call, text] of [
+    [() => port.read("THR"), "THR can only be written: a read at its offset reaches RBR"],
+    [() => port.write("iir", 0), "IIR can only be read: a write at its offset reaches FCR"],
+    [() => port.read("DLL"), "DLL is out of reach while DLAB is clear"],
+    [() => latched.read("RBR"), "RBR is out of reach while DLAB is set"],
+    ...["toString", "", "RBR ", "RTCSCR", "SC"].map((name) => [() => port.read(name), "no register has this name"]),
+    [() => clock.read("constructor", 0), "no register has this name"],
+  ]) refused(call, "RegisterError", text);
+});
+
+// What superio.d.ts and package.json say.
+
+const read = (name) => readFileSync(new URL(`../${name}`, import.meta.url), "utf8");
+const { exports, files } = JSON.parse(read("package.json"));
+const declarations = read(exports.types).replace(/^ *\/\*\*[^]*?\*\/\n/gm, "");
+
+/** The declared members of a class, each as its kind, its name and its parameters' names. */
+const declared = (body) => Array.from(body.matchAll(/^  (static |readonly )?(\w+)(?:\((.*)\))?(?:: .*)?;$/gm),
+  ([, kind = "", name, parameters = ""]) =>
+    `${kind}${name} ${Array.from(parameters.matchAll(/(\w+):/g), ([, word]) => word)}`);
+
+/** The members that a class has, in the same form. */
+function membersOf(made) {
+  const parametersOf = (call) => /\((.*?)\)/.exec(call.toString())[1].replaceAll(" ", "");
+  const ofDevices = Object.entries(Object.getOwnPropertyDescriptors(made.prototype)).map(([name, { get, value }]) =>
+    name === "constructor" ? "constructor " : get ? `readonly ${name} ` : `${name} ${parametersOf(value)}`);
+  const ofClass = Object.getOwnPropertyNames(made).filter((name) => typeof made[name] === "function")
+    .map((name) => `static ${name} ${parametersOf(made[name])}`);
+  return [...ofDevices, ...ofClass];
+}
+
+/** What is declared of a plain object: the names of its fields, and their types. */
+const fieldsOf = (name) => Object.fromEntries(
+  Array.from(new RegExp(`interface ${name} \\{(.*?)\\n\\}`, "s").exec(declarations)[1].matchAll(/(\w+): (\w+);/g),
+    ([, field, type]) => [field, type]));
+const typeOf = (value) => value instanceof Uint8Array ? "Uint8Array" : typeof value;
+
+const CLASS = /export class (\w+)(?: extends (\w+))? \{(?:\}|(.*?)\n\})/gs;
+const classes = Array.from(declarations.matchAll(CLASS));
+test("superio.d.ts declares the classes that there are", () => {
+  assert.deepEqual(classes.map(([, name]) => name).sort(), Object.keys(superio).sort());
+});
+for (const [, name, base = "", body = ""] of classes) {
+  test(`superio.d.ts declares what ${name} has`, () => {
+    assert.equal(Object.getPrototypeOf(superio[name]).name, base);
+    const members = [...new Set([...declared(body), "constructor "])].filter((one) => one !== "readonly status ");
+    assert.deepEqual(members.sort(), membersOf(superio[name]).sort());
+  });
+}
+
+test("superio.d.ts declares the fields of what calls give", () => {
+  const [port, clock] = [new superio.Serial(), new superio.Rtc()];
+  const given = { ReadEffects: port.read(0), WriteEffects: port.write(7, 0), SerialState: port.state,
+    EnqueueEffects: port.enqueue(port.toBytes()), RtcState: clock.state };
+  for (const [name, value] of Object.entries(given)) {
+    assert.deepEqual(Object.fromEntries(Object.entries(value).map(([field, one]) => [field, typeOf(one)])),
+      fieldsOf(name));
   }
-  refused(() => new Rtc().read("constructor", 0), "RegisterError", "no register has this name");
-  port.write("LCR", 0x83);
-  assert.equal(port.read("DLL").byte, 0x0c);
-  refused(() => port.read("RBR"), "RegisterError", "RBR is out of reach while DLAB is set");
-  assert.equal(new RegisterError("x") instanceof RangeError, true);
+});
+
+test("superio.d.ts declares each status of a load", () => {
+  const [union] = /readonly status: [^;]*/.exec(declarations);
+  assert.deepEqual(["ok", ...Array.from(union.matchAll(/"(.*?)"/g), ([, status]) => status)], LOAD_STATUSES);
+});
+
+test("package.json names the files that the package has, and those that a release puts beside them", () => {
+  const isOwn = (name) => !["package.json", "page", "tests"].includes(name);
+  const there = readdirSync(new URL("..", import.meta.url)).filter(isOwn);
+  assert.deepEqual(new Set(files), new Set([...there, "LICENSE", "LICENSES"]));
+  assert.deepEqual(Object.values(exports).filter((name) => !files.includes(name.slice(2))), []);
+});
+
+test("the module needs nothing", () => {
+  const module = new WebAssembly.Module(Buffer.from(text, "base64"));
+  assert.deepEqual(WebAssembly.Module.imports(module), []);
+});
+
+test("a module of another binary interface is refused", async () => {
+  const here = (_, name) => `"${new URL(`..${name}`, import.meta.url)}"`;
+  const source = read("superio.mjs").replace(/"\.(\/\w+\.mjs)"/g, here);
+  const changed = Buffer.from(`const ABI = ${own + 1};${source.replace("{ ABI, ", "{ ")}`).toString("base64");
+  const message = `the module has the binary interface ${own}, and this package is for ${own + 1}`;
+  await assert.rejects(import(`data:text/javascript;base64,${changed}`), { message });
 });
