@@ -37,9 +37,9 @@ const isPending = (board, bit) => (board.serial.state.interruptIdentification & 
 /** What the interrupt line answered, as the end of a sentence. */
 function asked({ before, after }) {
   if (!after.answers.length) return "";
-  const raised = CONDITIONS.filter(([, bit]) => isPending(after, bit) && !isPending(before, bit)).map(([name]) => name);
-  const pending = CONDITIONS.filter(([, bit]) => isPending(after, bit)).map(([name]) => name);
-  const names = raised.length ? raised : pending;
+  const pending = CONDITIONS.filter(([, bit]) => isPending(after, bit));
+  const raised = pending.filter(([, bit]) => !isPending(before, bit));
+  const names = (raised.length ? raised : pending).map(([name]) => name);
   const answers = after.answers.map((isTaken, place) => `${names[place] ?? "it"}${isTaken ? "" : " refused"}`);
   return `; interrupt for ${answers.join(", ")}`;
 }
