@@ -9,18 +9,16 @@ export class RegisterError extends RangeError {
   name = "RegisterError";
 }
 
-const frozen = (one) => Object.freeze({ ...one, bits: Object.freeze(one.bits) });
-const [serial, clock] = [SERIAL_ROWS, CLOCK_ROWS].map((rows) => rows.map(frozen));
-const byName = (registers) => Object.freeze(Object.fromEntries(registers.map((one) => [one.name, one])));
+const byName = (registers) => Object.fromEntries(registers.map((one) => [one.name, one]));
 
 /**
  * The registers of the serial port by name. `latched` says whether a register is reached while DLAB is set (true),
  * while it is clear (false), or always (null); `access` has r if a read reaches it, and w if a write does.
  */
-export const SERIAL = byName(serial);
+export const SERIAL = byName(SERIAL_ROWS);
 
 /** The registers of the clock by name, each without the `RTC` that the data sheet begins it with. */
-export const CLOCK = byName(clock);
+export const CLOCK = byName(CLOCK_ROWS);
 
 function named(registers, name) {
   if (!Object.hasOwn(registers, name)) {
@@ -32,16 +30,17 @@ function named(registers, name) {
 
 const isReached = (one, isWrite) => one.access.includes(isWrite ? "w" : "r");
 
+/** Whether a register of the serial port is at its offset while LCR has this value. */
+export const isThere = ({ latched }, lineControl) => [null, (lineControl & DLAB) !== 0].includes(latched);
+
 /** The register that an access of the serial port reaches, or undefined if there is none at the offset. */
 export function serialRegister(offset, lineControl, isWrite) {
-  const isLatched = (lineControl & DLAB) !== 0;
-  const isThere = (one) => one.offset === offset && [null, isLatched].includes(one.latched);
-  return serial.find((one) => isThere(one) && isReached(one, isWrite));
+  return SERIAL_ROWS.find((one) => one.offset === offset && isThere(one, lineControl) && isReached(one, isWrite));
 }
 
 /** The register at an offset of the clock, or undefined if there is none. An identification is at four offsets. */
 export function clockRegister(offset) {
-  return clock.find((one) => one.offset === (offset >= 0xfe0 ? offset & ~3 : offset));
+  return CLOCK_ROWS.find((one) => one.offset === (offset >= 0xfe0 ? offset & ~3 : offset));
 }
 
 /**
@@ -50,7 +49,7 @@ export function clockRegister(offset) {
  */
 export function serialOffset(name, lineControl, isWrite) {
   const wanted = named(SERIAL, name.toUpperCase());
-  if (![null, (lineControl & DLAB) !== 0].includes(wanted.latched)) {
+  if (!isThere(wanted, lineControl)) {
     const [state, change] = wanted.latched ? ["clear", "set"] : ["set", "clear"];
     throw new RegisterError(`${wanted.name} is out of reach while DLAB is ${state}: ${change} bit 0x80 of LCR first`);
   }

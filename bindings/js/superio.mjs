@@ -50,14 +50,12 @@ function refuse(Kind, name, value, wanted) {
 /** The number, if it is whole and in range. If the range is of big integers, it may be one, and is made one. */
 function whole(name, value, least, most) {
   const wanted = `a whole number from ${least} to ${most} is wanted`;
-  const isBig = typeof least === "bigint";
-  const isNumber = typeof value === "number";
-  if (!isNumber && !(isBig && typeof value === "bigint")) refuse(TypeError, name, value, wanted);
+  const [isBig, isNumber] = [typeof least === "bigint", typeof value === "number"];
+  if (!isNumber && typeof value !== typeof least) refuse(TypeError, name, value, wanted);
   if (isBig && isNumber && !Number.isSafeInteger(value)) {
     refuse(RangeError, name, value, `${wanted}, above 2 ** 53 as a BigInt`);
   }
-  const isWhole = !isNumber || Number.isInteger(value);
-  if (!isWhole || value < least || value > most) refuse(RangeError, name, value, wanted);
+  if ((isNumber && !Number.isInteger(value)) || value < least || value > most) refuse(RangeError, name, value, wanted);
   return isBig ? BigInt(value) : value;
 }
 

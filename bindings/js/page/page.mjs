@@ -1,9 +1,9 @@
 /** The page: what it shows of a board, and which call each control makes. */
-import { CLOCK, DLAB, SERIAL, serialRegister } from "../registers.mjs";
+import { CLOCK, DLAB, SERIAL, isThere, serialRegister } from "../registers.mjs";
 import { Board, formOf, hex, hexOf, parse, runScript } from "./board.mjs";
 import { Boot, RECORDINGS } from "./boot.mjs";
 import {
-  CONDITIONS, WITHOUT_EFFECT, dateOf, lineFormat, plural, quoted, ruleOf, shownRegisters, storyOf, told,
+  CONDITIONS, WITHOUT_EFFECT, dateOf, lineFormat, plural, quoted, ruleOf, short, shownRegisters, storyOf, told,
 } from "./why.mjs";
 
 const id = (name) => document.getElementById(name);
@@ -211,27 +211,28 @@ function serialRow(register) {
     { title: `sw ${place} ..`, "aria-label": `Write ${written}` }, "Write");
   const form = element("form", { class: "act" }, read, input, write);
   read.onclick = () => perform(`sr ${place}`);
-  form.onsubmit = (event) => {
-    event.preventDefault();
-    const number = byteOf(input.value);
-    if (number === null) refuseField(input, "A value is 0 to 255, as 0x41, 65 or 'A'.");
-    else perform(`sw ${place} ${hex(number, 2)}`);
-  };
+  onSubmit(form, () => withNumber(input, 0xff, (number) => perform(`sw ${place} ${hex(number, 2)}`)));
   const turn = (bit) => perform(`sw ${place} ${hex(shownRegisters(tape().board)[name] ^ bit, 2)}`);
   const label = written === name ? name : `${name}/${written}`;
   const row = rowOf(register, label, [element("span", { class: "offset" }, String(offset))], [form],
     access === "rw" && !isIgnored && turn);
-  return { ...row, input, latched };
+  return { ...row, input, register };
 }
 
 const rows = Object.values(SERIAL).filter(({ access }) => access.includes("r")).map(serialRow);
 id("registers").append(...rows.map(({ row }) => row));
 
-/** The byte that a person typed: 0x41, 65 or 'A'. Null if it is none. */
-function byteOf(text) {
-  const plain = text.trim();
-  if (/^'.'$/.test(plain)) return plain.charCodeAt(1) < 256 ? plain.charCodeAt(1) : null;
-  return /^(0x[0-9a-f]{1,2}|\d{1,3})$/i.test(plain) && Number(plain) < 256 ? Number(plain) : null;
+/** Makes a call with the number that a person typed into a field, or says that it is none. */
+function withNumber(field, most, call) {
+  const text = field.value.trim();
+  const number = /^'.'$/.test(text) ? text.charCodeAt(1) : /^(0x[0-9a-f]+|\d+)$/i.test(text) ? Number(text) : NaN;
+  if (number <= most) call(number);
+  else refuseField(field, `A value is 0 to ${most.toLocaleString("en")}, as 0x41, 65 or 'A'.`);
+}
+
+/** Makes a call when a form is submitted, in place of what browsers do then. */
+function onSubmit(form, call) {
+  form.onsubmit = (event) => { event.preventDefault(); call(); };
 }
 
 function noteOf(name, value, now, isEmpty) {
@@ -244,8 +245,8 @@ function noteOf(name, value, now, isEmpty) {
 function showRegisters(board, before) {
   const [now, old] = [board, before].map(shownRegisters);
   const { lineControl, inBuffer } = board.serial.state;
-  for (const { name, row, latched, update } of rows) {
-    row.hidden = ![null, (lineControl & DLAB) !== 0].includes(latched);
+  for (const { name, row, register, update } of rows) {
+    row.hidden = !isThere(register, lineControl);
     update(now[name], old[name], 2, noteOf(name, now[name], now, !inBuffer.length));
   }
 }
@@ -297,11 +298,11 @@ function showOutput({ output, counts, taken }) {
 function showWhy({ calls, at, board, last }) {
   const begin = ["Write IER to enable an interrupt, then type to the guest.", "interrupts"];
   const [sentence, heading] = last ? ruleOf(last) : begin;
-  say("told", last ? `${last.line.replace(/^(.{60}).*/, "$1..")} → ${told(last)}` : "Fresh devices.");
+  say("told", last ? `${short(last.line, 62)} → ${told(last)}` : "Fresh devices.");
   say("resets", last?.reply === "reset" ? "The monitor has to reset the machine." : "");
   const link = element("a", { href: `DEVICES.md#${heading}` }, "The rule: DEVICES.md, a text file");
   id("rule").replaceChildren(`${sentence} `, link);
-  const stories = state.boot ? [] : CONDITIONS.map((one) => storyOf(one, calls, at - 1, board));
+  const stories = state.boot ? [] : CONDITIONS.map((one) => storyOf(one, calls.slice(0, at), board));
   id("stories").replaceChildren(...stories.map((text) => element("li", {}, text)));
 }
 
@@ -445,21 +446,14 @@ for (const button of document.querySelectorAll("[data-line]")) {
     .replace("SOON", inTenSeconds));
 }
 
-const onSubmit = (name, call) => {
-  id(name).onsubmit = (event) => { event.preventDefault(); call(); };
-};
-onSubmit("typing", () => { type(`${id("input").value}\n`); id("input").value = ""; });
-onSubmit("adding", () => {
+onSubmit(id("typing"), () => { type(`${id("input").value}\n`); id("input").value = ""; });
+onSubmit(id("adding"), () => {
   const line = id("one").value.trim();
   if (perform(line)) id("one").value = "";
   else refuseField(id("one"), formOf(line));
 });
-onSubmit("clock-form", () => {
-  const text = id("clock-value").value.trim();
-  const isGood = /^(0x[0-9a-f]{1,8}|\d{1,10})$/i.test(text) && Number(text) < 2 ** 32;
-  if (isGood) perform(`cw ${moment()} ${clockOffset()} ${hex(Number(text), 8)}`);
-  else refuseField(id("clock-value"), "A value of the clock is 0 to 4,294,967,295, as 0x41 or 65.");
-});
+onSubmit(id("clock-form"), () => withNumber(id("clock-value"), 0xffffffff, (number) =>
+  perform(`cw ${moment()} ${clockOffset()} ${hex(number, 8)}`)));
 
 async function toClipboard(text, what) {
   try {

@@ -21,7 +21,7 @@ export const quoted = (byte) => byte > 31 && byte < 127 ? `"${String.fromCharCod
 export const dateOf = (seconds) => new Date(seconds * 1000).toISOString().replace("T", " ").slice(0, 19);
 
 /** The names of the bits that are set. LCR begins with the character format, as 8N1. */
-export function bitNames(register, value) {
+function bitNames(register, value) {
   const names = register.bits.filter(([bit]) => value & bit).map(([, name]) => name);
   if (register.name === "LCR") names.unshift(lineFormat(value));
   if (register.name === "IIR" && !names.length && value & 0x01) names.push("none");
@@ -37,9 +37,9 @@ const isPending = (board, bit) => (board.serial.state.interruptIdentification & 
 /** What the interrupt line answered, as the end of a sentence. */
 function asked({ before, after }) {
   if (!after.answers.length) return "";
-  const raised = CONDITIONS.filter(([, bit]) => isPending(after, bit) && !isPending(before, bit)).map(([name]) => name);
-  const pending = CONDITIONS.filter(([, bit]) => isPending(after, bit)).map(([name]) => name);
-  const names = raised.length ? raised : pending;
+  const pending = CONDITIONS.filter(([, bit]) => isPending(after, bit));
+  const raised = pending.filter(([, bit]) => !isPending(before, bit));
+  const names = (raised.length ? raised : pending).map(([name]) => name);
   const answers = after.answers.map((isTaken, place) => `${names[place] ?? "it"}${isTaken ? "" : " refused"}`);
   return `; interrupt for ${answers.join(", ")}`;
 }
@@ -145,19 +145,12 @@ export function told(call) {
   return words + asked(call);
 }
 
-/** The newest call up to `at` by which a condition became pending or was acknowledged, by this test of it. */
-function newest(calls, at, test) {
-  for (let place = at; place >= 0; place -= 1) if (test(calls[place])) return place;
-  return -1;
-}
-
-/** Why a condition is pending or not, in a sentence or two, by the calls up to `at`. */
-export function storyOf([name, bit, enable, how], calls, at, board) {
+/** Why a condition is pending or not, in a sentence or two, by the calls until now: the newest that changed it. */
+export function storyOf([name, bit, enable, how], calls, board) {
   const { interruptEnable, inBuffer } = board.serial.state;
   const isEnabled = (interruptEnable & enable) !== 0;
-  const turn = (before, after) => isPending(after, bit) !== isPending(before, bit);
-  const place = newest(calls, at, (call) => turn(call.before, call.after));
-  const by = place < 0 ? "" : `call ${place + 1}, ${short(calls[place].line)},`;
+  const place = calls.findLastIndex(({ before, after }) => isPending(after, bit) !== isPending(before, bit));
+  const by = place < 0 ? "" : `call ${place + 1}, ${short(calls[place].line, 24)},`;
   if (isPending(board, bit)) {
     if (place < 0) return `${name} is pending: it was at the start.`;
     const { answers } = calls[place].after;
@@ -172,7 +165,8 @@ export function storyOf([name, bit, enable, how], calls, at, board) {
   return `${name} is not pending: ${reason}. ${next}`;
 }
 
-export const short = (line) => line.length <= 24 ? line : `${line.slice(0, 22)}..`;
+/** A line, of which at most so many characters are shown. */
+export const short = (line, most) => line.length <= most ? line : `${line.slice(0, most - 2)}..`;
 
 /** The registers of a board as a guest would read them, by name, without changing it. */
 export function shownRegisters(board) {

@@ -1,11 +1,15 @@
 /**
- * What the package does by itself: layouts, copies, refused arguments, names. tools/js/check makes recorded calls with
- * it too, over the board of the page.
+ * What the package does by itself: layouts, copies, refused arguments, names, and what superio.d.ts and package.json say
+ * of it. tools/js/check makes recorded calls with it too, over the board of the page.
  */
 import assert from "node:assert/strict";
+import { readFileSync, readdirSync } from "node:fs";
 import test from "node:test";
+import { ABI, LOAD_STATUSES } from "../module.mjs";
 import * as registers from "../registers.mjs";
-import { I8042, RegisterError, Rtc, SavedStateError, Serial } from "../superio.mjs";
+import * as superio from "../superio.mjs";
+
+const { I8042, Rtc, SavedStateError, Serial } = superio;
 
 /** The same bytes in the middle of a buffer, so that what is passed is seldom a whole one. */
 function within(array) {
@@ -23,19 +27,10 @@ const PORT = {
 };
 const REGISTERS = Object.keys(PORT).filter((name) => name !== "inBuffer");
 const PORT_SAVED = "53494f5301010c0011220306446108b577a1a2a3";
-const numbersOf = (state) => Object.keys(state).filter((name) => typeof state[name] === "number");
-const CLOCK = { ...new Rtc().state, offset: -2n, armed: true,
-  ...Object.fromEntries(numbersOf(new Rtc().state).map((name, place) => [name, 0x01020304 + 0x11111111 * place])) };
-
-/** The saved form of a clock by docs/SAVED-STATES.md: a number has four bytes, an offset eight, an alarm one. */
-function savedClock(state) {
-  const sizes = { number: 4, bigint: 8, boolean: 1 };
-  const contents = Object.values(state).flatMap((value) => Array.from({ length: sizes[typeof value] },
-    (_, place) => Number((BigInt(value) >> BigInt(8 * place)) & 0xffn)));
-  return [...new TextEncoder().encode("SIOS"), 2, new Serial().toBytes()[5], contents.length, 0, ...contents];
-}
-
-const CLOCK_SAVED = savedClock(CLOCK).map((one) => one.toString(16).padStart(2, "0")).join("");
+const CLOCK = {
+  lr: 0x01020304, mr: 0x12131415, imsc: 0x23242526, ris: 0xb4353637, offset: -2n, armed: true,
+};
+const CLOCK_SAVED = "53494f5302011900" + "04030201" + "15141312" + "26252423" + "373635b4" + "feffffffffffffff" + "01";
 
 test("each field of a state has its place", () => {
   const port = Serial.fromState(PORT);
@@ -52,18 +47,11 @@ test("each field of a state has its place", () => {
 
 test("a clock's alarm", () => {
   const clock = new Rtc();
-  assert.deepEqual(clock.write("MR", 1005, 1000), { invalidWrite: false });
+  clock.write("MR", 1005, 1000);
   clock.write("RTCIMSC", 1, 1000n);
-  assert.equal(clock.due(1000), 5);
-  assert.equal(clock.line(), false);
-  assert.deepEqual(clock.read("MIS", 1005), { value: 1, invalidRead: false });
-  assert.equal(clock.line(), true);
-  assert.equal(clock.due(1005), null);
-  assert.deepEqual(clock.read("ICR", 1006), { value: 0, invalidRead: true });
-  assert.deepEqual(clock.write("DR", 0, 1006), { invalidWrite: true });
-  assert.equal(clock.read("DR", 2n ** 64n - 1n).value, 0xffffffff);
-  assert.equal(clock.write("LR", 0xffffffff, 0).invalidWrite, false);
-  assert.equal(clock.state.lr, 0xffffffff);
+  assert.deepEqual([clock.due(1000), clock.line()], [5, false]);
+  clock.read("MIS", 1005);
+  assert.deepEqual([clock.due(1005), clock.line()], [null, true]);
 });
 
 test("devices share nothing", () => {
@@ -151,7 +139,7 @@ const NUMBERS = [
   ["value", OF_BYTE, (it) => new I8042().write(4, it)],
   ["offset", [-(2n ** 63n), 2n ** 63n - 1n], (it) => Rtc.fromState({ ...CLOCK, offset: it })],
   ...REGISTERS.map((name) => [name, OF_BYTE, (it) => Serial.fromState({ ...PORT, [name]: it })]),
-  ...numbersOf(CLOCK).map((name) => [name, OF_WORD, (it) => Rtc.fromState({ ...CLOCK, [name]: it })]),
+  ...["lr", "mr", "imsc", "ris"].map((name) => [name, OF_WORD, (it) => Rtc.fromState({ ...CLOCK, [name]: it })]),
 ];
 
 test("each number is taken at its edges, and refused beyond them by its name, its value and the range", () => {
@@ -167,7 +155,6 @@ test("each number is taken at its edges, and refused beyond them by its name, it
     if (isBig) refused(() => call(2 ** 60), "RangeError", `${wanted}, above 2 ** 53 as a BigInt`);
     else refused(() => call(65n), "TypeError", `${name} is 65n, and ${wanted}`);
     for (const other of OF_OTHER_KINDS) refused(() => call(other), "TypeError", `, and ${wanted}`);
-    refused(() => call(), "TypeError", `${name} is undefined`);
     refused(() => call(true), "TypeError", `${name} is true`);
   }
   refused(() => new Serial().write(7, "A"), "TypeError", 'value is "A"');
@@ -221,16 +208,82 @@ test("a name in any case is the register that is there", () => {
 });
 
 test("a register's name reaches that register, or nothing", () => {
-  const port = new Serial();
-  refused(() => port.read("THR"), "RegisterError", "THR can only be written: a read at its offset reaches RBR");
-  refused(() => port.write("iir", 0), "RegisterError", "IIR can only be read: a write at its offset reaches FCR");
-  refused(() => port.read("DLL"), "RegisterError", "DLL is out of reach while DLAB is clear");
-  for (const name of ["toString", "", "RBR ", "RTCSCR", "SC"]) {
-    refused(() => port.read(name), "RegisterError", "no register has this name");
+  const [port, latched, clock] = [new Serial(), new Serial(), new Rtc()];
+  latched.write("LCR", 0x83);
+  for (const [call, text] of [
+    [() => port.read("THR"), "THR can only be written: a read at its offset reaches RBR"],
+    [() => port.write("iir", 0), "IIR can only be read: a write at its offset reaches FCR"],
+    [() => port.read("DLL"), "DLL is out of reach while DLAB is clear"],
+    [() => latched.read("RBR"), "RBR is out of reach while DLAB is set"],
+    ...["toString", "", "RBR ", "RTCSCR", "SC"].map((name) => [() => port.read(name), "no register has this name"]),
+    [() => clock.read("constructor", 0), "no register has this name"],
+  ]) refused(call, "RegisterError", text);
+});
+
+// What superio.d.ts and package.json say.
+
+const read = (name) => readFileSync(new URL(`../${name}`, import.meta.url), "utf8");
+const { exports, files } = JSON.parse(read("package.json"));
+const declarations = read(exports.types).replace(/^ *\/\*\*[^]*?\*\/\n/gm, "");
+
+/** The declared members of a class, each as its kind, its name and its parameters' names. */
+const declared = (body) => Array.from(body.matchAll(/^  (static |readonly )?(\w+)(?:\((.*)\))?(?:: .*)?;$/gm),
+  ([, kind = "", name, parameters = ""]) =>
+    `${kind}${name} ${Array.from(parameters.matchAll(/(\w+):/g), ([, word]) => word)}`);
+
+/** The members that a class has, in the same form. */
+function membersOf(made) {
+  const parametersOf = (call) => /\((.*?)\)/.exec(call.toString())[1].replaceAll(" ", "");
+  const ofDevices = Object.entries(Object.getOwnPropertyDescriptors(made.prototype)).map(([name, { get, value }]) =>
+    name === "constructor" ? "constructor " : get ? `readonly ${name} ` : `${name} ${parametersOf(value)}`);
+  const ofClass = Object.getOwnPropertyNames(made).filter((name) => typeof made[name] === "function")
+    .map((name) => `static ${name} ${parametersOf(made[name])}`);
+  return [...ofDevices, ...ofClass];
+}
+
+/** What is declared of a plain object: each field with its type, and the same of an object. */
+const fieldsOf = (name) =>
+  new RegExp(`interface ${name} \\{(.*?)\\n\\}`, "s").exec(declarations)[1].match(/\w+: \w+(?=;)/g);
+const typed = ([field, value]) => `${field}: ${value instanceof Uint8Array ? "Uint8Array" : typeof value}`;
+
+const CLASS = /export class (\w+)(?: extends (\w+))? \{(?:\}|(.*?)\n\})/gs;
+const classes = Array.from(declarations.matchAll(CLASS));
+test("superio.d.ts declares the classes that there are", () => {
+  assert.deepEqual(classes.map(([, name]) => name).sort(), Object.keys(superio).sort());
+});
+for (const [, name, base = "", body = ""] of classes) {
+  test(`superio.d.ts declares what ${name} has`, () => {
+    assert.equal(Object.getPrototypeOf(superio[name]).name, base);
+    const members = [...new Set([...declared(body), "constructor "])].filter((one) => one !== "readonly status ");
+    assert.deepEqual(members.sort(), membersOf(superio[name]).sort());
+  });
+}
+
+test("superio.d.ts declares the fields of what calls give", () => {
+  const [port, clock] = [new Serial(), new Rtc()];
+  const given = { ReadEffects: port.read(0), WriteEffects: port.write(7, 0), SerialState: port.state,
+    EnqueueEffects: port.enqueue(port.toBytes()), RtcState: clock.state };
+  for (const [name, value] of Object.entries(given)) {
+    assert.deepEqual(Object.entries(value).map(typed).sort(), fieldsOf(name).sort());
   }
-  refused(() => new Rtc().read("constructor", 0), "RegisterError", "no register has this name");
-  port.write("LCR", 0x83);
-  assert.equal(port.read("DLL").byte, 0x0c);
-  refused(() => port.read("RBR"), "RegisterError", "RBR is out of reach while DLAB is set");
-  assert.equal(new RegisterError("x") instanceof RangeError, true);
+});
+
+test("superio.d.ts declares each status of a load", () => {
+  const [union] = /readonly status: [^;]*/.exec(declarations);
+  assert.deepEqual(["ok", ...Array.from(union.matchAll(/"(.*?)"/g), ([, status]) => status)], LOAD_STATUSES);
+});
+
+test("package.json names the files that the package has, and those that a release puts beside them", () => {
+  const isOwn = (name) => !["package.json", "page", "tests"].includes(name);
+  const there = readdirSync(new URL("..", import.meta.url)).filter(isOwn);
+  assert.deepEqual(new Set(files), new Set([...there, "LICENSE", "LICENSES"]));
+  assert.deepEqual(Object.values(exports).filter((name) => !files.includes(name.slice(2))), []);
+});
+
+test("a module of another binary interface is refused", async () => {
+  const here = (_, name) => `"${new URL(`..${name}`, import.meta.url)}"`;
+  const source = read("superio.mjs").replace(/"\.(\/\w+\.mjs)"/g, here);
+  const changed = Buffer.from(`const ABI = ${ABI + 1};${source.replace("{ ABI, ", "{ ")}`).toString("base64");
+  const message = `the module has the binary interface ${ABI}, and this package is for ${ABI + 1}`;
+  await assert.rejects(import(`data:text/javascript;base64,${changed}`), { message });
 });
