@@ -130,12 +130,12 @@ async function tryLooks(width, scheme) {
 
 /**
  * Tells a picture: parts of the page, and only what is seen of them, as XML with the styles that they have at this
- * width, and the height. Nothing in it moves, and no timeout ends the wait that it shows.
+ * width, and the height. It has no control, since none would do anything.
  */
 async function take([name, fragment, width, wanted]) {
   await open(fragment, width);
-  all(`body > :not(main), section:not(${wanted}), .hidden, [hidden]`).forEach((one) => one.remove());
-  by("makes-timeouts").removeAttribute("checked");
+  const controls = "button:not(.bit), input, label, form, .row";
+  all(`body > :not(main), section:not(${wanted}), .hidden, [hidden], ${controls}`).forEach((one) => one.remove());
   const isUsed = (selector) => !/:(hover|focus|disabled)/.test(selector) &&
     all(selector.replaceAll(/::[a-z]+/g, "") || "*").length;
   const styles = page.document.querySelector("style").textContent

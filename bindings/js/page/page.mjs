@@ -272,10 +272,14 @@ function showRing({ serial, head }) {
 
 function showLine({ serial, answers, asked }) {
   const pending = serial.state.interruptIdentification;
-  const lamps = [["rda", pending & 0x04], ["thre", pending & 0x02], ["line", serial.interruptLine()]];
-  for (const [name, lit] of lamps) {
-    id(name).classList.toggle("lit", Boolean(lit));
-    id(name).setAttribute("aria-label", `${id(name).textContent}: ${lit ? "yes" : "no"}`);
+  const lamps = [
+    ["rda", pending & 0x04, "RDA pending", "RDA not pending"],
+    ["thre", pending & 0x02, "THRE pending", "THRE not pending"],
+    ["line", serial.interruptLine(), "interrupt due", "no interrupt due"],
+  ];
+  for (const [name, isLit, lit, unlit] of lamps) {
+    id(name).classList.toggle("lit", Boolean(isLit));
+    id(name).textContent = isLit ? lit : unlit;
   }
   const refused = answers.includes(false) ? ", and refused the last call" : "";
   say("asked", `The line was called ${plural(asked, "time")}${refused}.`);
