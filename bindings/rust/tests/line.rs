@@ -68,12 +68,3 @@ fn pastes_arrive_whole_by_a_level() {
         assert_eq!(machine.received(&paste, most), paste, "{most} bytes at a look");
     }
 }
-
-#[test]
-fn the_line_is_down_while_nothing_is_enabled_or_held() {
-    let mut machine = Machine { port: Serial::new(NoPulse, io::sink()), line: true };
-    assert_eq!((machine.read(2), machine.line), (0xc1, false));
-    let taken = machine.port.enqueue_raw_bytes(b"a");
-    machine.set_line(taken).unwrap();
-    assert!(!machine.line, "IER is 0");
-}
