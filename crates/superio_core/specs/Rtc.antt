@@ -3,7 +3,7 @@
 pub mod Step
 use Rattle.std.specs.Prelude.{ℕ, ◌-◌, ◌/◌, ◌%◌, ◌^◌, ℤ, pos, negsuc, Bool, true, false, ◌==◌, ◌&&◌, nat_lt, nat_le, if◌then◌else◌, List, [], ◌∷◌, slice_index, Option, Some, None, bit_and, not}
 use Rattle.std.specs.Int.{w32, to_le_bytes, from_le_bytes}
-pub use Rattle.superio_core.specs.declared.rtc_pl031.state.RtcState.{RtcState}
+pub use Rattle.superio_core.specs.declared.rtc_pl031.saved_form.RtcState.{RtcState}
 pub use Rattle.superio_core.specs.declared.rtc_pl031.registers.ClockRegister.{ClockRegister}
 pub use Rattle.superio_core.specs.declared.rtc_pl031.registers.ClockRegister.TheVariants.{Dr, Mr, Lr, Cr, Imsc, Ris, Mis, Icr, Id, Reserved}
 pub use Rattle.superio_core.specs.declared.rtc_pl031.Clock.{Clock}

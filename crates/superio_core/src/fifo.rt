@@ -1,6 +1,7 @@
-//! What a port needs of its receive FIFO.
-ghost use Rattle.std.specs.Prelude.{◌≡◌, ◌-◌, ◌≤◌, ℕ, List, [], ◌∷◌, ◌++◌, length, take, drop, slice_get, not};
+//! What a port needs of its receive FIFO, and a FIFO in the 64 places of an array.
+ghost use Rattle.std.specs.Prelude.{◌≡◌, ◌<◌, ◌≤◌, ◌+◌, ◌-◌, ◌%◌, ℕ, min, not, List, [], ◌∷◌, ◌++◌, length, take, drop, slice_get};
 ghost use Rattle.superio_core.specs.Serial.{not_empty};
+ghost use Rattle.superio_core.specs.Serial.Port.{held_bytes};
 
 /// The capacity of the FIFO, as in a 16750.
 pub const FIFO_SIZE: usize = 64;
@@ -39,4 +40,101 @@ pub trait ReceiveFifo {
         ensures count { result ≡ length (take (64 - length (held self.old)) bytes.now) }
         ensures added { held self.new ≡ held self.old ++ take (64 - length (held self.old)) bytes.now }
         ensures canonical { canonical self.old → canonical self.new };
+}
+
+/// Received bytes in a ring of 64 places. Any values are valid: `head` counts modulo 64, and `len` above 64 counts as
+/// 64.
+#[repr(C)]
+#[derive(Clone, Copy)]
+pub struct RxRing {
+    /// The place of the oldest byte.
+    pub head: u8,
+    /// How many bytes are held.
+    pub len: u8,
+    /// The bytes. The first place follows the last.
+    pub bytes: [u8; 64],
+}
+
+impl RxRing {
+    /// An empty FIFO.
+    pub(crate) fn new() -> RxRing
+        ensures bytes { held_bytes result ≡ [] }
+        ensures at_most_64 { result.len ≤ 64 }
+    {
+        RxRing {
+            head: 0,
+            len: 0,
+            bytes: [0; 64],
+        }
+    }
+
+    /// How many bytes are held, at most 64.
+    #[inline(always)]
+    fn count(&self) -> usize
+        ensures { result ≡ min self.now.len 64 }
+    {
+        usize::from(self.len).min(FIFO_SIZE)
+    }
+
+    /// The place at this distance from the oldest byte.
+    #[inline(always)]
+    fn place(&self, distance: usize) -> usize
+        requires { distance ≤ 64 }
+        ensures value { result ≡ (self.now.head + distance) % 64 }
+        ensures bound { result < 64 }
+    {
+        (usize::from(self.head) + distance) % FIFO_SIZE
+    }
+}
+
+impl ReceiveFifo for RxRing {
+    ghost held = { held_bytes };
+
+    ghost canonical = { λ fifo. fifo.len ≤ 64 };
+
+    #[inline(always)]
+    fn len(&self) -> usize {
+        self.count()
+    }
+
+    #[inline(always)]
+    fn is_empty(&self) -> bool {
+        self.len == 0
+    }
+
+    #[inline(always)]
+    fn take_first(&mut self) -> Option<u8> {
+        let held = self.count();
+        if held == 0 {
+            return None;
+        }
+        let byte = self.bytes[self.place(0)];
+        self.head = self.place(1) as u8;
+        self.len = (held - 1) as u8;
+        Some(byte)
+    }
+
+    #[inline(always)]
+    fn push(&mut self, byte: u8) -> bool {
+        let held = self.count();
+        if held == FIFO_SIZE {
+            return false;
+        }
+        let place = self.place(held);
+        self.bytes[place] = byte;
+        self.len = (held + 1) as u8;
+        true
+    }
+
+    #[inline(always)]
+    fn fill(&mut self, bytes: &[u8]) -> usize {
+        let held = self.count();
+        let count = bytes.len().min(FIFO_SIZE - held);
+        for i in 0..count {
+            let place = self.place(held + i);
+            self.bytes[place] = bytes[i];
+        }
+        self.len = (held + count) as u8;
+        count
+    }
 }

@@ -12,14 +12,13 @@ ghost use Rattle.superio_core.specs.Serial.Step.Admissible.{IsPortRead, IsPortWr
 mod bits;
 pub mod effects;
 pub mod registers;
-mod rx_ring;
 pub mod saved_form;
 mod steps;
 
+pub use super::fifo::RxRing;
 use super::fifo::{FIFO_SIZE, ReceiveFifo};
 pub use effects::{EnqueueEffects, ReadEffects, WriteEffects};
 pub use registers::Registers;
-pub use rx_ring::RxRing;
 
 /// A serial port without objects: its registers and received bytes. Any bytes are valid.
 #[repr(C)]

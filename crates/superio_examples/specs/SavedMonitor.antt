@@ -1,7 +1,7 @@
 -- A monitor as plain data.
 use Rattle.std.specs.Prelude.{◌≡◌, ℕ, max, length}
 use Rattle.circular_buffer.specs.Buffer.{Buffer, buffer}
-use Rattle.superio_core.specs.declared.rtc_pl031.state.RtcState.{RtcState}
+use Rattle.superio_core.specs.declared.rtc_pl031.saved_form.RtcState.{RtcState}
 use Rattle.superio_core.specs.Serial.{State}
 use Rattle.superio_core.specs.Saved.{serial_form, clock_form}
 use Rattle.superio_examples.specs.Monitor.{Machine}

@@ -1,6 +1,6 @@
 //! A trigger that counts its calls, for a monitor that injects interrupts itself.
 ghost use Rattle.std.specs.Prelude.{◌≡◌, [], ◌∷◌};
-ghost use Rattle.vm_superio.specs.Links.FoldsEvents.{FoldsEvents, FoldsEvents-nil, FoldsEvents-append};
+ghost use Rattle.vm_superio.specs.Links.ForAnyObject.{FoldsEvents, FoldsEvents-nil, FoldsEvents-append};
 ghost use Rattle.superio_examples.specs.Counter.{after_call};
 
 use std::convert::Infallible;

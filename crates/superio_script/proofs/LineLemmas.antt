@@ -14,7 +14,7 @@ use Rattle.vm_superio.specs.declared.saved.Error.TheVariants.{Bytes, Memory}
 use Rattle.superio_core.specs.Serial.{State}
 use Rattle.superio_core.proofs.Lemmas.Saved.{numbers_in-form, serial_form_has_no_fault, clock_form_has_no_fault}
 use Rattle.superio_script.specs.Loading.{unless_fault, port_in, loaded_port, clock_in, loaded_clock, PortFormLoads, ClockFormLoads}
-use Rattle.vm_superio.specs.Links.FoldsEvents.{FoldsEvents}
+use Rattle.vm_superio.specs.Links.ForAnyObject.{FoldsEvents}
 use Rattle.vm_superio.specs.Rtc.{invalid_write, GoesOnByHistory, RtcState, write, write_of, clock_of_history}
 use Rattle.superio_script.specs.Objects.{no_counts, counts_after_clock_event, Counts}
 use Rattle.superio_script.specs.ClockScript.{ClockSession, clock_session_state, clock_session_after_access}

@@ -13,7 +13,7 @@ use Rattle.vm_superio.specs.Links.Writer.{PortLinks, port_links, bytes_sent, out
 use Rattle.vm_superio.specs.Serial.{Port, failure_response, Asked, Sent, Op, Read, Trace, Response, is_sent, is_lost, answer_count, ends_in_refusal, kind_of, sent_by, State, not_empty, fresh_state, has_bits, only_bits, Coherent, Condition, register_at, is_dlab, is_loopback, pending_in_order, step, step_response, read_step, rbr_read, answers_all, step_calls, sends_byte, kind_in_state, restore_calls}
 use Rattle.vm_superio.specs.declared.serial.errors.Error.{Error}
 use Rattle.vm_superio.specs.declared.serial.errors.Error.TheVariants.{Trigger, IOError, FullFifo, Memory}
-use Rattle.vm_superio.specs.Links.FoldsEvents.{FoldsEvents}
+use Rattle.vm_superio.specs.Links.ForAnyObject.{FoldsEvents}
 use Rattle.superio_script.specs.Objects.{fresh_interrupt_line, InterruptLineLink, no_counts, counts_after_event, written_bytes, Line, Counts, Output, LineRefused}
 use Rattle.superio_script.specs.Reply.{with_lf, response_reply, digits_reply, count_digits, counts_reply}
 use Rattle.superio_script.specs.Loading.{loaded_port, fault_words}

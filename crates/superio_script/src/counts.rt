@@ -77,7 +77,7 @@ impl Counts {
 }
 
 impl SerialEvents for Counts {
-    ghost use Rattle.vm_superio.specs.Links.FoldsEvents.{FoldsEvents, FoldsEvents-nil, FoldsEvents-append};
+    ghost use Rattle.vm_superio.specs.Links.ForAnyObject.{FoldsEvents, FoldsEvents-nil, FoldsEvents-append};
     ghost use Rattle.superio_script.specs.Objects.{counts_after_event};
 
     ghost link = { FoldsEvents counts_after_event };
@@ -104,7 +104,7 @@ impl SerialEvents for Counts {
 }
 
 impl RtcEvents for Counts {
-    ghost use Rattle.vm_superio.specs.Links.FoldsEvents.{FoldsEvents, FoldsEvents-nil, FoldsEvents-append};
+    ghost use Rattle.vm_superio.specs.Links.ForAnyObject.{FoldsEvents, FoldsEvents-nil, FoldsEvents-append};
     ghost use Rattle.superio_script.specs.Objects.{counts_after_clock_event};
 
     ghost link = { FoldsEvents counts_after_clock_event };

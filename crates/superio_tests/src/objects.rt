@@ -1,6 +1,6 @@
 //! The objects that the tests give to a device: a trigger, an events object and a writer, which share a log; and the
 //! faults of writers.
-ghost use Rattle.vm_superio.specs.Links.Unspecified.{Unspecified, Unspecified-nil, Unspecified-append};
+ghost use Rattle.vm_superio.specs.Links.ForAnyObject.{Unspecified, Unspecified-nil, Unspecified-append};
 
 use std::alloc::{AllocError, Global};
 use std::cell::Cell;

@@ -1,7 +1,7 @@
 -- Words for a caller's claims. A first contract needs two `ghost use` lines: one of this file, and one of the signs,
 -- which come from `Rattle.std.specs.Prelude`.
 use Rattle.std.specs.Prelude.{◌≡◌, ℕ, Bool, true, false, List}
-pub use Rattle.superio_core.specs.declared.rtc_pl031.state.RtcState.{RtcState}
+pub use Rattle.superio_core.specs.declared.rtc_pl031.saved_form.RtcState.{RtcState}
 pub use Rattle.superio_core.specs.Bits.{has_bits}
 pub use Rattle.superio_core.specs.I8042.{is_reset_command}
 pub use Rattle.superio_core.specs.Rtc.{fresh_clock, read, write}

@@ -1,8 +1,7 @@
 -- What the types of a device's objects state, its trigger, its events object and its output: the relations, the calls
 -- with their answers, and how a byte is sent.
-pub mod FoldsEvents
+pub mod ForAnyObject
 pub mod Three
-pub mod Unspecified
 pub mod Writer
 use Rattle.std.specs.Prelude.{◌≡◌, ◌⊎◌, List, [], ◌∷◌, Option, Result, Ok, Err, ◌↔◌, ℕ, ◌++◌, ⊤, map, option_map, option_to_list}
 use Rattle.std.proofs.Common.{sym, subst}

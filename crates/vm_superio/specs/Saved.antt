@@ -1,11 +1,11 @@
 -- Saved states: the state of one, what an error prints, and the version, which is that of the writer. A reader refuses
 -- every other.
 use Rattle.std.specs.Prelude.{ℕ, List, codes, Option, Some, ◌≡◌, ◌≢◌, ◌∷◌, ◌++◌, slice_index}
-use Rattle.vm_superio.specs.declared.serial.state.SerialState.{SerialState}
+use Rattle.vm_superio.specs.declared.serial.saved_form.SerialState.{SerialState}
 use Rattle.superio_core.specs.Serial.{State}
 use Rattle.vm_superio.specs.declared.saved.Error.{Error}
 use Rattle.vm_superio.specs.declared.saved.Error.TheVariants.{Bytes, Memory}
-use Rattle.superio_core.specs.declared.rtc_pl031.state.RtcState.{RtcState}
+use Rattle.superio_core.specs.declared.rtc_pl031.saved_form.RtcState.{RtcState}
 use Rattle.superio_core.specs.declared.saved.Error.{Error as Fault}
 use Rattle.superio_core.specs.declared.saved.Error.TheVariants.{UnknownVersion}
 use Rattle.superio_core.specs.Saved.{serial_fault, clock_fault, magic, serial_kind, clock_kind, version, serial_form, clock_form}

@@ -26,8 +26,8 @@ pub use Rattle.superio_core.specs.declared.serial.registers.Condition.{Condition
 pub use Rattle.superio_core.specs.declared.serial.registers.Condition.TheVariants.{Rda, Thre}
 pub use Rattle.superio_core.specs.declared.serial.registers.Register.{Register}
 pub use Rattle.superio_core.specs.declared.serial.registers.Register.TheVariants.{Ier, Iir, RbrThr, Unassigned}
-pub use Rattle.superio_core.specs.declared.trace.Asked.{Asked}
-pub use Rattle.superio_core.specs.declared.trace.Sent.{Sent}
+pub use Rattle.superio_core.specs.declared.serial.effects.Asked.{Asked}
+pub use Rattle.superio_core.specs.declared.serial.effects.Sent.{Sent}
 
 -- the state, and the objects that the port owns
 pub record Port (T EV W : Type 0) : Type 0 where

@@ -6,21 +6,17 @@ ghost use Rattle.vm_superio.specs.Serial.{Coherent, fresh_state, is_line_up, res
 ghost use Rattle.vm_superio.specs.Serial.Step.{RefusesRestore};
 
 mod errors;
-mod events;
 mod objects;
 mod port;
-mod running;
 pub mod saved_form;
-mod state;
 
 use crate::Trigger;
 use crate::run::{Call, Done};
 pub use errors::{Error, Refused};
-pub use events::{NoEvents, SerialEvents};
-pub use objects::{Objects, SerialOut, Three, WriterOut};
+pub use objects::{NoEvents, Objects, SerialEvents, SerialOut, Three, WriterOut};
 use port::reassert;
 pub use port::{Port, RefusedObject};
-pub use state::SerialState;
+pub use saved_form::SerialState;
 use std::alloc::{AllocError, Global};
 use std::io::Write;
 use std::marker::Model;

@@ -23,7 +23,6 @@ pub mod i8042;
 pub mod rtc_pl031;
 pub mod saved;
 pub mod serial;
-pub mod trace;
 
 pub use i8042::is_reset_command;
 pub use rtc_pl031::{Clock, RtcState};

@@ -8,11 +8,10 @@
 mod alarm;
 mod registers;
 pub mod saved_form;
-mod state;
 
 use alarm::{guest_time, seconds_until};
 pub use registers::ClockRegister;
-pub use state::RtcState;
+pub use saved_form::RtcState;
 
 /// A clock without an events object. Any values are valid.
 #[repr(C)]

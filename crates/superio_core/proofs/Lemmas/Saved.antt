@@ -4,7 +4,7 @@ use Rattle.std.specs.Result.{result_err}
 use Rattle.std.specs.Int.{w32, w64, to_le_bytes, from_le_bytes, cast_unsigned, cast_signed}
 use Rattle.std.proofs.lemmas.Int.{to_z-of_z}
 use Rattle.std.proofs.lemmas.Nat.{from_le_bytes-to_le_bytes_4, from_le_bytes-to_le_bytes_8}
-use Rattle.superio_core.specs.declared.rtc_pl031.state.RtcState.{RtcState}
+use Rattle.superio_core.specs.declared.rtc_pl031.saved_form.RtcState.{RtcState}
 use Rattle.superio_core.specs.Saved.{Error, flag, clock_form, clock_fault, IsClock, SerialFormLaw, ClockFormLaw, OneSerialStateLaw, OneClockStateLaw, serial_form, serial_fault, TooShort, NotASavedState, OtherDevice, UnknownVersion, WrongLength, TooManyBytes, InvalidArmed}
 use Rattle.superio_core.specs.Serial.{state_of_bytes, fresh_state, State}
 

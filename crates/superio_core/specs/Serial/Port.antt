@@ -4,7 +4,7 @@ use Rattle.std.specs.Prelude.{◌≡◌, ◌≤◌, Bool, length, IsTrue, ℕ, �
 use Rattle.superio_core.specs.Bits.{has_bits}
 use Rattle.superio_core.specs.Serial.{lsr_dr_bit, State, not_empty, state_with}
 use Rattle.superio_core.specs.Serial.RegisterMap.{Rda, ier_bit, iir_bit, identification_of}
-pub use Rattle.superio_core.specs.declared.serial.rx_ring.RxRing.{RxRing}
+pub use Rattle.superio_core.specs.declared.fifo.RxRing.{RxRing}
 pub use Rattle.superio_core.specs.declared.serial.SerialPort.{SerialPort}
 
 -- IIR shows which of THRE and RDA are pending; RDA is pending only while a received byte is held; data ready is set

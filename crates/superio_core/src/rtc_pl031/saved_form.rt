@@ -1,17 +1,93 @@
-//! The byte form of a clock's state.
-ghost use Rattle.std.specs.Prelude.{◌≡◌, ◌+◌, ◌≤◌, length, ◌++◌, IfOk};
+//! The state of a clock, as vm-superio names its fields, and its byte form.
+ghost use Rattle.std.specs.Prelude.{◌≡◌, ◌<◌, ◌≤◌, ◌+◌, ◌^◌, ◌++◌, false, length, IfOk, IfSome};
 ghost use Rattle.std.specs.Result.{result_err};
 ghost use Rattle.std.specs.Int.{w32, w64, to_le_bytes, cast_unsigned};
+ghost use Rattle.superio_core.specs.Rtc.Step.{is_line_up, IsAlarmDue, clock_response, clock_step};
+ghost use Rattle.superio_core.specs.Rtc.{read, write, clock_register_at, is_writable};
 ghost use Rattle.superio_core.specs.Saved.{clock_fault, IsClock};
 
 use super::super::saved::{CLOCK_KIND, Error, contents_of, header};
-use super::RtcState;
+use super::Clock;
 
 /// The size of a clock's byte form: the header and 25 bytes.
 pub const SAVED_SIZE: usize = 33;
 
 /// The number of bytes after the header.
 const CONTENTS_SIZE: usize = 25;
+
+/// The contents of a clock's registers: enough to recreate the clock.
+///
+/// Any values may be restored, and reads show them unchanged. The default is all zeros, and no alarm.
+#[derive(Clone, Copy, Debug, Default, Eq, PartialEq)]
+pub struct RtcState {
+    /// The load register, RTCLR: the last loaded value, or 0 after a reset.
+    pub lr: u32,
+    /// How far guest time is ahead of the host's time, in seconds.
+    pub offset: i64,
+    /// The match register, RTCMR: the guest time that an alarm waits for.
+    pub mr: u32,
+    /// The interrupt mask, RTCIMSC. A write stores bit 0 of its value, and clears the others.
+    pub imsc: u32,
+    /// The raw interrupt status, RTCRIS. The alarm sets bit 0; nothing sets other bits.
+    pub ris: u32,
+    /// Whether an alarm is set and has not fired.
+    pub armed: bool,
+}
+
+impl RtcState {
+    /// A state with these five fields, as saved by a clock without an alarm. No alarm is set.
+    pub fn from_five(lr: u32, offset: i64, mr: u32, imsc: u32, ris: u32) -> RtcState
+        ensures { result ≡ record { lr = lr; offset = offset; mr = mr; imsc = imsc; ris = ris; armed = false } }
+    {
+        RtcState {
+            lr,
+            offset,
+            mr,
+            imsc,
+            ris,
+            armed: false,
+        }
+    }
+
+    /// Whether the interrupt line is up; see [`Clock::interrupt_line`].
+    pub fn interrupt_line(&self) -> bool
+        ensures { result ≡ is_line_up self.now }
+    {
+        Clock::from_state(self).interrupt_line()
+    }
+
+    /// The seconds from the moment `now` until the alarm is due; see [`Clock::alarm_due`].
+    pub fn alarm_due(&self, now: u64) -> Option<u64>
+        ensures due { IsAlarmDue self.now now result }
+        ensures bound { IfSome result (λ seconds. seconds < 2 ^ 32) }
+    {
+        Clock::from_state(self).alarm_due(now)
+    }
+
+    /// Reads at `offset` as [`Clock::read`] does, for a monitor that keeps the state itself. Returns the value read, or
+    /// `None` if the read is invalid.
+    pub fn read(&mut self, offset: u16, now: u64) -> Option<u32>
+        ensures response { result ≡ clock_response self.old (read offset now) }
+        ensures state { self.new ≡ clock_step self.old (read offset now) }
+    {
+        let mut clock = Clock::from_state(self);
+        let shown = clock.read(offset, now);
+        *self = clock.state();
+        shown
+    }
+
+    /// Writes `value` at `offset` as [`Clock::write`] does, for a monitor that keeps the state itself. Returns whether
+    /// this offset takes a write.
+    pub fn write(&mut self, offset: u16, value: u32, now: u64) -> bool
+        ensures taken { result ≡ is_writable (clock_register_at offset) }
+        ensures state { self.new ≡ clock_step self.old (write offset value now) }
+    {
+        let mut clock = Clock::from_state(self);
+        let is_taken = clock.write(offset, value, now);
+        *self = clock.state();
+        is_taken
+    }
+}
 
 impl RtcState {
     ghost use Rattle.superio_core.specs.Saved.{clock_form};

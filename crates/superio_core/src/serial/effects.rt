@@ -1,4 +1,4 @@
-//! What is left to do after a step of a serial port.
+//! What a step of a serial port leaves to do, and what a record of the step tells of how that went.
 
 /// The byte of a read, and the events to report.
 ///
@@ -34,4 +34,30 @@ pub struct EnqueueEffects {
     pub full: bool,
     /// How often to ask for the interrupt: 0 or 1 times.
     pub interrupts: u8,
+}
+
+/// The trigger's answers to the port's own calls in one call, in order.
+#[derive(Clone, Copy, Debug, PartialEq, Eq)]
+pub enum Asked {
+    /// The trigger was not called.
+    Nothing,
+    /// One call, taken.
+    Took,
+    /// One call, refused.
+    Refused,
+    /// Two calls, both taken.
+    TookTook,
+    /// Two calls: the first taken, the second refused.
+    TookRefused,
+}
+
+/// The outcome of the byte that a call sent to the writer.
+#[derive(Clone, Copy, Debug, PartialEq, Eq)]
+pub enum Sent {
+    /// The call sent no byte.
+    Nothing,
+    /// The writer took the byte.
+    Out,
+    /// The writer failed.
+    Lost,
 }

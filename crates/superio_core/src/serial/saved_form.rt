@@ -5,11 +5,10 @@ ghost use Rattle.superio_core.specs.Serial.{state_with, State};
 ghost use Rattle.superio_core.specs.Serial.Port.{state_of_port, held_bytes};
 ghost use Rattle.superio_core.specs.Saved.{serial_form, serial_fault};
 
-use super::super::fifo::{FIFO_SIZE, ReceiveFifo};
+use super::super::fifo::{FIFO_SIZE, ReceiveFifo, RxRing};
 use super::super::saved::{Error, HEADER_SIZE, SERIAL_KIND, contents_of, header};
 use super::SerialPort;
 use super::registers::{REGISTER_COUNT, Registers};
-use super::rx_ring::RxRing;
 
 /// The size of a form without received bytes: the header and the registers.
 const SAVED_MIN: usize = HEADER_SIZE + REGISTER_COUNT;

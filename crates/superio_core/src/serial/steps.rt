@@ -11,12 +11,11 @@ ghost use Rattle.superio_core.specs.Serial.Step.{rbr_read, ier_write, read_step,
 ghost use Rattle.superio_core.specs.Serial.Step.Admissible.{ier_write_calls, arrival_calls, timeout_calls, kind_calls};
 
 use super::super::fifo::ReceiveFifo;
-use super::super::trace::Asked;
 use super::bits::{
     IER_UART_VALID_BITS, IIR_FIFO_BITS, IIR_NONE_BIT, LSR_DATA_READY_BIT, has_bits, only_bits,
     with_bits, without_bits,
 };
-use super::effects::{ReadEffects, WriteEffects};
+use super::effects::{Asked, ReadEffects, WriteEffects};
 use super::registers::{Condition, Register, Registers};
 
 impl Registers {

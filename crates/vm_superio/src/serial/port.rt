@@ -11,7 +11,7 @@ ghost use Rattle.vm_superio.specs.Serial.Step.ObjectStep.{IsObjectStep, SendsThe
 
 use super::errors::Error;
 use super::objects::Objects;
-use super::state::SerialState;
+use super::saved_form::SerialState;
 use crate::fifo::Fifo;
 use std::alloc::{AllocError, Global};
 use std::io;
@@ -19,7 +19,7 @@ use std::marker::Model;
 use superio_core::fifo::{FIFO_SIZE, ReceiveFifo};
 use superio_core::serial::effects::ReadEffects;
 use superio_core::serial::registers::Registers;
-use superio_core::trace::{Asked, Sent};
+use superio_core::serial::effects::{Asked, Sent};
 
 /// A serial port over one object that plays all three roles: it raises the interrupt, takes the bytes and hears the
 /// events. Each call's contract states all calls of the object, in order.
@@ -56,10 +56,10 @@ pub struct RefusedObject<O: Objects> {
 
 /// A reply, with the trigger's answers and the outcome of the byte.
 #[derive(Drop)]
-pub(super) struct Recorded<R> {
-    pub(super) reply: R,
-    pub(super) asked: Asked,
-    pub(super) sent: Sent,
+pub(crate) struct Recorded<R> {
+    pub(crate) reply: R,
+    pub(crate) asked: Asked,
+    pub(crate) sent: Sent,
 }
 
 impl<O: Objects> Port<O> {
@@ -240,7 +240,7 @@ impl<O: Objects> Port<O> {
     }
 
     /// `write`, with the trigger's answers and the outcome of its byte.
-    pub(super) fn recorded_write(
+    pub(crate) fn recorded_write(
         &mut self,
         offset: u8,
         value: u8,
@@ -261,7 +261,7 @@ impl<O: Objects> Port<O> {
     }
 
     /// `read`, which calls no trigger and sends no byte.
-    pub(super) fn recorded_read(&mut self, offset: u8) -> Recorded<u8>
+    pub(crate) fn recorded_read(&mut self, offset: u8) -> Recorded<u8>
         ensures no_call { result.asked ≡ Asked.Nothing }
         ensures no_byte { result.sent ≡ Sent.Nothing }
         ensures step { IsObjectStep O.link (Read offset) result.asked result.sent
@@ -278,7 +278,7 @@ impl<O: Objects> Port<O> {
     }
 
     /// `enqueue_raw_bytes`, with the trigger's answers.
-    pub(super) fn recorded_enqueue(&mut self, input: &[u8]) -> Recorded<Result<usize, Error<O::E>>>
+    pub(crate) fn recorded_enqueue(&mut self, input: &[u8]) -> Recorded<Result<usize, Error<O::E>>>
         ensures no_byte { result.sent ≡ Sent.Nothing }
         ensures step { IsObjectStep O.link (Enqueue input.now) result.asked result.sent
             (enqueue_response result.reply) (refusal_in_result result.reply) None self.old self.new }
@@ -310,7 +310,7 @@ impl<O: Objects> Port<O> {
     }
 
     /// `character_timeout`, with the trigger's answers.
-    pub(super) fn recorded_timeout(&mut self) -> Recorded<Result<(), Error<O::E>>>
+    pub(crate) fn recorded_timeout(&mut self) -> Recorded<Result<(), Error<O::E>>>
         ensures no_byte { result.sent ≡ Sent.Nothing }
         ensures step { IsObjectStep O.link CharacterTimeout result.asked result.sent
             (timeout_response result.reply) (refusal_in_result result.reply) None self.old self.new }

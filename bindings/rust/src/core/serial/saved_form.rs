@@ -2,11 +2,10 @@
 // These are the lines that the prover checks, without their contracts. Change them there.
 //! The byte form of a serial port's state.
 
-use super::super::fifo::{FIFO_SIZE, ReceiveFifo};
+use super::super::fifo::{FIFO_SIZE, ReceiveFifo, RxRing};
 use super::super::saved::{Error, HEADER_SIZE, SERIAL_KIND, contents_of, header};
 use super::SerialPort;
 use super::registers::{REGISTER_COUNT, Registers};
-use super::rx_ring::RxRing;
 
 /// The size of a form without received bytes: the header and the registers.
 const SAVED_MIN: usize = HEADER_SIZE + REGISTER_COUNT;

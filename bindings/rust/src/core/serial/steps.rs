@@ -5,12 +5,11 @@
 //! interrupt to ask for, or an event to report.
 
 use super::super::fifo::ReceiveFifo;
-use super::super::trace::Asked;
 use super::bits::{
     IER_UART_VALID_BITS, IIR_FIFO_BITS, IIR_NONE_BIT, LSR_DATA_READY_BIT, has_bits, only_bits,
     with_bits, without_bits,
 };
-use super::effects::{ReadEffects, WriteEffects};
+use super::effects::{Asked, ReadEffects, WriteEffects};
 use super::registers::{Condition, Register, Registers};
 
 impl Registers {

@@ -1,7 +1,7 @@
 -- A step keeps a coherent state coherent.
 use Rattle.std.proofs.Common.{◌≡◌, ℕ, ◌+◌, ◌≤◌, Bool, true, false, not, ◌==◌, ◌&&◌, ◌||◌, List, [], ◌∷◌, ◌++◌, length, drop, refl, ap, sym, ◌∙◌, subst, length-append, length-take, length-drop, arith, if◌then◌else◌, IsTrue}
 use Rattle.superio_core.specs.Serial.Operations.{Asked, Op, Enqueue, is_refused_at_once, OpKind, RbrRead, IirRead, IerWrite, ThrWrite, Arrival, Timeout, Other}
-use Rattle.superio_core.specs.declared.trace.Asked.TheVariants.{Nothing}
+use Rattle.superio_core.specs.declared.serial.effects.Asked.TheVariants.{Nothing}
 use Rattle.superio_core.specs.Serial.{State, not_empty}
 use Rattle.superio_core.specs.Serial.RegisterMap.{Thre, Rda, identification_of, is_loopback}
 use Rattle.superio_core.specs.Bits.{has_bits, only_bits, without_bits}

@@ -1,6 +1,6 @@
 -- A state that was read is loaded, and is the clock's before any access.
 use Rattle.std.proofs.Common.{rules, ◌≡◌, ◌∙◌, [], Result, ap, sym, subst}
-use Rattle.superio_core.specs.declared.rtc_pl031.state.RtcState.{RtcState}
+use Rattle.superio_core.specs.declared.rtc_pl031.saved_form.RtcState.{RtcState}
 use Rattle.superio_core.specs.declared.saved.Error.{Error}
 use Rattle.superio_core.specs.Saved.{IsClock}
 use Rattle.superio_script.specs.ClockScript.{clock_load_reply, clock_session_state, clock_session_after_load}

@@ -3,7 +3,7 @@ use Rattle.std.proofs.Common.{◌≡◌, suc, ◌+◌, ◌<◌, [], ◌∷◌, �
 use Rattle.std.proofs.Math.Seq.{take-suc}
 use Rattle.superio_core.specs.Serial.Port.{held_bytes, ring_from}
 use Rattle.superio_core.proofs.Lemmas.Serial.{take-ring-set}
-use Rattle.superio_core.proofs.serial.rx_ring.RxRingReceiveFifo.fill.Goals as goal
+use Rattle.superio_core.proofs.fifo.RxRingReceiveFifo.fill.Goals as goal
 
 pub loop-i-preserved : goal.loop-i-preserved
 loop-i-preserved c =

@@ -2,7 +2,7 @@
 use Rattle.std.proofs.Common.{◌≡◌, ◌-◌, ◌<◌, ◌%◌, suc, min, length, take, drop, get_or, Some, slice_get, sym, ap, ◌∙◌, arith}
 use Rattle.superio_core.specs.Serial.Port.{ring_from}
 use Rattle.superio_core.proofs.Lemmas.Serial.{take-ring-rest, ring-first}
-use Rattle.superio_core.proofs.serial.rx_ring.RxRingReceiveFifo.take_first.Goals as goal
+use Rattle.superio_core.proofs.fifo.RxRingReceiveFifo.take_first.Goals as goal
 
 pub returns-clause-byte : goal.returns-clause-byte
 returns-clause-byte c =

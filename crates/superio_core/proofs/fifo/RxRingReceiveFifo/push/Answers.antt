@@ -2,7 +2,7 @@
 use Rattle.std.proofs.Common.{◌≡◌, ◌+◌, ◌-◌, ◌<◌, ◌≤◌, min, [], ◌∷◌, ◌++◌, length, take, slice_set, sym, ap, ◌∙◌, arith, length-take, take_all}
 use Rattle.superio_core.specs.Serial.Port.{held_bytes, ring_from}
 use Rattle.superio_core.proofs.Lemmas.Serial.{take-ring-set}
-use Rattle.superio_core.proofs.serial.rx_ring.RxRingReceiveFifo.push.Goals as goal
+use Rattle.superio_core.proofs.fifo.RxRingReceiveFifo.push.Goals as goal
 
 pub returns-clause-added : goal.returns-clause-added
 returns-clause-added c =

@@ -1,7 +1,7 @@
 -- The bytes so far follow those that were held.
 use Rattle.std.proofs.Common.{◌≡◌, ◌+◌, ◌++◌, length, take}
 use Rattle.superio_core.specs.Serial.Port.{held_bytes, ring_from}
-use Rattle.superio_core.proofs.serial.rx_ring.RxRingReceiveFifo.fill.Given as goal
+use Rattle.superio_core.proofs.fifo.RxRingReceiveFifo.fill.Given as goal
 
 abbrev pub invariant-loop-i : goal.invariant-loop-i
 invariant-loop-i l = record {
