@@ -1,5 +1,6 @@
 """Scripts and recorded traces: what the package replies, and how traces are searched, listed and drawn."""
 import io
+import lzma
 import re
 import unittest
 from contextlib import redirect_stderr
@@ -182,6 +183,13 @@ class Traces(FolderTest):
             self.assertEqual((0, rows or output.count("\n"), ""), (status, output.count("\n"), errors))
             self.assertNotIn("recorded:", output)
             self.assertIn(row, output)
+
+    def test_bytes_that_linux_leaves(self):
+        """In its paste it reads that nothing is pending, and leaves bytes. Each time a timeout interrupts it again."""
+        steps = list(replay("trace", lzma.decompress(WITH_INPUT.read_bytes()).splitlines(keepends=True)))
+        left = [len(then.call.before.serial.in_buffer) for step, then in zip(steps, steps[1:])
+                if (step.call.command.values, step.call.reply) == ((2,), "c1") and then.call.answers == (True,)]
+        self.assertEqual([17] * 15, left)
 
     def test_a_damaged_recording(self):
         for packed in (RECORDING.read_bytes()[:-100], TRACE):
