@@ -1,14 +1,18 @@
-"""Cargo without a network: in copies of bindings/rust, and for programs of tools over it."""
+"""Cargo without a network, in copies of bindings/rust and for programs of tools over it, and which of the installed
+toolchains of Rust can build for a target."""
 import os
 import re
 import shutil
 import subprocess
 from pathlib import Path
+from typing import NamedTuple
 
 ROOT = Path(__file__).resolve().parents[2]
 BINDINGS, COMPARISON = ROOT / "bindings" / "rust", ROOT / "tools" / "compare"
 # The folder of vm-superio 0.8.2.
 ORIGINAL = Path(os.environ["VM_SUPERIO"]).resolve() if "VM_SUPERIO" in os.environ else None
+# Debian's compiler, beside which another may come first in PATH.
+DEBIAN_RUSTC = Path("/usr/bin/rustc")
 # Most is built once, and nothing is debugged.
 SETTINGS = {"CARGO_INCREMENTAL": "0", "CARGO_PROFILE_DEV_DEBUG": "0", "CARGO_NET_OFFLINE": "true"}
 # A program over bindings/rust or, without the feature, over a vm-superio, which it takes by the line of the README.
@@ -26,6 +30,34 @@ vm-superio = {{ path = "{2}" }}
 codegen-units = 1
 overflow-checks = true
 """
+
+
+class Toolchain(NamedTuple):
+    """The compiler of a toolchain, the Cargo beside it, and its version."""
+    rustc: str
+    cargo: str
+    version: str
+
+    def environment(self, **more):
+        return {**os.environ, "RUSTC": self.rustc, "RUSTDOC": str(Path(self.rustc).with_name("rustdoc")), **more}
+
+
+def toolchains():
+    """The toolchains, the one of PATH first."""
+    for rustc in dict.fromkeys((shutil.which("rustc"), str(DEBIAN_RUSTC))):
+        cargo = Path(rustc or "nowhere").with_name("cargo")
+        if cargo.is_file():
+            said = subprocess.run([rustc, "--version"], capture_output=True, text=True)
+            yield Toolchain(rustc, str(cargo), said.stdout.split()[1])
+
+
+def toolchain_for(target):
+    """The first toolchain that has the libraries of a target, or `None`."""
+    for found in toolchains():
+        words = [found.rustc, "--print", "target-libdir", "--target", target]
+        if Path(subprocess.run(words, capture_output=True, text=True).stdout.strip() or "none").is_dir():
+            return found
+    return None
 
 
 def lacking():
