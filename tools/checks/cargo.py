@@ -17,6 +17,9 @@ DEBIAN_RUSTC = Path("/usr/bin/rustc")
 SETTINGS = {"CARGO_INCREMENTAL": "0", "CARGO_PROFILE_DEV_DEBUG": "0", "CARGO_NET_OFFLINE": "true"}
 # A program over bindings/rust or, without the feature, over a vm-superio, which it takes by the line of the README.
 PROGRAM = """
+[lib]
+name = "objects"
+path = "{1}/objects.rs"
 [[bin]]
 name = "{0}"
 path = "{1}/{0}.rs"

@@ -3,14 +3,12 @@
 //! ` = ` does not count. What the crate does not have is `no call`.
 #[cfg(feature = "further")]
 mod further;
-mod moment;
-mod objects;
 
 use std::io::{self, BufRead};
 use std::panic::{AssertUnwindSafe, catch_unwind};
 use std::sync::Arc;
 
-use objects::Object;
+use objects::{Object, set_moment};
 use superio::I8042Device;
 use superio::rtc_pl031::{Rtc, RtcState};
 use superio::serial::{Error, Serial, SerialState};
@@ -59,13 +57,13 @@ impl Devices {
             ["ss"] => self.restore(&self.serial.state()),
             ["sl", registers, bytes] => self.restore(&port_of(&bytes_of(registers), bytes_of(bytes))),
             ["cr", moment, offset] => {
-                moment::set(number(moment));
+                set_moment(number(moment));
                 let mut bytes = [0xA5; 4]; // which an invalid read leaves as they were
                 self.clock.read(number(offset) as u16, &mut bytes);
                 Ok(format!("{:08x}", u32::from_le_bytes(bytes)))
             }
             ["cw", moment, offset, value] => {
-                moment::set(number(moment));
+                set_moment(number(moment));
                 self.clock.write(number(offset) as u16, &(number(value) as u32).to_le_bytes());
                 Ok("ok".into())
             }
