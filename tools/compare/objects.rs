@@ -36,7 +36,7 @@ pub struct Object {
 }
 
 impl Object {
-    /// Whether a word says how objects behave, as those of tests/calls/README.md do, or such as `p2`: the call of an
+    /// Whether a word says how objects behave, as those of tests/README.md do, or such as `p2`: the call of an
     /// object panics that comes after two others.
     pub fn obeys(word: &&str) -> bool {
         matches!(*word, "1" | "2" | "n" | "i" | "f" | "u") || word.starts_with('p')
