@@ -1,12 +1,10 @@
-"""The recorded calls of tests/calls over the package, and those that tools/checks/cases.py makes up."""
-import lzma
+"""The recorded calls of tests/calls over the package, and those that tools/checks/lines.py makes up."""
 import re
 import unittest
 
-from support import ROOT
+import support  # noqa: F401, which finds the modules of tools
 
-from cases import every_answer
-from expected import recording_of
+from lines import every_answer, recording_of, recordings
 
 from superio import I8042, Rtc, RtcState, Serial, SerialState
 from superio.board import without_thre
@@ -115,10 +113,9 @@ class Calls(unittest.TestCase):
             self.assertEqual(of_device(reply), devices.reply(call), call)
 
     def test_recorded_calls(self):
-        for path in (ROOT / "tests" / "calls").glob("*.txt*"):
-            data = path.read_bytes()
-            with self.subTest(path.name):
-                self.compare((lzma.decompress(data) if path.suffix == ".xz" else data).decode())
+        for name, recording in recordings().items():
+            with self.subTest(name):
+                self.compare(recording)
 
     def test_every_answer(self):
         self.compare(recording_of(every_answer()))
