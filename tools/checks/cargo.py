@@ -7,6 +7,8 @@ import subprocess
 from pathlib import Path
 from typing import NamedTuple
 
+from tally import run
+
 ROOT = Path(__file__).resolve().parents[2]
 BINDINGS, COMPARISON = ROOT / "bindings" / "rust", ROOT / "tools" / "compare"
 # The folder of vm-superio 0.8.2.
@@ -129,6 +131,6 @@ class Comparison(Cargo):
         return self.run("build", "--release", "--quiet", *self.features, **environment)
 
     def make(self, calls):
-        """Makes calls. Returns each with what it did."""
-        ran = subprocess.run([self.program], input="\n".join(calls), stdout=subprocess.PIPE, text=True, check=True)
-        return ran.stdout.splitlines()
+        """Makes calls. Returns each with what it did and, if the program failed, its status."""
+        ran = run([self.program], input="\n".join(calls))
+        return ran.stdout.splitlines() + [f"status {ran.returncode}"] * (ran.returncode != 0)
