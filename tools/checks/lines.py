@@ -5,13 +5,12 @@ import lzma
 import random
 import re
 from itertools import count, product
-from pathlib import Path
 from struct import Struct
 from typing import Callable, Dict, NamedTuple
 
 from oracle import FIFO_SIZE, FRESH, Clock, Port, start_fact
+from program import ROOT, commit
 
-RECORDED = Path(__file__).resolve().parents[2] / "tests" / "calls"
 ROOM = 256                # bytes that the output of a script's board takes
 MOST_LINES, RUN = 36, 40  # of a random script, and calls of a random run
 # The kinds of saved states, and the fields of a clock's.
@@ -151,9 +150,9 @@ class Line(NamedTuple):
 # of scripts, and those of recorded calls.
 SHARED = {
     "sr": Line("HH", lambda it, offset: it.port.read(offset), {"PLACE": 3, "00": 3, "02": 3, "BYTE": 1}),
-    "sw": Line("HH HH", lambda it, offset, value: it.port.write(offset, value),
-               {"00 BYTE": 3, "01 01": 1, "01 02": 1, "01 03": 1, "03 03": 1, "03 80": 1, "04 08": 1, "04 1b": 1,
-                "PLACE BYTE": 2}),
+    "sw": Line("HH HH", lambda it, *write: it.port.write(*write), {
+        "00 BYTE": 3, "01 01": 1, "01 02": 1, "01 03": 1, "03 03": 1, "03 80": 1, "04 08": 1, "04 1b": 1,
+        "PLACE BYTE": 2}),
     "sq": Line("HH..", lambda it, data=b"": it.port.enqueue(data), {"BYTES": 3}),
     "si": Line("", lambda it: it.port.character_timeout(), {"": 2}),
     "sc": Line("", lambda it: f"{it.port.room():02x}", {"": 1}),
@@ -204,7 +203,7 @@ def script_replies(script):
 def recordings(*paths):
     """The recordings of these files, or of those in tests/calls, by their names."""
     found = {}
-    for path in paths or sorted(RECORDED.glob("*.txt*")):
+    for path in paths or sorted((ROOT / "tests" / "calls").glob("*.txt*")):
         with (lzma.open if path.suffix == ".xz" else open)(path, "rt", encoding="ascii") as file:
             found[path.name] = file.read()
     return found
@@ -285,14 +284,16 @@ def random_script(source):
     return source.choice((*[script] * 21, before, before + byte + after, before + after))
 
 
-def random_scripts(what, seed, number):
-    """So many random scripts, each with a name. More of them leave the first as they are."""
+def random_scripts(what, number):
+    """So many random scripts, each with a name. More of them leave the first as they are. Each commit has others."""
+    seed = commit()
     for place in range(number):
         yield f"{what} {place} of seed {seed}", random_script(random.Random(f"{what} {place} {seed}"))
 
 
-def random_calls(seed):
-    """Recorded calls without an end, in which objects refuse or fail, or do not: runs, each from a state on."""
+def random_calls(seed=None):
+    """Recorded calls without an end: runs, each from a state on. Without a seed each commit has others."""
+    seed = seed or commit()
     for place in count():
         source = random.Random(f"{place} {seed}")
         (_, start, table, words), = source.choices(RUNS, [often for often, *_ in RUNS])

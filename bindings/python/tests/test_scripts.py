@@ -8,7 +8,6 @@ from xml.etree import ElementTree
 from support import ROOT, FolderTest, run
 
 from lines import random_scripts, script_replies
-from program import seed_of
 from script_tests import scripts_of
 
 from superio import Board, ScriptError, parse
@@ -55,7 +54,7 @@ class Scripts(unittest.TestCase):
 
     def test_random_scripts_do_what_a_search_of_the_past_says(self):
         """One of eight is broken. Each commit has others."""
-        for name, script in random_scripts("python", seed_of(ROOT), RANDOM_SCRIPTS):
+        for name, script in random_scripts("python", RANDOM_SCRIPTS):
             replies, end = script_replies(script)
             expected = bool(end), "".join(f"{reply}\n" for reply in replies).encode(), f"{end}\n".lstrip().encode()
             self.assertEqual(expected, run_board(script.encode("latin-1")), name)
