@@ -132,5 +132,5 @@ class Comparison(Cargo):
 
     def make(self, calls):
         """Makes calls. Returns each with what it did and, if the program failed, its status."""
-        ran = run([self.program], input="\n".join(calls))
+        ran = run([self.program], input="\n".join(calls), stderr=None)  # to which panics of vm-superio write
         return ran.stdout.splitlines() + [f"status {ran.returncode}"] * (ran.returncode != 0)
