@@ -291,11 +291,11 @@ def random_scripts(what, number):
         yield f"{what} {place} of seed {seed}", random_script(random.Random(f"{what} {place} {seed}"))
 
 
-def random_calls(seed=None):
+def random_calls(what, seed=None):
     """Recorded calls without an end: runs, each from a state on. Without a seed each commit has others."""
     seed = seed or commit()
     for place in count():
-        source = random.Random(f"{place} {seed}")
+        source = random.Random(f"{what} {place} {seed}")
         (_, start, table, words), = source.choices(RUNS, [often for often, *_ in RUNS])
         calls = source.choices([*table], table.values(), k=RUN)
         yield from (drawn(source, call).rstrip() for call in (*start, *(call + words for call in calls)))
