@@ -1,18 +1,27 @@
-"""Cargo without a network: in copies of bindings/rust, and for programs of tools over it."""
+"""Cargo without a network, in copies of bindings/rust and for programs of tools over it, and which of the installed
+toolchains of Rust can build for a target."""
 import os
 import re
 import shutil
 import subprocess
 from pathlib import Path
+from typing import NamedTuple
+
+from tally import run
 
 ROOT = Path(__file__).resolve().parents[2]
 BINDINGS, COMPARISON = ROOT / "bindings" / "rust", ROOT / "tools" / "compare"
 # The folder of vm-superio 0.8.2.
 ORIGINAL = Path(os.environ["VM_SUPERIO"]).resolve() if "VM_SUPERIO" in os.environ else None
+# Debian's compiler, beside which another may come first in PATH.
+DEBIAN_RUSTC = Path("/usr/bin/rustc")
 # Most is built once, and nothing is debugged.
 SETTINGS = {"CARGO_INCREMENTAL": "0", "CARGO_PROFILE_DEV_DEBUG": "0", "CARGO_NET_OFFLINE": "true"}
 # A program over bindings/rust or, without the feature, over a vm-superio, which it takes by the line of the README.
 PROGRAM = """
+[lib]
+name = "objects"
+path = "{1}/objects.rs"
 [[bin]]
 name = "{0}"
 path = "{1}/{0}.rs"
@@ -26,6 +35,34 @@ vm-superio = {{ path = "{2}" }}
 codegen-units = 1
 overflow-checks = true
 """
+
+
+class Toolchain(NamedTuple):
+    """The compiler of a toolchain, the Cargo beside it, and its version."""
+    rustc: str
+    cargo: str
+    version: str
+
+    def environment(self, **more):
+        return {**os.environ, "RUSTC": self.rustc, "RUSTDOC": str(Path(self.rustc).with_name("rustdoc")), **more}
+
+
+def toolchains():
+    """The toolchains, the one of PATH first."""
+    for rustc in dict.fromkeys((shutil.which("rustc"), str(DEBIAN_RUSTC))):
+        cargo = Path(rustc or "nowhere").with_name("cargo")
+        if cargo.is_file():
+            said = subprocess.run([rustc, "--version"], capture_output=True, text=True)
+            yield Toolchain(rustc, str(cargo), said.stdout.split()[1])
+
+
+def toolchain_for(target):
+    """The first toolchain that has the libraries of a target, or `None`."""
+    for found in toolchains():
+        words = [found.rustc, "--print", "target-libdir", "--target", target]
+        if Path(subprocess.run(words, capture_output=True, text=True).stdout.strip() or "none").is_dir():
+            return found
+    return None
 
 
 def lacking():
@@ -94,6 +131,6 @@ class Comparison(Cargo):
         return self.run("build", "--release", "--quiet", *self.features, **environment)
 
     def make(self, calls):
-        """Makes calls. Returns each with what it did."""
-        ran = subprocess.run([self.program], input="\n".join(calls), stdout=subprocess.PIPE, text=True, check=True)
-        return ran.stdout.splitlines()
+        """Makes calls. Returns each with what it did and, if the program failed, its status."""
+        ran = run([self.program], input="\n".join(calls), stderr=None)  # to which panics of vm-superio write
+        return ran.stdout.splitlines() + [f"status {ran.returncode}"] * (ran.returncode != 0)

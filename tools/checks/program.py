@@ -64,10 +64,10 @@ def run_all(program, scripts, *arguments):
         yield from pool.map(lambda script: run(program, script, *arguments), scripts)
 
 
-def seed_of(root):
-    """The commit, so that each commit tries other cases and can try its own again. Without one, as in a release: ''."""
+def commit():
+    """The commit, so that each tries other cases and can try its own again. Without one, as in a release: ''."""
     try:
-        return subprocess.run(["git", "rev-parse", "HEAD"], cwd=root, capture_output=True, text=True).stdout.strip()
+        return subprocess.run(["git", "rev-parse", "HEAD"], cwd=ROOT, capture_output=True, text=True).stdout.strip()
     except OSError:
         return ""
 

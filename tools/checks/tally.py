@@ -50,10 +50,10 @@ def sum_line(passed, failed, skipped=0):
 
 
 def run(command, timeout=LIMIT, **options):
-    """Runs a command, and gives its status and all that it printed."""
-    options.update(stdout=subprocess.PIPE, stderr=subprocess.STDOUT, text=True, errors="replace", timeout=timeout)
+    """Runs a command, and gives its status and all that it printed, or without errors if these go elsewhere."""
+    options = {"stderr": subprocess.STDOUT, **options}
     try:
-        return subprocess.run(command, **options)
+        return subprocess.run(command, stdout=subprocess.PIPE, text=True, errors="replace", timeout=timeout, **options)
     except subprocess.TimeoutExpired:
         return subprocess.CompletedProcess(command, -1, f"{command[0]} had not ended after {timeout} seconds\n")
 

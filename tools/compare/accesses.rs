@@ -6,11 +6,10 @@ use std::env;
 use std::hint::black_box;
 use std::io::{Sink, sink};
 
+use objects::set_moment;
 use superio::rtc_pl031;
 use superio::serial::{NoEvents, Serial};
 use superio::{I8042Device, Rtc, Trigger};
-
-mod moment;
 
 /// Counts its calls, and refuses none.
 #[derive(Debug, Default)]
@@ -75,7 +74,7 @@ fn accesses_of(words: String) -> Vec<[u8; 3]> {
 
 fn main() {
     let [once, repeated] = [1, 2].map(|place| accesses_of(env::args().nth(place).expect("two arguments")));
-    moment::set(1_000);
+    set_moment(1_000);
     let mut board = Board {
         serial: Serial::new(Counter::default(), sink()),
         clock: Rtc::new(),

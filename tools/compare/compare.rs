@@ -1,16 +1,14 @@
 //! Makes the calls of standard input on the devices of bindings/rust, or of the Rust crate vm-superio 0.8.2, and prints
-//! each with what it did. They are lines of text in the form of tests/calls/README.md, of which what stands behind
+//! each with what it did. They are lines of text in the form of tests/README.md, of which what stands behind
 //! ` = ` does not count. What the crate does not have is `no call`.
 #[cfg(feature = "further")]
 mod further;
-mod moment;
-mod objects;
 
 use std::io::{self, BufRead};
 use std::panic::{AssertUnwindSafe, catch_unwind};
 use std::sync::Arc;
 
-use objects::Object;
+use objects::{Object, set_moment};
 use superio::I8042Device;
 use superio::rtc_pl031::{Rtc, RtcState};
 use superio::serial::{Error, Serial, SerialState};
@@ -59,13 +57,13 @@ impl Devices {
             ["ss"] => self.restore(&self.serial.state()),
             ["sl", registers, bytes] => self.restore(&port_of(&bytes_of(registers), bytes_of(bytes))),
             ["cr", moment, offset] => {
-                moment::set(number(moment));
+                set_moment(number(moment));
                 let mut bytes = [0xA5; 4]; // which an invalid read leaves as they were
                 self.clock.read(number(offset) as u16, &mut bytes);
                 Ok(format!("{:08x}", u32::from_le_bytes(bytes)))
             }
             ["cw", moment, offset, value] => {
-                moment::set(number(moment));
+                set_moment(number(moment));
                 self.clock.write(number(offset) as u16, &(number(value) as u32).to_le_bytes());
                 Ok("ok".into())
             }

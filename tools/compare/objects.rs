@@ -1,12 +1,32 @@
-//! The trigger, the events object and the writer of all devices in one, which behaves as a call says, and keeps a log.
+//! What the devices of the programs here call: the host's clock, and an object that is the trigger, the events object
+//! and the writer in one, behaves as a call says, and keeps a log.
 use std::cell::RefCell;
 use std::io::{self, ErrorKind, Write};
 use std::panic;
 use std::rc::Rc;
+use std::sync::atomic::{AtomicU64, Ordering};
 
 use superio::Trigger;
 use superio::rtc_pl031::RtcEvents;
 use superio::serial::SerialEvents;
+
+static MOMENT: AtomicU64 = AtomicU64::new(0);
+
+/// Sets the moment that the clock sees, in seconds since the start of 1970. The clock looks at its low 32 bits.
+pub fn set_moment(moment: u64) {
+    MOMENT.store(moment & u64::MAX >> 1, Ordering::Relaxed);
+}
+
+/// Takes the place of the C function by which Rust's library finds `SystemTime::now()`, for which the clock asks.
+///
+/// # Safety
+///
+/// Two numbers of 64 bits can be written to `time`, as on 64-bit Linux.
+#[no_mangle]
+unsafe extern "C" fn clock_gettime(_clock: i32, time: *mut [u64; 2]) -> i32 {
+    time.write([MOMENT.load(Ordering::Relaxed), 0]);
+    0
+}
 
 /// The words of a behaviour, and the signs of the calls in which an object was asked.
 #[derive(Clone, Debug, Default)]
@@ -16,7 +36,7 @@ pub struct Object {
 }
 
 impl Object {
-    /// Whether a word says how objects behave, as those of tests/calls/README.md do, or such as `p2`: the call of an
+    /// Whether a word says how objects behave, as those of tests/README.md do, or such as `p2`: the call of an
     /// object panics that comes after two others.
     pub fn obeys(word: &&str) -> bool {
         matches!(*word, "1" | "2" | "n" | "i" | "f" | "u") || word.starts_with('p')

@@ -16,17 +16,17 @@ from pathlib import Path
 
 ROOT = Path(__file__).resolve().parent.parent.parent
 sys.path[:0] = [str(ROOT / "tools" / "checks"), str(ROOT / "tools" / "c"), str(ROOT / "bindings" / "python")]
+from cargo import DEBIAN_RUSTC  # noqa: E402
 from libraries import PREBUILT, replace_lines, source_line, sums_of  # noqa: E402
 from superio.library import ABI, RTC_SAVED_SIZE, RtcStruct  # noqa: E402
 from superio.registers import CLOCK, SERIAL, RtcState  # noqa: E402
 from superio.saved import LoadStatus  # noqa: E402
 from tally import run, takes_no_argument  # noqa: E402
-from toolchains import DEBIAN  # noqa: E402
 
 TARGET, MODULE, SOURCES = "wasm32-unknown-unknown", "wasm32/superio.wasm", "bindings/rust/capi/src"
 EMBEDDED = ROOT / "bindings" / "js" / "module.mjs"
 # The compiler whose bytes the repository holds, the library of its target, and Debian's packages that have them.
-VERSION, LIBRARY = "rustc 1.63.0\n", DEBIAN.parents[1] / "lib" / "rustlib" / TARGET
+VERSION, LIBRARY = "rustc 1.63.0\n", DEBIAN_RUSTC.parents[1] / "lib" / "rustlib" / TARGET
 PACKAGES = "Debian 12's rustc, libstd-rust-dev-wasm32 and lld"
 # A small stack, and memory for a device and the longest bytes that a call can be passed. The paths in the module are
 # those below the top of the repository, so that its bytes are the same in any folder.
@@ -38,13 +38,13 @@ KINDS = {ctypes.c_uint32: "Uint32", ctypes.c_int64: "BigInt64", ctypes.c_uint64:
 
 def has_compiler():
     """Whether the compiler of these bytes, its library for the target and the linker are there."""
-    is_there = DEBIAN.exists() and LIBRARY.is_dir() and shutil.which("wasm-ld")
-    return bool(is_there) and run([DEBIAN, "--version"]).stdout == VERSION
+    is_there = DEBIAN_RUSTC.exists() and LIBRARY.is_dir() and shutil.which("wasm-ld")
+    return bool(is_there) and run([DEBIAN_RUSTC, "--version"]).stdout == VERSION
 
 
 def build(place):
     """Builds the module. Gives the compiler's status and what it printed."""
-    return run([DEBIAN, *OPTIONS, "--target", TARGET, "-o", place, f"{SOURCES}/lib.rs"], cwd=ROOT)
+    return run([DEBIAN_RUSTC, *OPTIONS, "--target", TARGET, "-o", place, f"{SOURCES}/lib.rs"], cwd=ROOT)
 
 
 def tables():

@@ -1,6 +1,6 @@
 /**
- * The board that the lines of a script drive: three devices, an interrupt line and an output of 256 bytes. It replies
- * to each line as the program `superio` does; docs/SCRIPT.md has the forms.
+ * The lines of a script, and the board that they drive: three devices, an interrupt line and an output of 256 bytes. It
+ * replies to each line as the program `superio` does; docs/SCRIPT.md has the forms.
  */
 import { I8042, Rtc, SavedStateError, Serial } from "../superio.mjs";
 
@@ -14,11 +14,46 @@ export const hex = (value, digits) => value.toString(16).padStart(digits, "0");
 export const hexOf = (bytes) => Array.from(bytes, (one) => hex(one, 2)).join("");
 export const bytesOf = (digits) => Uint8Array.from(digits.match(/../g) ?? [], (two) => parseInt(two, 16));
 
-// The fields of each line: how many digits each has, or BYTES for 0 to 128 bytes of two digits each.
+const controller = new I8042();
+// How many digits each field of a line has, or BYTES for 0 to 128 bytes of two digits each; what a board replies to the
+// values of these; and the rule with the heading of docs/DEVICES.md where it stands, unless a register has the rule.
 const BYTES = 0;
-const FORMS = {
-  refuse: [16], sr: [2], sw: [2, 2], sq: [BYTES], si: [], sc: [], sd: [], ss: [], sb: [], sl: [BYTES], so: [], st: [],
-  se: [], cr: [16, 4], cw: [16, 4, 8], cb: [], cl: [BYTES], kr: [2], kw: [2, 2],
+export const LINES = {
+  refuse: { fields: [16], reply: (board, mask) => { board.mask = mask; return null; } },
+  sr: { fields: [2], reply: (board, offset) => hex(board.read(offset), 2) },
+  sw: { fields: [2, 2], reply: (board, offset, value) => board.write(offset, value) },
+  sq: { fields: [BYTES], reply: (board, bytes) => board.enqueue(bytes),
+    rule: ["Bytes arrive for the guest: as many of the first as fit, and in loopback none. They raise RDA.",
+      "reading-and-writing-data"] },
+  si: { fields: [], reply: (board) => board.ask(board.serial.characterTimeout()) ? "ok" : "trigger",
+    rule: ["A character timeout raises RDA again for bytes that are held, if IER enables it and it is not pending.",
+      "the-character-timeout"] },
+  sc: { fields: [], reply: (board) => hex(board.serial.fifoCapacity(), 2) },
+  sd: { fields: [], reply: (board) => board.drain(),
+    rule: ["The guest's driver reads RBR while LSR shows data ready.", "reading-and-writing-data"] },
+  ss: { fields: [], reply: (board) => board.restore(Serial.fromState(board.serial.state)),
+    rule: ["A restore asks for the interrupt once for each condition that is pending and enabled. If that is " +
+      "refused, the old port stays.", "saving-and-restoring"] },
+  sb: { fields: [], reply: (board) => hexOf(board.serial.toBytes()),
+    rule: ["A port is saved as its nine registers and the held bytes. No byte that the guest has read is in it.",
+      "saving-and-restoring"] },
+  sl: { fields: [BYTES], reply: (board, bytes) => loaded(Serial, bytes, (port) => board.restore(port)),
+    rule: ["A saved state is taken unchanged. The restore then asks for each condition that is pending and enabled.",
+      "saving-and-restoring"] },
+  so: { fields: [], reply: (board) => hexOf(Array.from(board.output, (one) => one.charCodeAt(0))) },
+  st: { fields: [], reply: (board) => hex(board.asked, 16) },
+  se: { fields: [], reply: (board) => Object.values(board.counts).map((count) => hex(count, 16)).join(" ") },
+  cr: { fields: [16, 4], reply: (board, now, offset) => board.readClock(now, offset) },
+  cw: { fields: [16, 4, 8],
+    reply: (board, now, offset, value) => board.clock.write(offset, value, now).invalidWrite ? "invalid" : "ok" },
+  cb: { fields: [], reply: (board) => hexOf(board.clock.toBytes()),
+    rule: ["A clock is saved as its registers, its offset and its alarm.", "the-clock"] },
+  cl: { fields: [BYTES], reply: (board, bytes) => loaded(Rtc, bytes, (clock) => { board.clock = clock; return "ok"; }),
+    rule: ["Any numbers may be restored, and reads show them.", "the-clock"] },
+  kr: { fields: [2], reply: (_, offset) => hex(controller.read(offset), 2),
+    rule: ["Every read of the controller gives 0.", "the-reset-controller"] },
+  kw: { fields: [2, 2], reply: (_, offset, value) => controller.write(offset, value).resets ? "reset" : "ok",
+    rule: ["0xFE at offset 4 resets the machine. Any other write has no effect.", "the-reset-controller"] },
 };
 const FIELDS = new Map([[BYTES, /^([0-9A-Fa-f]{2}){1,128}$/], ...[2, 4, 8, 16].map((digits) =>
   [digits, new RegExp(`^[0-9A-Fa-f]{${digits}}$`)])]);
@@ -31,19 +66,19 @@ function valueOf(digits, text) {
 /** The command of a line, without its LF, or null if the line has no form. `refuse` is a form for the first line. */
 export function parse(line, isFirst = false) {
   const [name, ...texts] = line.split(" ");
-  const forms = Object.hasOwn(FORMS, name) ? FORMS[name] : null;
-  if (!forms || (name === "refuse" && !isFirst)) return null;
-  if (forms[0] === BYTES && !texts.length) return { name, values: [new Uint8Array()] };
-  if (texts.length !== forms.length || !texts.every((text, place) => FIELDS.get(forms[place]).test(text))) return null;
-  return { name, values: texts.map((text, place) => valueOf(forms[place], text)) };
+  if (!Object.hasOwn(LINES, name) || (name === "refuse" && !isFirst)) return null;
+  const { fields } = LINES[name];
+  if (fields[0] === BYTES && !texts.length) return { name, values: [new Uint8Array()] };
+  if (texts.length !== fields.length || !texts.every((text, at) => FIELDS.get(fields[at]).test(text))) return null;
+  return { name, values: texts.map((text, place) => valueOf(fields[place], text)) };
 }
 
 /** Why a line has no form, as a sentence. */
 export function formOf(line) {
   const [name] = line.split(" ");
   if (name === "refuse") return "refuse is for the first line, with 16 hexadecimal digits.";
-  if (!Object.hasOwn(FORMS, name)) return `No line of a script begins with "${name}".`;
-  const fields = FORMS[name].map((digits) => digits === BYTES ? "up to 128 bytes of two hexadecimal digits" :
+  if (!Object.hasOwn(LINES, name)) return `No line of a script begins with "${name}".`;
+  const fields = LINES[name].fields.map((digits) => digits === BYTES ? "up to 128 bytes of two hexadecimal digits" :
     `${digits} hexadecimal digits`);
   return `${name} takes ${fields.join(", then ") || "nothing"}${fields.length ? ", after one space each" : ""}.`;
 }
@@ -81,7 +116,7 @@ export class Board {
   /** Carries out a command. Returns the line that a script prints for it, or null if none. */
   reply({ name, values }) {
     Object.assign(this, { answers: [], isLost: false, isReadEmpty: false });
-    return REPLIES[name].apply(this, values);
+    return LINES[name].reply(this, ...values);
   }
 
   /** Asks for the interrupt that often, up to a refusal. Returns whether there was none. */
@@ -138,10 +173,21 @@ export class Board {
     this.counts[this.isLost ? "txLostByte" : "outByte"] += 1;
   }
 
+  enqueue(bytes) {
+    const done = this.serial.enqueue(bytes);
+    const isTaken = this.ask(done.interrupts);
+    return done.full ? "full" : isTaken ? hex(done.taken, 2) : "trigger";
+  }
+
   drain() {
     const drained = [];
     if (!(this.read(3) & 0x80)) while (this.read(5) & 0x01) drained.push(this.read(0));
     return hexOf(drained);
+  }
+
+  readClock(now, offset) {
+    const done = this.clock.read(offset, now);
+    return done.invalidRead ? "invalid" : hex(done.value, 8);
   }
 
   /** Puts a port in the place of this one, if the line takes its calls. If it does not, they do not count. */
@@ -165,36 +211,6 @@ function loaded(device, bytes, use) {
     return error.status === "unknown version" ? `${error.status} ${hex(bytes[5], 2)}` : error.status;
   }
 }
-
-const controller = new I8042();
-const REPLIES = {
-  refuse(mask) { this.mask = mask; return null; },
-  sr(offset) { return hex(this.read(offset), 2); },
-  sw(offset, value) { return this.write(offset, value); },
-  sq(bytes) {
-    const done = this.serial.enqueue(bytes);
-    const isTaken = this.ask(done.interrupts);
-    return done.full ? "full" : isTaken ? hex(done.taken, 2) : "trigger";
-  },
-  si() { return this.ask(this.serial.characterTimeout()) ? "ok" : "trigger"; },
-  sc() { return hex(this.serial.fifoCapacity(), 2); },
-  sd() { return this.drain(); },
-  ss() { return this.restore(Serial.fromState(this.serial.state)); },
-  sb() { return hexOf(this.serial.toBytes()); },
-  sl(bytes) { return loaded(Serial, bytes, (port) => this.restore(port)); },
-  so() { return hexOf(Array.from(this.output, (character) => character.charCodeAt(0))); },
-  st() { return hex(this.asked, 16); },
-  se() { return Object.values(this.counts).map((count) => hex(count, 16)).join(" "); },
-  cr(now, offset) {
-    const done = this.clock.read(offset, now);
-    return done.invalidRead ? "invalid" : hex(done.value, 8);
-  },
-  cw(now, offset, value) { return this.clock.write(offset, value, now).invalidWrite ? "invalid" : "ok"; },
-  cb() { return hexOf(this.clock.toBytes()); },
-  cl(bytes) { return loaded(Rtc, bytes, (clock) => { this.clock = clock; return "ok"; }); },
-  kr(offset) { return hex(controller.read(offset), 2); },
-  kw(offset, value) { return controller.write(offset, value).resets ? "reset" : "ok"; },
-};
 
 /** What the program prints for a script of these characters, one for each byte, and how its run ends. */
 export function runScript(script) {

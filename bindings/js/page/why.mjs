@@ -1,6 +1,6 @@
 /** What a call did and by which rule, in sentences. docs/DEVICES.md has the rules, and a sentence names its part. */
 import { SERIAL, clockRegister, serialRegister } from "../registers.mjs";
-import { hex } from "./board.mjs";
+import { LINES, hex } from "./board.mjs";
 
 /** The registers to which a write changes nothing. */
 export const WITHOUT_EFFECT = ["FCR", "LSR", "MSR"];
@@ -82,23 +82,6 @@ const clockRules = {
   MIS: [`RIS under the mask, as the interrupt line shows. ${alarmRule}`, "the-alarm"],
   ICR: ["The write clears in RIS the bits that the value has.", "the-clock"],
 };
-const otherRules = {
-  sq: ["Bytes arrive for the guest: as many of the first as fit, and in loopback none. They raise RDA.",
-    "reading-and-writing-data"],
-  si: ["A character timeout raises RDA again for bytes that are held, if IER enables it and it is not pending.",
-    "the-character-timeout"],
-  sd: ["The guest's driver reads RBR while LSR shows data ready.", "reading-and-writing-data"],
-  ss: ["A restore asks for the interrupt once for each condition that is pending and enabled. If that is refused, " +
-    "the old port stays.", "saving-and-restoring"],
-  sl: ["A saved state is taken unchanged. The restore then asks for each condition that is pending and enabled.",
-    "saving-and-restoring"],
-  sb: ["A port is saved as its nine registers and the held bytes. No byte that the guest has read is in it.",
-    "saving-and-restoring"],
-  cb: ["A clock is saved as its registers, its offset and its alarm.", "the-clock"],
-  cl: ["Any numbers may be restored, and reads show them.", "the-clock"],
-  kr: ["Every read of the controller gives 0.", "the-reset-controller"],
-  kw: ["0xFE at offset 4 resets the machine. Any other write has no effect.", "the-reset-controller"],
-};
 
 /** The rule of a call as a sentence, and the heading of docs/DEVICES.md where it stands. */
 export function ruleOf({ command: { name, values }, before }) {
@@ -116,7 +99,7 @@ export function ruleOf({ command: { name, values }, before }) {
     return clockRules[register?.name] ?? [register ? "It names the chip: a driver looks for it." :
       "Nothing is here: the access is invalid.", "the-clock"];
   }
-  return otherRules[name] ?? ["The board tells what it counted.", "the-serial-port"];
+  return LINES[name].rule ?? ["The board tells what it counted.", "the-serial-port"];
 }
 
 function toldOfAccess({ command: { name, values }, reply, before, after }) {

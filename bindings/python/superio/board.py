@@ -1,4 +1,4 @@
-"""The board that the lines of a script drive: three devices, an interrupt line and an output of 256 bytes.
+"""The lines of a script, and the board that they drive: three devices, an interrupt line and an output of 256 bytes.
 
 It replies to each line as the program `superio` does.
 """
@@ -9,13 +9,49 @@ from .devices import I8042, Rtc, Serial
 from .registers import (DLAB, SERIAL, Register, RtcState, SerialState, bits_by_name, check_kind, clock_register,
                         serial_register)
 from .saved import LoadStatus, SavedStateError
-from .script import Command
 
 OUTPUT_SIZE = 256
 """How many bytes the board's output takes. Each byte after them is lost."""
 
 _THRE = bits_by_name(SERIAL["IIR"])["THRE"]  # the bit of IIR by which it is pending
 _DATA_READY = bits_by_name(SERIAL["LSR"])["DR"]
+
+Value = Union[int, bytes]
+
+
+class Field(NamedTuple):
+    """A field of a line."""
+
+    name: str
+    form: str       # as `help` shows it
+    digits: int     # how many it has, 0 for bytes of two digits each
+    kind: str = ""  # what it can be in a shell beside digits: a register or bits of one, or a moment
+
+
+OFFSET, VALUE = Field("offset", "OO", 2), Field("value", "VV", 2)
+SERIAL_OFFSET, SERIAL_VALUE = OFFSET._replace(kind="serial"), VALUE._replace(kind="bits")
+MOMENT = Field("moment", "MOMENT", 16, "now")
+CLOCK_OFFSET = Field("offset of the clock", "OOOO", 4, "clock")
+CLOCK_VALUE = Field("value of the clock", "VVVVVVVV", 8, "bits")
+BYTES = Field("bytes", "HH..", 0)
+
+MASK = "refuse"
+"""The name of the line that a script can only begin with."""
+
+
+class Command(NamedTuple):
+    """A line of a script: its name, and the values of its fields."""
+
+    name: str
+    values: Tuple[Value, ...] = ()
+
+
+class Line(NamedTuple):
+    """What a line of a script is."""
+
+    about: str                           # as `help` says it
+    fields: Tuple[Field, ...]            # of which bytes may be left out
+    reply: Callable[..., Optional[str]]  # has a board carry it out, given the values of the fields
 
 
 def without_thre(port: Serial) -> Serial:
@@ -96,7 +132,7 @@ class Board:
         """Carries out a command. Returns the line that a script prints for it, without the LF, or `None` if none."""
         check_kind("command", command, Command)
         self._answers = []
-        reply = _REPLIES[command.name](self, *command.values)
+        reply = LINES[command.name].reply(self, *command.values)
         self.number += 1
         return reply
 
@@ -179,6 +215,9 @@ class Board:
         done = self.clock.read(offset, now)
         return "invalid" if done.invalid_read else f"{done.value:08x}"
 
+    def _clock_write(self, now: int, offset: int, value: int) -> str:
+        return "invalid" if self.clock.write(offset, value, now).invalid_write else "ok"
+
 
 def _loaded(data: bytes, kind: Any, replace_device: Callable[[Any], str]) -> str:
     """Puts the device of a saved state in the place of another. Replies why not if the bytes are none."""
@@ -188,25 +227,32 @@ def _loaded(data: bytes, kind: Any, replace_device: Callable[[Any], str]) -> str
         return f"{error} {data[5]:02x}" if error.status is LoadStatus.UNKNOWN_VERSION else str(error)
 
 
-_REPLIES: Dict[str, Callable[..., Optional[str]]] = {
-    "refuse": Board._refuse,
-    "sr": lambda board, offset: f"{board._read(offset):02x}",
-    "sw": Board._serial_write,
-    "sq": Board._enqueue,
-    "si": lambda board: "ok" if board._ask(board.serial.character_timeout()) else "trigger",
-    "sc": lambda board: f"{board.serial.fifo_capacity():02x}",
-    "sd": Board._drain,
-    "ss": lambda board: board._replace_port(Serial.from_state(board.serial.state)),
-    "sb": lambda board: board.serial.to_bytes().hex(),
-    "sl": lambda board, data=b"": _loaded(data, Serial, board._replace_port),
-    "so": lambda board: board.output.hex(),
-    "st": lambda board: f"{board.calls:016x}",
-    "se": lambda board: " ".join(f"{count:016x}" for count in board.counts),
-    "cr": Board._clock_read,
-    "cw": lambda board, now, offset, value: "invalid" if board.clock.write(offset, value, now).invalid_write else "ok",
-    "cb": lambda board: board.clock.to_bytes().hex(),
-    "cl": lambda board, data=b"": _loaded(data, Rtc, board._replace_clock),
-    "kr": lambda board, offset: f"{board.controller.read(offset):02x}",
-    "kw": lambda board, offset, value: "reset" if board.controller.write(offset, value).resets else "ok",
+LINES: Dict[str, Line] = {
+    "sr": Line("the guest reads at offset OO", (SERIAL_OFFSET,), lambda board, offset: f"{board._read(offset):02x}"),
+    "sw": Line("the guest writes VV at offset OO", (SERIAL_OFFSET, SERIAL_VALUE), Board._serial_write),
+    "sq": Line("1 to 128 bytes arrive; sq alone: none", (BYTES,), Board._enqueue),
+    "si": Line("the line is idle: raises RDA again if bytes wait", (),
+               lambda board: "ok" if board._ask(board.serial.character_timeout()) else "trigger"),
+    "sc": Line("how many more bytes fit", (), lambda board: f"{board.serial.fifo_capacity():02x}"),
+    "sd": Line("the guest's driver reads what is held", (), Board._drain),
+    "ss": Line("saves the port and restores it", (),
+               lambda board: board._replace_port(Serial.from_state(board.serial.state))),
+    "sb": Line("the port's saved state", (), lambda board: board.serial.to_bytes().hex()),
+    "sl": Line("loads the port from a saved state", (BYTES,),
+               lambda board, data=b"": _loaded(data, Serial, board._replace_port)),
+    "so": Line("the bytes that the port wrote", (), lambda board: board.output.hex()),
+    "st": Line("how often the interrupt line was called", (), lambda board: f"{board.calls:016x}"),
+    "se": Line("reads of RBR, bytes out, lost, reads that left none", (),
+               lambda board: " ".join(f"{count:016x}" for count in board.counts)),
+    "cr": Line("the guest reads the clock at offset OOOO", (MOMENT, CLOCK_OFFSET), Board._clock_read),
+    "cw": Line("the guest writes the clock", (MOMENT, CLOCK_OFFSET, CLOCK_VALUE), Board._clock_write),
+    "cb": Line("the clock's saved state", (), lambda board: board.clock.to_bytes().hex()),
+    "cl": Line("loads the clock from a saved state", (BYTES,),
+               lambda board, data=b"": _loaded(data, Rtc, board._replace_clock)),
+    "kr": Line("the guest reads the controller", (OFFSET,),
+               lambda board, offset: f"{board.controller.read(offset):02x}"),
+    "kw": Line("the guest writes the controller; kw 04 fe resets", (OFFSET, VALUE),
+               lambda board, offset, value: "reset" if board.controller.write(offset, value).resets else "ok"),
+    MASK: Line("the calls that the interrupt line refuses", (Field("mask", "MASK", 16),), Board._refuse),
 }
-"""How the board carries out each line of a script, and what it replies."""
+"""The lines of a script, by their names."""

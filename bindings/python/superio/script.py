@@ -4,13 +4,14 @@
 """
 import re
 from functools import lru_cache
-from typing import Dict, NamedTuple, Tuple, Union
 
+from .board import BYTES, LINES, MASK, MOMENT, Command, Field, Value
 from .registers import byte_string
 
-_LINES = 4096
+__all__ = ["BYTES", "BadLine", "Command", "FORMS", "Field", "LINES", "MASK", "MOMENT", "ScriptError", "Value",
+           "form_of", "parse", "reason_of", "shown", "text_of"]
 
-Value = Union[int, bytes]
+_CACHED = 4096  # lines
 
 
 class ScriptError(ValueError):
@@ -39,49 +40,7 @@ class BadLine(ValueError):
         super().__init__(f'{name}:{number}: "{text}": {reason_of(error)}')
 
 
-class Field(NamedTuple):
-    """A field of a line."""
-
-    name: str
-    form: str       # as `help` shows it
-    digits: int     # how many it has, 0 for bytes of two digits each
-    kind: str = ""  # what it can be in a shell beside digits: a register or bits of one, or a moment
-
-
-OFFSET, VALUE = Field("offset", "OO", 2), Field("value", "VV", 2)
-SERIAL_OFFSET, SERIAL_VALUE = OFFSET._replace(kind="serial"), VALUE._replace(kind="bits")
-MOMENT = Field("moment", "MOMENT", 16, "now")
-CLOCK_OFFSET = Field("offset of the clock", "OOOO", 4, "clock")
-CLOCK_VALUE = Field("value of the clock", "VVVVVVVV", 8, "bits")
-BYTES = Field("bytes", "HH..", 0)
-
-MASK = "refuse"
-"""The name of the line that a script can only begin with."""
-
-LINES: Dict[str, Tuple[str, Tuple[Field, ...]]] = {
-    "sr": ("the guest reads at offset OO", (SERIAL_OFFSET,)),
-    "sw": ("the guest writes VV at offset OO", (SERIAL_OFFSET, SERIAL_VALUE)),
-    "sq": ("1 to 128 bytes arrive; sq alone: none", (BYTES,)),
-    "si": ("the line is idle: raises RDA again if bytes wait", ()),
-    "sc": ("how many more bytes fit", ()),
-    "sd": ("the guest's driver reads what is held", ()),
-    "ss": ("saves the port and restores it", ()),
-    "sb": ("the port's saved state", ()),
-    "sl": ("loads the port from a saved state", (BYTES,)),
-    "so": ("the bytes that the port wrote", ()),
-    "st": ("how often the interrupt line was called", ()),
-    "se": ("reads of RBR, bytes out, lost, reads that left none", ()),
-    "cr": ("the guest reads the clock at offset OOOO", (MOMENT, CLOCK_OFFSET)),
-    "cw": ("the guest writes the clock", (MOMENT, CLOCK_OFFSET, CLOCK_VALUE)),
-    "cb": ("the clock's saved state", ()),
-    "cl": ("loads the clock from a saved state", (BYTES,)),
-    "kr": ("the guest reads the controller", (OFFSET,)),
-    "kw": ("the guest writes the controller; kw 04 fe resets", (OFFSET, VALUE)),
-    MASK: ("the calls that the interrupt line refuses", (Field("mask", "MASK", 16),)),
-}
-"""What `help` says of each line, and its fields, by its name."""
-
-FORMS = {name: fields for name, (_, fields) in LINES.items()}
+FORMS = {name: line.fields for name, line in LINES.items()}
 """The fields of each line. Bytes may be left out."""
 
 
@@ -99,13 +58,6 @@ def _pattern(name: str) -> "re.Pattern[str]":
 _PATTERNS = {name: _pattern(name) for name in FORMS}
 
 
-class Command(NamedTuple):
-    """A line of a script: its name, and the values of its fields."""
-
-    name: str
-    values: Tuple[Value, ...] = ()
-
-
 def parse(line: bytes, is_first: bool = False) -> Command:
     """The command of a script's line, without its LF. `is_first` says whether it is the script's first.
 
@@ -114,7 +66,7 @@ def parse(line: bytes, is_first: bool = False) -> Command:
     return _parse(byte_string("line", line), bool(is_first))
 
 
-@lru_cache(maxsize=_LINES)
+@lru_cache(maxsize=_CACHED)
 def _parse(line: bytes, is_first: bool) -> Command:
     """The same. A script has most of its lines many times."""
     text = line.decode("ascii", "replace")

@@ -4,10 +4,10 @@ import shlex
 import time
 from typing import IO, Callable, Dict, Iterable, List, Optional, Tuple
 
-from .board import Board, Call
+from .board import LINES, MASK, Board, Call, Command
 from .prompt import Help, Prompt, write_text
 from .registers import CLOCK, SERIAL
-from .script import FORMS, LINES, MASK, BadLine, Command, ScriptError, form_of, parse, text_of
+from .script import FORMS, BadLine, ScriptError, form_of, parse, text_of
 from .tell import Story, changes, clock_registers, registers, told
 from .words import Speaker, UsageError
 
@@ -71,8 +71,8 @@ _GROUPS: Dict[str, Tuple[Help, ...]] = {
         Help("quit", "ends, as exit and Ctrl-D do"),
     ),
     "Lines of a script, with hexadecimal fields": tuple(
-        Help(form_of(name), about, _OF_MASK if name == MASK else "", tuple(field.kind for field in fields))
-        for name, (about, fields) in LINES.items()),
+        Help(form_of(name), line.about, _OF_MASK if name == MASK else "", tuple(field.kind for field in line.fields))
+        for name, line in LINES.items()),
 }
 
 

@@ -3,10 +3,10 @@ import re
 from copy import copy
 from typing import Any, Callable, List, Optional
 
-from .board import Board
+from .board import BYTES, MASK, MOMENT, Board, Command, Field
 from .registers import (CLOCK, SERIAL, Register, bits_by_name, clock_offset, clock_register, serial_offset,
                         serial_register)
-from .script import BYTES, FORMS, MASK, MOMENT, Command, Field, ScriptError, parse, shown
+from .script import FORMS, ScriptError, parse, shown
 
 # A word of a line. A character in quotes is one, also a blank one.
 _WORD = re.compile(r"'(?:\\.[^']*|[^'])'|\S+")

@@ -1,90 +1,59 @@
-"""The recorded calls of tests/calls over the package, and those that tools/checks/cases.py makes up."""
-import lzma
+"""The recorded calls of tests/calls over the package, and those that tools/checks/lines.py makes up."""
 import re
 import unittest
 
-from support import ROOT
+import support  # noqa: F401, which finds the modules of tools
 
-from cases import every_answer
-from expected import recording_of
+from lines import every_answer, recording_of, recordings
 
-from superio import I8042, Rtc, RtcState, Serial, SerialState
-from superio.board import without_thre
+from superio import Board, Command, Rtc, RtcState, Serial, SerialState
+from superio.board import Counts
 
 
-class Devices:
-    """The package's devices, and the interrupt line, which they leave to their caller. The methods with the name of a
-    call return its reply."""
+class Devices(Board):
+    """A board for recorded calls. Methods with the name of a call make those that no line of a script makes, or that it
+    makes or shows otherwise."""
 
-    def __init__(self):
-        self.port, self.clock, self.controller = Serial(), Rtc(), I8042()
-
-    def reply(self, call):
+    def make(self, call):
         """The reply of a call, and the calls of objects. The words `1` and `2` after it refuse those of the line."""
-        line, self.words = re.fullmatch("(.*?)((?: [12nfiu])*)", call).groups()
+        line, words = re.fullmatch("(.*?)((?: [12nfiu])*)", call).groups()
         name, *fields = line.split(" ")
-        self.did = []
-        return " ".join([getattr(self, name)(*fields), *self.did])
+        self.mask, self.calls, self._answers = ("1" in words) + 2 * ("2" in words), 0, []
+        self.output, self.counts = bytearray(), Counts()
+        own = getattr(self, name, None)
+        reply = own(*fields) if own else self.reply(Command(name, tuple(int(field, 16) for field in fields)))
+        if reply == "reset":
+            reply = self.ask(1)
+        if reply == "invalid":
+            return {"cr": "a5a5a5a5 i", "cw": "ok j"}[name]
+        events = ["e"] * self.counts.in_buffer_empty + ["b"] * self.counts.buffer_read
+        answers = ["T" if is_taken else "R" for is_taken in self._answers]
+        return " ".join([reply, *events, *(f"W{byte:02x}" for byte in self.output), *answers])
 
-    def ask(self, interrupts):
-        """Asks for the interrupt that often, up to a refusal."""
-        for number in range(1, interrupts + 1):
-            self.did.append("R" if str(number) in self.words else "T")
-            if self.did[-1] == "R":
-                return "trigger"
-        return "ok"
-
-    def sr(self, offset):
-        done = self.port.read(int(offset, 16))
-        self.did = ["e"] * done.in_buffer_empty + ["b"] * done.buffer_read
-        return f"{done.byte:02x}"
-
-    def sw(self, offset, value):
-        done = self.port.write(int(offset, 16), int(value, 16))
-        self.did = [f"W{value}"] * done.sends
-        reply = self.ask(done.interrupts)
-        if done.interrupts == 2 and self.did == ["R"]:
-            self.port = without_thre(self.port)
-        return reply
+    def ask(self, times):
+        return "ok" if self._ask(times) else "trigger"
 
     def sq(self, digits):
-        done = self.port.enqueue(bytes.fromhex(digits.strip("-")))
-        reply = self.ask(done.interrupts)
-        return "full" if done.full else f"{done.taken:02x}" if reply == "ok" else reply
-
-    def si(self):
-        return self.ask(self.port.character_timeout())
+        return self.reply(Command("sq", (bytes.fromhex(digits.strip("-")),)))
 
     def sp(self):
-        return self.ask(self.port.interrupts_due())
-
-    def sc(self):
-        return f"{self.port.fifo_capacity():02x}"
+        return self.ask(self.serial.interrupts_due())
 
     def sh(self):
-        return f"{self.port.interrupt_line():02x}"
+        return f"{self.serial.interrupt_line():02x}"
 
     def ss(self):
-        return self.restore(self.port.state)
+        return self.restored(self.serial.state)
 
     def sl(self, registers, digits):
         held = bytes.fromhex(digits.strip("-"))
-        return "full" if len(held) > 64 else self.restore(SerialState(*bytes.fromhex(registers), in_buffer=held))
+        return "full" if len(held) > 64 else self.restored(SerialState(*bytes.fromhex(registers), in_buffer=held))
 
-    def restore(self, state):
-        port = Serial.from_state(state)
-        if self.ask(port.interrupts_due()) != "ok":
-            return "trigger"
-        self.port = port
-        *registers, held = vars(port.state).values()
-        return f"{bytes(registers).hex()} {held.hex() or '-'} {self.sc()}"
-
-    def cr(self, moment, offset):
-        done = self.clock.read(int(offset, 16), int(moment, 16))
-        return "a5a5a5a5 i" if done.invalid_read else f"{done.value:08x}"
-
-    def cw(self, moment, offset, value):
-        return "ok j" if self.clock.write(int(offset, 16), int(value, 16), int(moment, 16)).invalid_write else "ok"
+    def restored(self, state):
+        reply = self._replace_port(Serial.from_state(state))
+        *registers, held = vars(self.serial.state).values()
+        room = self.serial.fifo_capacity()
+        return f"{bytes(registers).hex()} {held.hex() or '-'} {room:02x}" if reply == "ok" else reply
 
     def cs(self):
         it = self.clock.state
@@ -94,12 +63,6 @@ class Devices:
         lr, mr, imsc, ris = (int(field, 16) for field in (lr, mr, imsc, ris))
         self.clock = Rtc.from_state(RtcState(lr=lr, mr=mr, imsc=imsc, ris=ris, offset=int(offset), armed=bool(armed)))
         return self.cs()
-
-    def kr(self, offset):
-        return f"{self.controller.read(int(offset, 16)):02x}"
-
-    def kw(self, offset, value):
-        return self.ask(self.controller.write(int(offset, 16), int(value, 16)).resets)
 
 
 def of_device(reply):
@@ -112,13 +75,12 @@ class Calls(unittest.TestCase):
         devices, rows = Devices(), [line.split(" = ") for line in recording.splitlines() if " = " in line]
         self.assertTrue(rows)
         for call, reply in rows:
-            self.assertEqual(of_device(reply), devices.reply(call), call)
+            self.assertEqual(of_device(reply), devices.make(call), call)
 
     def test_recorded_calls(self):
-        for path in (ROOT / "tests" / "calls").glob("*.txt*"):
-            data = path.read_bytes()
-            with self.subTest(path.name):
-                self.compare((lzma.decompress(data) if path.suffix == ".xz" else data).decode())
+        for name, recording in recordings().items():
+            with self.subTest(name):
+                self.compare(recording)
 
     def test_every_answer(self):
         self.compare(recording_of(every_answer()))

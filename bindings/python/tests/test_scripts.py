@@ -8,9 +8,7 @@ from xml.etree import ElementTree
 
 from support import ROOT, FolderTest, run
 
-from cases import random_cases, random_script
-from expected import script_replies
-from program import seed_of
+from lines import random_scripts, script_replies
 from script_tests import scripts_of
 
 from superio import Board, ScriptError, parse
@@ -57,10 +55,9 @@ class Scripts(unittest.TestCase):
 
     def test_random_scripts_do_what_a_search_of_the_past_says(self):
         """One of eight is broken. Each commit has others."""
-        for name, script in random_cases(random_script, "python", seed_of(ROOT), RANDOM_SCRIPTS):
-            _, replies, bad_line = script_replies(script)
-            expected = (bool(bad_line), "".join(reply + "\n" for reply in replies).encode(),
-                        b"bad line %d\n" % bad_line if bad_line else b"")
+        for name, script in random_scripts("python", RANDOM_SCRIPTS):
+            replies, end = script_replies(script)
+            expected = bool(end), "".join(f"{reply}\n" for reply in replies).encode(), f"{end}\n".lstrip().encode()
             self.assertEqual(expected, run_board(script.encode("latin-1")), name)
 
 
