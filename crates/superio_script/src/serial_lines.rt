@@ -56,6 +56,7 @@ pub(crate) fn serial_line(
 }
 
 /// Restores the port from its own state.
+#[tactic(auto, using(crate::proofs::SerialScriptLemmas::restore_step))]
 fn restore(alloc: Global, serial: &mut Port) -> Result<Reply, LineFault>
     ensures step { IfOk result (λ reply. IsSerialLineStep Restore reply.items serial.old serial.new) }
     ensures unchanged { OnErr result (serial.new ≡ serial.old) }
