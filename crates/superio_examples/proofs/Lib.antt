@@ -1,3 +1,2 @@
-pub mod InputLemmas
 pub mod MonitorLemmas
-pub mod OutputLemmas
+pub mod QueueLemmas

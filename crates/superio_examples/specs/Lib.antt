@@ -1,8 +1,7 @@
 pub mod Bus
-pub mod Counter
-pub mod Input
 pub mod Mmio
 pub mod Monitor
-pub mod Output
+pub mod Queues
 pub mod SavedMonitor
 pub mod TimedRead
+pub mod Triggers

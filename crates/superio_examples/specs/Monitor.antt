@@ -6,9 +6,8 @@ use Rattle.vm_superio.specs.Serial.{Asked, Sent, State, fresh_state, not_empty, 
 use Rattle.vm_superio.specs.Rtc.{RtcState, is_line_up, clock_step, clock_response, Access, read, write, fresh_clock}
 use Rattle.vm_superio.specs.Serial.History.{byte_read, accepted_by}
 use Rattle.superio_examples.specs.Bus.{serial_offset, other_byte, is_reset, Keyboard}
-use Rattle.superio_examples.specs.Input.{room_in, shows_ready}
 use Rattle.superio_examples.specs.Mmio.{is_inside}
-use Rattle.superio_examples.specs.Output.{Waiting, after_sent, IsSplit}
+use Rattle.superio_examples.specs.Queues.{room_in, shows_ready, Waiting, after_sent, IsSplit}
 use Rattle.superio_examples.specs.TimedRead.{shown_at, state_after_read, calls_after_read}
 use Rattle.superio_examples.specs.declared.monitor.Answer.{Answer}
 use Rattle.superio_examples.specs.declared.monitor.Answer.TheVariants as answer

@@ -5,7 +5,7 @@ use Rattle.superio_core.specs.declared.rtc_pl031.saved_form.RtcState.{RtcState}
 use Rattle.superio_core.specs.Serial.{State}
 use Rattle.superio_core.specs.Saved.{serial_form, clock_form}
 use Rattle.superio_examples.specs.Monitor.{Machine}
-use Rattle.superio_examples.specs.Output.{Waiting}
+use Rattle.superio_examples.specs.Queues.{Waiting}
 use Rattle.superio_examples.specs.declared.saved_monitor.SavedMonitor.{SavedMonitor}
 
 -- the bytes that waited, with the saved limits, or with larger ones if they were more

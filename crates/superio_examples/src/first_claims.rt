@@ -8,7 +8,7 @@ ghost use Rattle.vm_superio.specs.Claims.{SameSettings, has_bits, not_empty, Coh
 ghost use Rattle.std.specs.Int.{w32, to_le_bytes};
 ghost use Rattle.std.specs.Io.KnownBytes.{Appends};
 
-use crate::counter::Counter;
+use crate::triggers::Counter;
 use std::alloc::{AllocError, Global};
 use std::convert::Infallible;
 use std::io::Write;

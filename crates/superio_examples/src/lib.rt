@@ -3,12 +3,10 @@
 #![tactic(auto)]
 
 pub mod bus;
-pub mod counter;
-pub mod event_fd;
 pub mod first_claims;
-pub mod input;
 pub mod mmio;
 pub mod monitor;
-pub mod output;
+pub mod queues;
 pub mod saved_monitor;
 pub mod timed_read;
+pub mod triggers;

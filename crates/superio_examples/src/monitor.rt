@@ -5,9 +5,8 @@
 ghost use Rattle.std.specs.Prelude.{◌≡◌, ◌≤◌, map, OnOk, OnErr, IfOk};
 
 use crate::bus::{COM1, I8042_COMMAND, I8042_DATA, serial_offset};
-use crate::input::{Input, shows_ready};
 use crate::mmio::offset_in;
-use crate::output::Output;
+use crate::queues::{Input, Output, shows_ready};
 use crate::timed_read::read_timed;
 use std::alloc::{AllocError, Global};
 use superio_core::fifo::FIFO_SIZE;
@@ -92,7 +91,7 @@ impl Monitor {
     ghost use Rattle.superio_examples.specs.declared.monitor.Event.{Event};
     ghost use Rattle.superio_examples.specs.Monitor.{in_each, sent_at, left_at, looped_at, typed_by, KeepsInput, KeepsOut};
     ghost use Rattle.superio_examples.specs.Monitor.{is_reset_reply, asks_reset};
-    ghost use Rattle.superio_examples.specs.Output.{after_sent};
+    ghost use Rattle.superio_examples.specs.Queues.{after_sent};
     ghost use Rattle.superio_examples.specs.Monitor.{Acts, feed_calls, reply_to, replies_to};
 
     /// The monitor of a new machine. At most `input` bytes wait for the guest, and at most `output` for the sink.

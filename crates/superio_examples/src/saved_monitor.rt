@@ -6,9 +6,8 @@ ghost use Rattle.superio_core.specs.Saved.{IsClock};
 ghost use Rattle.superio_examples.specs.Monitor.{machine_of};
 ghost use Rattle.superio_examples.specs.SavedMonitor.{IsSavedAs, saved_input, saved_output};
 
-use crate::input::Input;
 use crate::monitor::Monitor;
-use crate::output::Output;
+use crate::queues::{Input, Output};
 use std::alloc::{AllocError, Global};
 use superio_core::serial::saved_form::SAVED_MAX;
 use superio_core::{RtcState, SerialPort};

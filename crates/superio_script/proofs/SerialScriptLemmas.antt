@@ -237,6 +237,7 @@ module _ (old new : Port Line Counts Output) (state : State) (reply : List ℕ) 
 pub restore-accepts : (old new : Port Line Counts Output) (state : State) →
     new.state ≡ state → InterruptLineLink old.trigger (all_ok (restore_calls state)) new.trigger → new.events ≡ old.events → new.out ≡ old.out →
     IsRestore state (with_lf (codes "ok")) old new
+unfolding IsRestore
 restore-accepts old new state is link events out before at =
     restored-by old new state (with_lf (codes "ok")) before new.trigger None _ false (accepted-answers _ _)
     (subst (λ line. InterruptLineLink line (all_ok (restore_calls state)) new.trigger) at.interrupt_line link)
@@ -255,6 +256,7 @@ restore-accepts old new state is link events out before at =
 pub restore-refuses : (old : Port Line Counts Output) (state : State) (after : Line) (error : Error LineRefused) →
     length state.in_buffer ≤ 64 → RefusesRestore InterruptLineLink state error old.trigger after → error ≢ Memory →
     IsRestore state (response_reply (failure_response error)) old old
+unfolding IsRestore
 restore-refuses old state after FullFifo few refuses other before at = absurd (omega (arith, refuses.0))
 restore-refuses old state after (IOError fault) few refuses other before at = absurd refuses.1
 restore-refuses old state after Memory few refuses other before at = absurd (other refl)
@@ -267,15 +269,16 @@ restore-refuses old state after (Trigger refusal) few (none_more, (responses, st
 -- ---- the lines that restore
 
 module _ (old new : Port Line Counts Output) (reply : List ℕ) where
-  pub restore-step : IsRestore old.state reply old new → IsSerialLineStep line.Restore reply old new
-  unfolding IsSerialLineStep
-  restore-step restores before at =
+  pub restore_step : (state : State) → state ≡ old.state → IsRestore state reply old new → IsSerialLineStep line.Restore reply old new
+  unfolding IsSerialLineStep IsRestore
+  restore_step state saved restores before at =
       let (replied, after, unchanged) = restores before at in
-      (no_choice, replied ∙ ap (restore_reply before) at.state, subst (λ state. IsAt (session_after_restore before state) new) at.state after)
+      let is = saved ∙ at.state in
+      (no_choice, replied ∙ ap (restore_reply before) is, subst (λ state. IsAt (session_after_restore before state) new) is after)
 
   pub load-step : (bytes : List ℕ) (state : State) → loaded_port bytes ≡ Ok state → IsRestore state reply old new →
       IsSerialLineStep (line.Load bytes) reply old new
-  unfolding IsSerialLineStep
+  unfolding IsSerialLineStep IsRestore
   load-step bytes state loads restores before at =
       let (replied, after, unchanged) = restores before at in
       (no_choice, replied ∙ ap (load_reply before) (sym loads), subst (λ (loaded : Result State Fault). IsAt (session_after_load before loaded) new) (sym loads) after)

@@ -49,7 +49,7 @@ IsSerialLineStep line reply old new =
 
 -- a restore of the port in a state, with the old port's objects. From each session that the port is at, the reply is
 -- that of a restore, and the port is then at the session after it; if the restore was refused, the port is unchanged
-abbrev pub IsRestore : (state : State) (reply : List ℕ) (old new : Port Line Counts Output) → Type 0
+unfoldable pub IsRestore : (state : State) (reply : List ℕ) (old new : Port Line Counts Output) → Type 0
 IsRestore state reply old new =
     (before : Session) → IsAt before old
     → (reply ≡ restore_reply before state) × IsAt (session_after_restore before state) new

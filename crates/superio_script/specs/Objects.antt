@@ -3,12 +3,12 @@
 use Rattle.std.specs.Prelude.{◌≡◌, ℕ, ◌+◌, ◌-◌, ◌^◌, Bool, ◌&&◌, ◌==◌, nat_lt, min, if◌then◌else◌, List, [], ◌∷◌, ◌++◌, Result, Ok, Err}
 use Rattle.std.specs.Int.{bit_at}
 use Rattle.std.proofs.Common.{subst, sym}
-pub use Rattle.superio_script.specs.declared.trigger.LineRefused.{LineRefused}
 use Rattle.superio_core.specs.Serial.Operations.{Event, buffer_read, out_byte, tx_lost_byte, in_buffer_empty}
 use Rattle.vm_superio.specs.Rtc.{RtcEvent, invalid_read, invalid_write}
-pub use Rattle.superio_script.specs.declared.counts.Counts.{Counts}
-pub use Rattle.superio_script.specs.declared.output.Output.{Output}
-pub use Rattle.superio_script.specs.declared.trigger.Line.{Line}
+pub use Rattle.superio_script.specs.declared.objects.Line.{Line}
+pub use Rattle.superio_script.specs.declared.objects.LineRefused.{LineRefused}
+pub use Rattle.superio_script.specs.declared.objects.Counts.{Counts}
+pub use Rattle.superio_script.specs.declared.objects.Output.{Output}
 
 -- an interrupt line that was never called
 abbrev pub fresh_interrupt_line : (mask : ℕ) → Line

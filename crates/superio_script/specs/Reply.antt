@@ -4,10 +4,10 @@ use Rattle.std.specs.Int.{w64, to_be_bytes}
 use Rattle.hex.specs.Hex.{encode_lower}
 use Rattle.superio_core.specs.Serial.Operations.{Response, ByteRead, WriteOk, EnqueueOk, TimeoutOk, TriggerRefused, WriterFailed, FifoFull, OutOfMemory, NoResponse}
 use Rattle.superio_core.specs.I8042.{is_reset_command}
-use Rattle.superio_script.specs.declared.counts.Counts.{Counts}
+use Rattle.superio_script.specs.declared.objects.Counts.{Counts}
 use Rattle.superio_script.specs.declared.command.ControllerCommand.{ControllerCommand}
-use Rattle.superio_script.specs.declared.fault.ScriptFault.{ScriptFault}
-use Rattle.superio_script.specs.declared.fault.ScriptFault.TheVariants.{Bad, Io, Memory, TooLong}
+use Rattle.superio_script.specs.declared.replies.ScriptFault.{ScriptFault}
+use Rattle.superio_script.specs.declared.replies.ScriptFault.TheVariants.{Bad, Io, Memory, TooLong}
 use Rattle.superio_script.specs.declared.command.ControllerCommand.TheVariants as controller
 
 -- ---- the text of a reply

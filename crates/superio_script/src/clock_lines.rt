@@ -5,7 +5,7 @@ ghost use Rattle.superio_script.specs.Objects.{no_counts};
 ghost use Rattle.superio_script.specs.declared.command.ClockCommand.TheVariants.{Read, Write, Save, Load};
 
 use crate::command::ClockCommand;
-use crate::counts::Counts;
+use crate::objects::Counts;
 use crate::replies::{Reply, reply_digits, reply_fault, reply_text};
 use vm_superio::{Rtc, RtcState, laws};
 

@@ -3,8 +3,7 @@ ghost use Rattle.std.specs.Prelude.{◌≡◌};
 ghost use Rattle.superio_script.specs.Fields.{remaining_fields};
 ghost use Rattle.superio_script.specs.Command.{by_form, serial_forms, clock_forms, controller_forms, command_of_name, command_of, mask_of};
 
-use crate::fields::FieldBytes;
-use crate::splitting::Fields;
+use crate::fields::{FieldBytes, Fields};
 
 /// What a line asks for.
 #[derive(Drop)]

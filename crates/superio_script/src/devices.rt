@@ -3,16 +3,13 @@ ghost use Rattle.std.specs.Prelude.{◌≡◌, ◌↔◌, IfOk, IfErr, IsSomeAnd
 ghost use Rattle.superio_script.specs.Objects.{fresh_interrupt_line};
 ghost use Rattle.superio_script.specs.Command.{command_of, TakesMemory};
 ghost use Rattle.superio_script.specs.Reply.{controller_reply};
-ghost use Rattle.superio_script.specs.declared.fault.LineFault.TheVariants.{Bad, Memory};
+ghost use Rattle.superio_script.specs.declared.replies.LineFault.TheVariants.{Bad, Memory};
 
 use crate::clock_lines::clock_line;
 use crate::command::{Command, ControllerCommand, parse};
-use crate::counts::Counts;
-use crate::fault::{LineFault, ScriptFault};
-use crate::output::Output;
-use crate::replies::{Reply, reply_byte, reply_text};
+use crate::objects::{Counts, Line, Output};
+use crate::replies::{LineFault, Reply, ScriptFault, reply_byte, reply_text};
 use crate::serial_lines::{Port, serial_line};
-use crate::trigger::Line;
 use std::alloc::Global;
 use std::marker::Model;
 use vm_superio::{I8042Device, Rtc, Serial};

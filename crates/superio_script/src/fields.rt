@@ -1,14 +1,71 @@
-//! The fields of a line, read one after another.
-ghost use Rattle.std.specs.Prelude.{◌≡◌};
+//! The lines of a script, and the fields of a line, read one after another.
+ghost use Rattle.std.specs.Prelude.{◌≡◌, ◌≢◌, List, ℕ, [], ◌∷◌, ◌==◌, position, IfSome, IfNone, MatchOption};
 ghost use Rattle.std.specs.Int.{w8, w16, w32, w64};
-ghost use Rattle.superio_script.specs.Fields.{remaining_fields, bytes_of, field_bytes_of, first_array, first_number, first_bytes, later_fields, end};
+ghost use Rattle.superio_script.specs.Fields.{pieces_of, fields_of, remaining_fields, lines_of};
+ghost use Rattle.superio_script.specs.Fields.{bytes_of, field_bytes_of, first_array, first_number, first_bytes, later_fields, end};
 
-use crate::splitting::Fields;
 use arrayvec::ArrayVec;
 use std::marker::Model;
 
+const SPACE: u8 = b' ';
+
+const LF: u8 = b'\n';
+
 /// The most bytes that a field can have.
 const FIELD_LIMIT: usize = 128;
+
+// ---- bytes split at a separator
+
+/// The index of the first separator.
+fn find(bytes: &[u8], separator: u8) -> Option<usize>
+    ensures { result ≡ position (λ b. b == separator) bytes.now }
+{
+    bytes.iter().position(|byte| *byte == separator)
+}
+
+/// The bytes before the first separator, and those after it, or `None` if there is no separator.
+#[tactic(auto, using(crate::proofs::LineLemmas::first_pieces))]
+fn first_piece(bytes: &[u8], separator: u8) -> (&[u8], Option<&[u8]>)
+    ensures found { IfSome result.1 (λ rest. (end : List (List ℕ)) →
+        pieces_of separator end bytes.now ≡ result.0.now ∷ pieces_of separator end rest.now) }
+    ensures last_field { IfNone result.1 (pieces_of separator ([] ∷ []) bytes.now ≡ result.0.now ∷ []) }
+    ensures last_line { IfNone result.1 (bytes.now ≢ [] → pieces_of separator [] bytes.now ≡ result.0.now ∷ []) }
+{
+    match find(bytes, separator) {
+        Some(at) => (&bytes[..at], Some(&bytes[at + 1..])),
+        None => (bytes, None),
+    }
+}
+
+/// The remaining lines of a script, without their LF.
+#[derive(Drop)]
+pub(crate) struct Lines<'a> {
+    rest: &'a [u8],
+}
+
+impl<'a> Lines<'a> {
+    /// The lines of a script.
+    pub(crate) fn of(script: &'a [u8]) -> Self
+        ensures { result.rest.now ≡ script.now }
+    {
+        Lines { rest: script }
+    }
+
+    /// Takes the next line.
+    pub(crate) fn next_line(&mut self) -> Option<&'a [u8]>
+        ensures { MatchOption result (lines_of self.old.rest.now ≡ [])
+            (λ line. lines_of self.old.rest.now ≡ line.now ∷ lines_of self.new.rest.now) }
+    {
+        if self.rest.is_empty() {
+            return None;
+        }
+        let (line, rest) = first_piece(self.rest, LF);
+        self.rest = rest.unwrap_or(&[]);
+        Some(line)
+    }
+}
+
+// ---- the fields of a line, by the kinds that the forms have
 
 /// The bytes of a field, or none without a field. In contracts they are a list.
 #[derive(Drop)]
@@ -77,8 +134,33 @@ fn field_bytes(field: &[u8]) -> Option<FieldBytes>
     Some(FieldBytes::of(bytes))
 }
 
-// Each takes the next field, if it is of its kind. After `None` the line has no form.
-impl Fields<'_> {
+/// The remaining fields of a line. One space separates two fields.
+#[derive(Drop)]
+pub(crate) struct Fields<'a> {
+    rest: Option<&'a [u8]>,
+}
+
+impl<'a> Fields<'a> {
+    /// The fields of a line.
+    pub(crate) fn of(line: &'a [u8]) -> Self
+        ensures { remaining_fields result.rest ≡ fields_of line.now }
+    {
+        Fields { rest: Some(line) }
+    }
+
+    /// Takes the next field.
+    pub(crate) fn next_field(&mut self) -> Option<&'a [u8]>
+        ensures taken { MatchOption result (remaining_fields self.old.rest ≡ [])
+            (λ field. remaining_fields self.old.rest ≡ field.now ∷ remaining_fields self.new.rest) }
+        ensures none_left { IfNone result (remaining_fields self.new.rest ≡ []) }
+    {
+        let (field, rest) = first_piece(self.rest?, SPACE);
+        self.rest = rest;
+        Some(field)
+    }
+
+    // Each of these takes the next field, if it is of its kind. After `None` the line has no form.
+
     /// So many bytes, of two digits each.
     fn array<const N: usize>(&mut self) -> Option<[u8; N]>
         ensures value { result ≡ first_array N (remaining_fields self.old.rest) }

@@ -3,24 +3,17 @@
 
 mod clock_lines;
 mod command;
-mod counts;
 mod devices;
 mod driver;
-mod fault;
 mod fields;
 pub mod laws;
-mod output;
+mod objects;
 mod replies;
 mod script;
 mod serial_lines;
-mod splitting;
-mod trigger;
 
-pub use counts::Counts;
 pub use devices::Board;
 pub use driver::drain;
-pub use fault::{LineFault, ScriptFault};
-pub use output::Output;
-pub use replies::Reply;
+pub use objects::{Counts, Line, LineRefused, Output};
+pub use replies::{LineFault, Reply, ScriptFault};
 pub use script::run_script;
-pub use trigger::{Line, LineRefused};

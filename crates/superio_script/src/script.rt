@@ -6,9 +6,8 @@ ghost use Rattle.superio_script.specs.Script.{body_of, first_bad_line, PrintsLin
 
 use crate::command::refused_mask;
 use crate::devices::Board;
-use crate::fault::{LineFault, ScriptFault};
-use crate::replies::Reply;
-use crate::splitting::Lines;
+use crate::fields::Lines;
+use crate::replies::{LineFault, Reply, ScriptFault};
 use std::alloc::Global;
 use std::io;
 use std::io::{ErrorKind, Read, Write};

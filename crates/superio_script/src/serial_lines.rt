@@ -8,14 +8,11 @@ ghost use Rattle.superio_script.specs.Command.{takes_memory};
 ghost use Rattle.superio_script.specs.declared.command.SerialCommand.TheVariants.{Restore, Save, Load};
 
 use crate::command::SerialCommand;
-use crate::counts::Counts;
 use crate::driver::drain;
-use crate::fault::LineFault;
-use crate::output::Output;
+use crate::objects::{Counts, Line, LineRefused, Output};
 use crate::replies::{
-    Reply, reply_byte, reply_count, reply_digits, reply_events, reply_fault, reply_text,
+    LineFault, Reply, reply_byte, reply_count, reply_digits, reply_events, reply_fault, reply_text,
 };
-use crate::trigger::{Line, LineRefused};
 use std::alloc::Global;
 use std::mem;
 use vm_superio::serial::Error;
@@ -56,6 +53,7 @@ pub(crate) fn serial_line(
 }
 
 /// Restores the port from its own state.
+#[tactic(auto, using(crate::proofs::SerialScriptLemmas::restore_step))]
 fn restore(alloc: Global, serial: &mut Port) -> Result<Reply, LineFault>
     ensures step { IfOk result (λ reply. IsSerialLineStep Restore reply.items serial.old serial.new) }
     ensures unchanged { OnErr result (serial.new ≡ serial.old) }

@@ -1,17 +1,13 @@
-//! Tests of what no contract, script of tests/ or recorded call shows: printed text, objects that are dropped, a
-//! writer's own faults, and the modules of superio_examples at work.
+//! Tests of what no contract, script of tests/ or recorded call shows: printed text, calls that objects get, a writer's
+//! own faults, and the modules of superio_examples at work.
 #![tactic(auto)]
 
 #[cfg(test)]
-mod dropped;
+mod object_calls;
 #[cfg(test)]
 mod objects;
 #[cfg(test)]
 mod printed;
-#[cfg(test)]
-mod script;
-#[cfg(test)]
-mod sending;
 #[cfg(test)]
 mod sessions;
 #[cfg(test)]

@@ -7,9 +7,8 @@ use std::test::Fail;
 use superio_examples::first_claims::{
     read_back, refused_keeps_bytes, restored_reads_same, sent_is_appended,
 };
-use superio_examples::input::Input;
 use superio_examples::monitor::{Event, Monitor};
-use superio_examples::output::Output;
+use superio_examples::queues::{Input, Output};
 use superio_examples::saved_monitor::{move_monitor, save_monitor};
 use vm_superio::run::Call;
 use vm_superio::serial::{Port, SerialPort, Three};

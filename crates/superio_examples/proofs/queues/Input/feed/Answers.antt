@@ -2,8 +2,8 @@
 use Rattle.std.proofs.Common.{◌≡◌, length, rules, refl, ap, ◌∙◌}
 use Rattle.std.specs.List.{refill}
 use Rattle.vm_superio.specs.Serial.{state_of_port, enqueued_bytes}
-use Rattle.superio_examples.proofs.InputLemmas.{few-accepted, drop-accepted, keep-drop}
-use Rattle.superio_examples.proofs.input.Input.feed.Goals as goal
+use Rattle.superio_examples.proofs.QueueLemmas.{few-accepted, drop-accepted, keep-drop}
+use Rattle.superio_examples.proofs.queues.Input.feed.Goals as goal
 
 pub returns-clause-room : goal.returns-clause-room
 returns-clause-room c =

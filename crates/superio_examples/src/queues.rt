@@ -1,14 +1,119 @@
-//! Output of a guest. It waits until the monitor's sink takes it, and the guest never waits for the sink.
-ghost use Rattle.std.specs.Prelude.{◌≡◌, ◌≤◌, ◌-◌, ◌==◌, ◌++◌, [], ◌∷◌, length, drop, min, max, Some, IfOk, OnErr};
+//! What waits, up to a limit: input for a guest, until the serial port's FIFO has room, and no byte of it is lost; and
+//! output of a guest, until the monitor's sink takes it, and the guest never waits for the sink.
+ghost use Rattle.std.specs.Prelude.{◌≡◌, ◌≤◌, ◌-◌, ◌==◌, ℕ, [], ◌∷◌, ◌++◌, length, take, drop, max, min, Some, IfOk, OnErr};
 ghost use Rattle.std.specs.Io.{WritesAtMost};
 ghost use Rattle.std.specs.Io.KnownBytes.{WriteAppends, Appends, Keeps};
-ghost use Rattle.superio_examples.specs.Output.{Waiting, OutputLaw, after_sent, dropped_by};
+ghost use Rattle.circular_buffer.specs.Buffer.{Buffer, buffer};
+ghost use Rattle.vm_superio.specs.Serial.{state_of_port, CoherentPort, Asked, Enqueue, step_calls, step};
+ghost use Rattle.superio_examples.specs.Queues.{room_in, shows_ready, Waiting, OutputLaw, after_sent, dropped_by};
 
 use circular_buffer::HeapCircularBuffer;
 use std::alloc::{AllocError, Global};
 use std::io;
 use std::io::Write;
 use std::marker::Model;
+use superio_core::SerialPort;
+
+// ---- input
+
+/// The bytes that wait for the guest, oldest first, in a ring. Their number is limited, and `new` allocates the memory
+/// for this limit. In contracts the bytes are `items`, and the limit is `capacity`.
+#[derive(Drop)]
+pub struct Input {
+    waiting: HeapCircularBuffer<u8>,
+}
+
+impl Model for Input {
+    ghost Value = { Buffer ℕ };
+
+    ghost view = { λ input. input.waiting };
+}
+
+impl Input {
+    /// An empty queue of at most `limit` bytes.
+    ///
+    /// # Errors
+    ///
+    /// Returns `AllocError` if the allocator refuses memory.
+    pub fn new(alloc: Global, limit: usize) -> Result<Input, AllocError>
+        ensures { IfOk result (λ input. input ≡ buffer [] limit) }
+    {
+        let waiting = HeapCircularBuffer::with_capacity(alloc, limit)?;
+        Ok(Input { waiting })
+    }
+
+    /// A queue where these bytes wait, and at most `limit`, or as many as wait now if these are more.
+    ///
+    /// # Errors
+    ///
+    /// Returns `AllocError` if the allocator refuses memory.
+    pub fn restored(alloc: Global, waiting: &[u8], limit: usize) -> Result<Input, AllocError>
+        ensures { IfOk result (λ input. input ≡ buffer waiting.now (max limit (length waiting.now))) }
+    {
+        let mut input = Input::new(alloc, limit.max(waiting.len()))?;
+        input.push(waiting);
+        Ok(input)
+    }
+
+    /// How many more bytes `push` takes. While it is 0, the monitor stops reading its source.
+    pub fn room(&self) -> usize
+        ensures { result ≡ self.now.capacity - length self.now.items }
+    {
+        self.limit() - self.waiting.len()
+    }
+
+    /// How many bytes may wait.
+    pub fn limit(&self) -> usize
+        ensures value { result ≡ self.now.capacity }
+        ensures bound { length self.now.items ≤ self.now.capacity }
+    {
+        self.waiting.capacity()
+    }
+
+    /// A copy of the bytes that wait, oldest first.
+    ///
+    /// # Errors
+    ///
+    /// Returns `AllocError` if memory is refused for the copy.
+    pub fn waiting(&self, alloc: Global) -> Result<Vec<u8>, AllocError>
+        ensures { IfOk result (λ waiting. waiting.items ≡ self.now.items) }
+    {
+        self.waiting.to_vec(alloc)
+    }
+
+    /// Appends the first of these bytes, as many as there is room for, and returns how many. The caller keeps the
+    /// others.
+    pub fn push(&mut self, bytes: &[u8]) -> usize
+        ensures count { result ≡ min (length bytes.now) (self.old.capacity - length self.old.items) }
+        ensures added { self.new ≡ buffer (self.old.items ++ take result bytes.now) self.old.capacity }
+    {
+        self.waiting.fill_from_slice(bytes)
+    }
+
+    /// Gives the port the first waiting bytes, as many as its FIFO has room for: 0 to 64, and none in loopback. The
+    /// others stay. Returns how often to raise the interrupt: 0 or 1 times.
+    pub fn feed(&mut self, port: &mut SerialPort) -> u8
+        ensures port { state_of_port port.new ≡ step (state_of_port port.old) (Enqueue self.old.items) Asked.Nothing }
+        ensures room { self.new ≡ buffer (drop (room_in (state_of_port port.old)) self.old.items) self.old.capacity }
+        ensures interrupts { result ≡ step_calls (state_of_port port.old) (Enqueue self.old.items) }
+        ensures at_most_1 { result ≤ 1 }
+        ensures coherent { CoherentPort port.old → CoherentPort port.new }
+    {
+        let enqueued = port.enqueue_raw_bytes(self.waiting.make_contiguous());
+        self.waiting
+            .truncate_front(self.waiting.len() - enqueued.taken);
+        enqueued.interrupts
+    }
+}
+
+/// Whether a guest that leaves IER so is ready for input: with RDA and without THRE.
+pub(crate) fn shows_ready(enable: u8) -> bool
+    ensures { result ≡ shows_ready enable }
+{
+    enable & 0x03 == 0x01
+}
+
+// ---- output
 
 /// The bytes that wait for the monitor's sink, oldest first, in a ring. Their number is limited, and `new` allocates
 /// the memory for this limit. A byte that finds no room is dropped, and counted.
@@ -18,7 +123,7 @@ use std::marker::Model;
 /// log, and no contract says what the output holds after an I/O error.
 #[derive(Drop)]
 pub struct Output {
-    waiting: HeapCircularBuffer<u8>,
+    ring: HeapCircularBuffer<u8>,
     dropped: u64,
 }
 
@@ -26,8 +131,8 @@ impl Model for Output {
     ghost Value = { Waiting };
 
     ghost view = { λ output. record {
-      items = output.waiting.items;
-      capacity = output.waiting.capacity;
+      items = output.ring.items;
+      capacity = output.ring.capacity;
       dropped = output.dropped;
     } };
 }
@@ -41,11 +146,8 @@ impl Output {
     pub fn new(alloc: Global, limit: usize) -> Result<Output, AllocError>
         ensures { IfOk result (λ output. output ≡ record { items = []; capacity = limit; dropped = 0 }) }
     {
-        let waiting = HeapCircularBuffer::with_capacity(alloc, limit)?;
-        Ok(Output {
-            waiting,
-            dropped: 0,
-        })
+        let ring = HeapCircularBuffer::with_capacity(alloc, limit)?;
+        Ok(Output { ring, dropped: 0 })
     }
 
     /// An output where these bytes wait, and `dropped` were dropped. At most `limit` may wait, or as many as wait now if
@@ -68,10 +170,7 @@ impl Output {
     {
         let mut ring = HeapCircularBuffer::with_capacity(alloc, limit.max(waiting.len()))?;
         ring.fill_from_slice(waiting);
-        Ok(Output {
-            waiting: ring,
-            dropped,
-        })
+        Ok(Output { ring, dropped })
     }
 
     /// How many bytes may wait.
@@ -79,14 +178,14 @@ impl Output {
         ensures value { result ≡ self.now.capacity }
         ensures bound { length self.now.items ≤ self.now.capacity }
     {
-        self.waiting.capacity()
+        self.ring.capacity()
     }
 
     /// Whether no byte waits. If some do, the monitor polls its sink.
     pub fn is_empty(&self) -> bool
         ensures { result ≡ (length self.now.items == 0) }
     {
-        self.waiting.is_empty()
+        self.ring.is_empty()
     }
 
     /// How many bytes were dropped. The count saturates at 2^64 - 1.
@@ -104,14 +203,14 @@ impl Output {
     pub fn waiting(&self, alloc: Global) -> Result<Vec<u8>, AllocError>
         ensures { IfOk result (λ waiting. waiting.items ≡ self.now.items) }
     {
-        self.waiting.to_vec(alloc)
+        self.ring.to_vec(alloc)
     }
 
     /// Takes a byte that the guest sent if there is room, and otherwise drops and counts it.
     pub fn push(&mut self, byte: u8)
         ensures { self.new ≡ after_sent (byte ∷ []) self.old }
     {
-        if self.waiting.try_push_back(byte).is_err() {
+        if self.ring.try_push_back(byte).is_err() {
             let dropped = &mut self.dropped;
             *dropped = dropped.saturating_add(1);
         }
@@ -128,8 +227,8 @@ impl Output {
         ensures taken { IfOk result (λ count. self.new ≡ record self.old { items = drop count self.old.items }) }
         ensures refused { OnErr result (self.new ≡ self.old) }
     {
-        let count = sink.write(self.waiting.make_contiguous())?;
-        self.waiting.truncate_front(self.waiting.len() - count);
+        let count = sink.write(self.ring.make_contiguous())?;
+        self.ring.truncate_front(self.ring.len() - count);
         Ok(count)
     }
 }
@@ -146,12 +245,12 @@ impl Write for Output {
         ensures dropped { self.new.dropped ≡ dropped_by self.old (length buf.now) }
         ensures limit { self.new.capacity ≡ self.old.capacity }
     {
-        if self.waiting.is_full() {
+        if self.ring.is_full() {
             let dropped = &mut self.dropped;
             *dropped = dropped.saturating_add(buf.len() as u64);
             return Ok(0);
         }
-        Ok(self.waiting.fill_from_slice(buf))
+        Ok(self.ring.fill_from_slice(buf))
     }
 
     fn flush(&mut self) -> io::Result<()>
@@ -166,7 +265,7 @@ impl Write for Output {
 /// A law, for proofs about many calls: a guest sends bytes, by `push`, and sinks take them, by `drain_into`, in any
 /// order. What sinks took, then what waits, is what waited at the start, then what the guest sent, in order, without
 /// the bytes that were dropped. The count has grown by the number of these, up to 2^64 - 1.
-#[tactic(auto, using(crate::proofs::OutputLemmas::output_law))]
+#[tactic(auto, using(crate::proofs::QueueLemmas::output_law))]
 pub fn in_order()
     ensures { OutputLaw }
 {}

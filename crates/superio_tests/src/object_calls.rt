@@ -1,18 +1,23 @@
-//! What no contract says of a writer's faults: a data write makes one `write`, and one `flush` if that succeeded, and
-//! returns their fault as it is, whichever call makes it. So does an event, and an output that is drained.
+//! The calls that objects get, and the faults that they answer, as far as no contract says so. A data write makes one
+//! `write`, and one `flush` if that succeeded, and returns their fault as it is, whichever call makes it. So does an
+//! event, an output that is drained, and a script, which calls its streams no more than it has to. A call that takes and
+//! drops objects does not call them before.
 use crate::objects::{
     Log, Object, PortObjects, Then, Writing, by_std, faults, is_same, port, writings,
 };
 use std::alloc::Global;
-use std::io::Write;
+use std::io;
+use std::io::{Read, Write};
 use std::test::Fail;
 use superio_examples::bus::{Bus, BusError, COM1, Keyboard};
-use superio_examples::event_fd::EventFd;
-use superio_examples::output::Output;
-use superio_script::LineRefused;
+use superio_examples::queues::Output;
+use superio_examples::triggers::EventFd;
+use superio_script::{LineRefused, ScriptFault, run_script};
 use vm_superio::run::{Call, Reply};
-use vm_superio::serial::Error;
-use vm_superio::{I8042Device, Trigger};
+use vm_superio::serial::{Error, Refused};
+use vm_superio::{I8042Device, Rtc, Serial, SerialState, Trigger};
+
+// ---- a byte that is sent
 
 /// What a call returned that sent a byte.
 type Sent = Result<(), Error<LineRefused>>;
@@ -138,5 +143,117 @@ fn a_drained_output_is_one_write_and_returns_its_fault(rt: HostRuntime) -> Resul
             );
         }
     }
+    Ok(())
+}
+
+// ---- scripts
+
+/// Gives its bytes, then fails, or ends if it has no fault.
+#[derive(Drop)]
+struct Input<'a> {
+    bytes: &'a [u8],
+    fault: Option<io::Error>,
+    reads: u64,
+}
+
+impl Read for Input<'_> {
+    fn read(&mut self, buf: &mut [u8]) -> io::Result<usize> {
+        self.reads = self.reads.saturating_add(1);
+        match self.fault {
+            Some(fault) if self.bytes.is_empty() => Err(fault),
+            _ => self.bytes.read(buf),
+        }
+    }
+}
+
+/// How a script ends, and how often it calls `read`, `write` and `flush`.
+type Run = (Result<(), ScriptFault>, [u64; 3]);
+
+/// Runs a script that a reader gives, and then perhaps fails, over a writer that does this.
+fn run_over(alloc: Global, bytes: &[u8], fault: Option<io::Error>, writing: Writing) -> Run {
+    let log = Log::new();
+    log.start(writing);
+    let mut reader = Input {
+        bytes,
+        fault,
+        reads: 0,
+    };
+    let end = run_script(alloc, &mut reader, &mut Object(&log));
+    (end, [reader.reads, log.writes.get(), log.flushes.get()])
+}
+
+#[test]
+fn a_script_calls_its_streams_no_more_than_it_has_to(rt: HostRuntime) -> Result<(), Fail> {
+    let too_long = vec![in rt.alloc(); b'\n'; 70_000]?;
+    let runs: [(&[u8], Run); 5] = [
+        (b"kw 04 fe\nkr 04\n", (Ok(()), [2, 2, 1])),
+        (b"", (Ok(()), [1, 0, 1])),
+        (b"refuse 0000000000000001\n", (Ok(()), [2, 0, 1])),
+        (b"kr 04\nkr 5\n", (Err(ScriptFault::Bad(2)), [2, 1, 0])),
+        (&too_long, (Err(ScriptFault::TooLong), [1, 0, 0])),
+    ];
+    for (bytes, expected) in runs {
+        assert_eq!(rt;
+            run_over(rt.alloc(), bytes, None, Writing::takes()),
+            expected
+        );
+    }
+    Ok(())
+}
+
+/// A script writes each reply as by std's `write_all`, and then flushes all.
+#[test]
+fn a_fault_of_a_stream_is_io(rt: HostRuntime) {
+    for fault in faults() {
+        let unread = run_over(rt.alloc(), b"kr 04\n", Some(fault), Writing::takes());
+        assert_eq!(rt; unread, (Err(ScriptFault::Io), [2, 0, 0]));
+        for writing in writings(fault) {
+            let (result, [writes, flushes]) = by_std(writing, &[b"00\n", b"reset\n"], true);
+            let end = result.map_err(|_| ScriptFault::Io);
+            let run = run_over(rt.alloc(), b"kr 04\nkw 04 fe\n", None, writing);
+            assert_eq!(rt; run, (end, [2, writes, flushes]), "{fault:?}");
+        }
+    }
+}
+
+// ---- objects that are dropped
+
+#[test]
+fn objects_are_dropped_and_taken_apart_in_silence(rt: HostRuntime) -> Result<(), Fail> {
+    let log = Log::new();
+    let object = Object(&log);
+    // A port that holds a byte, and in which both conditions are pending and enabled.
+    let mut state = SerialState::default(rt.alloc());
+    state.in_buffer.push(b'a')?;
+    state.line_status = 0x61;
+    state.interrupt_enable = 0x03;
+    state.interrupt_identification = 0x06;
+    for way in 0..4u8 {
+        let made = Serial::from_state(rt.alloc(), &state, object, object, object);
+        let port = made.ok().expect(&rt, "a port");
+        let calls = log.calls();
+        match way {
+            0 => drop(port),
+            1 => drop(port.into_writer()),
+            2 => drop(port.into_parts()),
+            _ => {
+                let (trigger, events, out) = port.into_parts();
+                let refused = Refused {
+                    error: Error::FullFifo,
+                    trigger,
+                    events,
+                    out,
+                };
+                let _ = refused.into_error();
+            }
+        }
+        assert!(rt; log.calls() == calls, "{way}");
+    }
+    let calls = log.calls();
+    drop(Rtc::with_events(object).into_parts());
+    drop(I8042Device::new(object).into_reset_evt());
+    drop(Rtc::with_events(object));
+    drop(I8042Device::new(object));
+    assert!(rt; log.calls() == calls);
     Ok(())
 }
