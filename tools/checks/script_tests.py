@@ -11,6 +11,7 @@ from typing import NamedTuple
 TESTS = Path(__file__).resolve().parents[2] / "tests"
 sys.path.append(str(TESTS.parent / "bindings" / "python"))
 from superio.recording import entries_of  # noqa: E402
+from superio.script import FORMS  # noqa: E402, F401
 
 END = re.compile(r"bad line \d+|input or output fault|out of memory|script too long")
 STATUS = {"": 0, "bad": 1, "input": 2, "out": 3, "script": 4}  # by the first word of the end
