@@ -9,7 +9,7 @@ use Rattle.std.proofs.Math.Seq.{take-append-add}
 use Rattle.superio_core.specs.declared.saved.Error.{Error as Fault}
 use Rattle.superio_core.specs.Saved.{serial_form, clock_form, IsClock}
 use Rattle.vm_superio.specs.declared.saved.Error.{Error}
-use Rattle.vm_superio.specs.declared.serial.state.SerialState.{SerialState}
+use Rattle.vm_superio.specs.declared.serial.saved_form.SerialState.{SerialState}
 use Rattle.vm_superio.specs.declared.saved.Error.TheVariants.{Bytes, Memory}
 use Rattle.superio_core.specs.Serial.{State}
 use Rattle.superio_core.proofs.Lemmas.Saved.{numbers_in-form, serial_form_has_no_fault, clock_form_has_no_fault}
