@@ -27,10 +27,17 @@ const PORT = {
 };
 const REGISTERS = Object.keys(PORT).filter((name) => name !== "inBuffer");
 const PORT_SAVED = "53494f5301010c0011220306446108b577a1a2a3";
-const CLOCK = {
-  lr: 0x01020304, mr: 0x12131415, imsc: 0x23242526, ris: 0xb4353637, offset: -2n, armed: true,
-};
-const CLOCK_SAVED = "53494f5302011900" + "04030201" + "15141312" + "26252423" + "373635b4" + "feffffffffffffff" + "01";
+// A saved clock whose bytes differ, as long as that of docs/SAVED-STATES.md, and its fields by the table there.
+const DOCUMENT = new URL("../../../docs/SAVED-STATES.md", import.meta.url);
+const CLOCK_TEXT = readFileSync(DOCUMENT, "utf8").split("## A clock")[1];
+const [, CLOCK_HEADER, CLOCK_CONTENTS] = CLOCK_TEXT.match(/^(53494f5302\w{6})(\w+)$/m);
+const CLOCK_SAVED = CLOCK_HEADER + Array.from(CLOCK_CONTENTS.match(/../g).slice(1), (_, place) =>
+  (0x81 + place).toString(16)).join("") + "01";
+const CLOCK = Object.fromEntries(Array.from(CLOCK_TEXT.matchAll(/^\| (\d+) \| (\d) \| `(\w+)`/gm), ([, ...row]) => {
+  const [place, size] = row.map(Number);
+  const value = BigInt(`0x${CLOCK_SAVED.slice(2 * place, 2 * (place + size)).match(/../g).reverse().join("")}`);
+  return [row[2], { 1: value === 1n, 4: Number(value), 8: BigInt.asIntN(64, value) }[size]];
+}));
 
 test("each field of a state has its place", () => {
   const port = Serial.fromState(PORT);
@@ -139,7 +146,8 @@ const NUMBERS = [
   ["value", OF_BYTE, (it) => new I8042().write(4, it)],
   ["offset", [-(2n ** 63n), 2n ** 63n - 1n], (it) => Rtc.fromState({ ...CLOCK, offset: it })],
   ...REGISTERS.map((name) => [name, OF_BYTE, (it) => Serial.fromState({ ...PORT, [name]: it })]),
-  ...["lr", "mr", "imsc", "ris"].map((name) => [name, OF_WORD, (it) => Rtc.fromState({ ...CLOCK, [name]: it })]),
+  ...Object.keys(CLOCK).filter((name) => typeof CLOCK[name] === "number").map((name) =>
+    [name, OF_WORD, (it) => Rtc.fromState({ ...CLOCK, [name]: it })]),
 ];
 
 test("each number is taken at its edges, and refused beyond them by its name, its value and the range", () => {

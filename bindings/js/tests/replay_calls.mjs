@@ -40,7 +40,8 @@ const OWN = {
   },
   cl(first, offset, ...others) {
     const [lr, mr, imsc, ris] = [first, ...others].map(number);
-    board.clock = Rtc.fromState({ lr, mr, imsc, ris, offset: BigInt(offset), armed: others.length > 3 });
+    const fresh = new Rtc().state;
+    board.clock = Rtc.fromState({ ...fresh, lr, mr, imsc, ris, offset: BigInt(offset), armed: others.length > 3 });
     return OWN.cs();
   },
 };

@@ -160,7 +160,7 @@ class States(unittest.TestCase):
 
     def test_a_state_has_the_types_that_it_is_annotated_with(self):
         """Also one that was made of other numbers, such as Booleans, which JSON has as other values."""
-        one = [SerialState(*[True] * 9, in_buffer=bytearray(b"a")), RtcState(*[True] * 5, armed=256)]
+        one = [SerialState(*[True] * 9, in_buffer=bytearray(b"a")), RtcState(*[True] * (len(RtcState.kinds()) - 1), armed=256)]
         for state in (SerialState(), RtcState(), Serial().state, Rtc().state, *one):
             types = {name: type(value) for name, value in vars(state).items()}
             self.assertEqual(typing.get_type_hints(type(state)), types)
@@ -197,8 +197,8 @@ class States(unittest.TestCase):
         for value, name in FORMATS.items():
             self.assertEqual([name], registers.bit_names(registers.SERIAL["LCR"], value), hex(value))
         clock = Rtc.from_state(RtcState(lr=0x12345678, mr=0x9ABCDEF0, imsc=1, offset=-5, armed=True))
-        self.assertEqual("<Rtc MR=0x9abcdef0 LR=0x12345678 IMSC=0x00000001(ALARM) RIS=0x00000000 offset=-5 armed=True>",
-                         repr(clock))
+        self.assertRegex(repr(clock), r"^<Rtc MR=0x9abcdef0 LR=0x12345678 IMSC=0x00000001\(ALARM\) RIS=0x00000000 "
+                                      r"(\w+=0x00000000 )*offset=-5 armed=True>$")
 
     def test_coherence(self):
         self.assertTrue(Serial().is_coherent())

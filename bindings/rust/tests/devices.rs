@@ -87,9 +87,10 @@ fn a_state_of_more_bytes_than_a_port_holds_has_no_form_and_makes_no_port() {
 #[test]
 fn five_fields_are_made_only_without_an_alarm() {
     let state = RtcState { lr: 1, offset: -2, mr: 3, imsc: 4, ris: 5 };
-    assert_eq!(RtcSnapshot::from(state), RtcSnapshot { state, armed: false });
-    assert_eq!(RtcState::try_from(RtcSnapshot { state, armed: false }), Ok(state));
-    assert_eq!(RtcState::try_from(RtcSnapshot { state, armed: true }), Err(AlarmIsSet));
+    let snapshot = RtcSnapshot::from(state);
+    assert_eq!((snapshot.state, snapshot.armed), (state, false));
+    assert_eq!(RtcState::try_from(snapshot), Ok(state));
+    assert_eq!(RtcState::try_from(RtcSnapshot { armed: true, ..snapshot }), Err(AlarmIsSet));
     let error: Box<dyn StdError> = AlarmIsSet.into();
     assert_eq!(error.to_string(), "an alarm is set, and the five fields of RtcState cannot hold it");
 }

@@ -1,6 +1,6 @@
 -- A saved state as bytes: its form, the checks that other bytes fail, and the laws that join the two.
 use Rattle.std.specs.Prelude.{ℕ, Bool, if◌then◌else◌, List, [], ◌∷◌, ◌++◌, length, ◌==◌, not, ◌+◌, nat_le, nat_lt, drop, slice_index, Option, Some, None, codes, ◌≡◌, ◌<◌, ◌≤◌, ◌^◌, FitsSigned}
-use Rattle.std.specs.Int.{w16, w32, w64, to_le_bytes, cast_unsigned, from_le_bytes}
+use Rattle.std.specs.Int.{w16, w32, w64, to_le_bytes, cast_unsigned, cast_signed, from_le_bytes}
 use Rattle.std.specs.Option.{option_or}
 use Rattle.std.specs.Str.{bytes_eq}
 use Rattle.superio_core.specs.declared.rtc_pl031.saved_form.RtcState.{RtcState}
@@ -54,6 +54,17 @@ clock_contents state =
 
 abbrev pub clock_form : (state : RtcState) → List ℕ
 clock_form state = form clock_kind (clock_contents state)
+
+-- the numbers of a saved clock, at their places
+abbrev pub numbers_in : (bytes : List ℕ) → RtcState
+numbers_in bytes = record {
+  lr = from_le_bytes w32 (drop 8 bytes);
+  mr = from_le_bytes w32 (drop 12 bytes);
+  imsc = from_le_bytes w32 (drop 16 bytes);
+  ris = from_le_bytes w32 (drop 20 bytes);
+  offset = cast_signed w64 (from_le_bytes w64 (drop 24 bytes));
+  armed = slice_index bytes 32 == 1;
+}
 
 -- ---- the checks of bytes that are read as a saved state, in order: the first that fails is the error
 

@@ -7,13 +7,13 @@ use Rattle.std.specs.Io.KnownBytes.{Consumes}
 use Rattle.std.proofs.lemmas.List.{length-take-le, take-append-le, take_rest}
 use Rattle.std.proofs.Math.Seq.{take-append-add}
 use Rattle.superio_core.specs.declared.saved.Error.{Error as Fault}
-use Rattle.superio_core.specs.Saved.{serial_form, clock_form, IsClock}
+use Rattle.superio_core.specs.Saved.{serial_form, clock_form, IsClock, numbers_in}
 use Rattle.vm_superio.specs.declared.saved.Error.{Error}
 use Rattle.vm_superio.specs.declared.serial.saved_form.SerialState.{SerialState}
 use Rattle.vm_superio.specs.declared.saved.Error.TheVariants.{Bytes, Memory}
 use Rattle.superio_core.specs.Serial.{State}
 use Rattle.superio_core.proofs.Lemmas.Saved.{numbers_in-form, serial_form_has_no_fault, clock_form_has_no_fault}
-use Rattle.superio_script.specs.Loading.{unless_fault, port_in, loaded_port, clock_in, loaded_clock, PortFormLoads, ClockFormLoads}
+use Rattle.superio_script.specs.Loading.{unless_fault, port_in, loaded_port, loaded_clock, PortFormLoads, ClockFormLoads}
 use Rattle.vm_superio.specs.Links.ForAnyObject.{FoldsEvents}
 use Rattle.vm_superio.specs.Rtc.{invalid_write, GoesOnByHistory, RtcState, write, write_of, clock_of_history}
 use Rattle.superio_script.specs.Objects.{no_counts, counts_after_clock_event, Counts}
@@ -30,7 +30,7 @@ port_form-loads state few = ap (λ (fault : Option Fault). unless_fault fault (p
 
 pub clock_form-loads : ClockFormLoads
 clock_form-loads state numbers =
-    ap (λ (fault : Option Fault). unless_fault fault (clock_in (clock_form state))) (clock_form_has_no_fault state)
+    ap (λ (fault : Option Fault). unless_fault fault (numbers_in (clock_form state))) (clock_form_has_no_fault state)
     ∙ ap Ok (numbers_in-form state numbers)
 
 pub ruleset saved_forms_load_laws = (port_form-loads, clock_form-loads)

@@ -5,7 +5,7 @@ use Rattle.hex.specs.Hex.{encode_lower}
 use Rattle.superio_core.specs.declared.rtc_pl031.saved_form.RtcState.{RtcState}
 use Rattle.superio_core.specs.declared.saved.Error.{Error}
 use Rattle.superio_core.specs.declared.saved.Error.TheVariants.{TooShort, NotASavedState, OtherDevice, UnknownVersion, WrongLength, TooManyBytes, InvalidArmed}
-use Rattle.superio_core.specs.Saved.{serial_form, clock_form, serial_fault, clock_fault, IsClock}
+use Rattle.superio_core.specs.Saved.{serial_form, clock_form, serial_fault, clock_fault, IsClock, numbers_in}
 use Rattle.superio_core.specs.Serial.{State, state_of_bytes}
 
 -- ---- the states
@@ -22,19 +22,8 @@ port_in bytes = state_of_bytes (drop 8 bytes)
 abbrev pub loaded_port : (bytes : List ℕ) → Result State Error
 loaded_port bytes = unless_fault (serial_fault bytes) (port_in bytes)
 
--- the registers of a clock, likewise
-abbrev pub clock_in : (bytes : List ℕ) → RtcState
-clock_in bytes = record {
-  lr = from_le_bytes w32 (drop 8 bytes);
-  mr = from_le_bytes w32 (drop 12 bytes);
-  imsc = from_le_bytes w32 (drop 16 bytes);
-  ris = from_le_bytes w32 (drop 20 bytes);
-  offset = cast_signed w64 (from_le_bytes w64 (drop 24 bytes));
-  armed = slice_index bytes 32 == 1;
-}
-
 abbrev pub loaded_clock : (bytes : List ℕ) → Result RtcState Error
-loaded_clock bytes = unless_fault (clock_fault bytes) (clock_in bytes)
+loaded_clock bytes = unless_fault (clock_fault bytes) (numbers_in bytes)
 
 -- the form of a state loads this state
 abbrev pub PortFormLoads : Type 0

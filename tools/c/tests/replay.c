@@ -183,10 +183,14 @@ static void serial_state(void) {
 
 static void clock_state(void) {
     if (words[1]) {
-        uint64_t armed = words[6] ? (uint64_t)1 << 32 : 0; /* any number but 0 says that an alarm is set */
-        superio_rtc restored = {(uint32_t)number(1), (uint32_t)number(3), (uint32_t)number(4), (uint32_t)number(5),
-                                strtoll(words[2], NULL, 10), armed};
-        *rtc = restored;
+        *rtc = superio_rtc_new();
+        rtc->lr = (uint32_t)number(1);
+        rtc->mr = (uint32_t)number(3);
+        rtc->imsc = (uint32_t)number(4);
+        rtc->ris = (uint32_t)number(5);
+        rtc->offset = strtoll(words[2], NULL, 10);
+        if (words[6]) /* any number but 0 says that an alarm is set */
+            memset((uint8_t *)&rtc->armed + sizeof rtc->armed / 2, 1, 1);
     }
     add(reply, "%08" PRIx32 " %" PRId64 " %08" PRIx32 " %08" PRIx32 " %08" PRIx32 "%s", rtc->lr, rtc->offset, rtc->mr,
         rtc->imsc, rtc->ris, rtc->armed ? " armed" : "");

@@ -5,19 +5,8 @@ use Rattle.std.specs.Int.{w32, w64, to_le_bytes, from_le_bytes, cast_unsigned, c
 use Rattle.std.proofs.lemmas.Int.{to_z-of_z}
 use Rattle.std.proofs.lemmas.Nat.{from_le_bytes-to_le_bytes_4, from_le_bytes-to_le_bytes_8}
 use Rattle.superio_core.specs.declared.rtc_pl031.saved_form.RtcState.{RtcState}
-use Rattle.superio_core.specs.Saved.{Error, flag, clock_form, clock_fault, IsClock, SerialFormLaw, ClockFormLaw, OneSerialStateLaw, OneClockStateLaw, serial_form, serial_fault, TooShort, NotASavedState, OtherDevice, UnknownVersion, WrongLength, TooManyBytes, InvalidArmed}
+use Rattle.superio_core.specs.Saved.{Error, flag, numbers_in, clock_form, clock_fault, IsClock, SerialFormLaw, ClockFormLaw, OneSerialStateLaw, OneClockStateLaw, serial_form, serial_fault, TooShort, NotASavedState, OtherDevice, UnknownVersion, WrongLength, TooManyBytes, InvalidArmed}
 use Rattle.superio_core.specs.Serial.{state_of_bytes, fresh_state, State}
-
--- the numbers at their places
-abbrev pub numbers_in : (bytes : List ℕ) → RtcState
-numbers_in bytes = record {
-  lr = from_le_bytes w32 (drop 8 bytes);
-  mr = from_le_bytes w32 (drop 12 bytes);
-  imsc = from_le_bytes w32 (drop 16 bytes);
-  ris = from_le_bytes w32 (drop 20 bytes);
-  offset = cast_signed w64 (from_le_bytes w64 (drop 24 bytes));
-  armed = slice_index bytes 32 == 1;
-}
 
 of-same : (lr mr imsc ris lr' mr' imsc' ris' : ℕ) (offset offset' : ℤ) (armed armed' : Bool) →
     lr ≡ lr' → mr ≡ mr' → imsc ≡ imsc' → ris ≡ ris' → offset ≡ offset' → armed ≡ armed' →
