@@ -8,14 +8,14 @@ from itertools import count, product
 from struct import Struct
 from typing import Callable, Dict, NamedTuple
 
-from oracle import FIFO_SIZE, FRESH, Clock, Port, start_fact
+from oracle import CLOCK_AT, CLOCK_FIELDS, FIFO_SIZE, FRESH, Clock, Port, start_fact
 from program import ROOT, commit
 
 ROOM = 256                # bytes that the output of a script's board takes
 MOST_LINES, RUN = 36, 40  # of a random script, and calls of a random run
-# The kinds of saved states, and the fields of a clock's.
+# The kinds of saved states, and the contents of a clock's.
 SERIAL, CLOCK = 1, 2
-CLOCK_CONTENTS = Struct("<4Iqb")
+CLOCK_CONTENTS = Struct("<" + "".join(CLOCK_FIELDS.values()))
 
 
 def saved(kind, contents):
@@ -44,9 +44,14 @@ def port_text(registers, held):
     return f"{registers.hex()} {held.hex() or '-'}"
 
 
-def clock_text(lr, mr, imsc, ris, offset, armed):
-    """The state of a clock, as recorded calls have it."""
-    return f"{lr:08x} {offset} {mr:08x} {imsc:08x} {ris:08x}{' armed' * armed}"
+def clock_text(state):
+    """The state of a clock, as recorded calls have it: the fields that vm-superio saves, and whether an alarm is set."""
+    return "{LR:08x} {offset} {MR:08x} {IMSC:08x} {RIS:08x}".format(**state) + " armed" * state["armed"]
+
+
+def clock_form(state):
+    """The saved state of a clock."""
+    return saved(CLOCK, CLOCK_CONTENTS.pack(*state.values()))
 
 
 class Board:
@@ -97,7 +102,7 @@ class Board:
         if reply == "ok" and kind == SERIAL:
             return self.restore(start_fact(data[8:17], data[17:]))
         if reply == "ok":
-            self.clock = Clock(*CLOCK_CONTENTS.unpack(data[8:]))
+            self.clock = Clock(**dict(zip(CLOCK_FIELDS, CLOCK_CONTENTS.unpack(data[8:]))))
         return reply
 
     def access_clock(self, moment, offset, *value):
@@ -133,9 +138,12 @@ class Monitor(Board):
     def put_port(self, registers, held):
         return "full" if len(held) > FIFO_SIZE else self.replace_port(start_fact(registers, held))
 
-    def put_clock(self, lr, offset, mr, imsc, ris, *armed):
-        self.clock = Clock(*(int(field, 16) for field in (lr, mr, imsc, ris)), int(offset), len(armed))
-        return clock_text(*self.clock.state())
+    def put_clock(self, lr, offset, *fields):
+        mr, imsc, ris, *armed = fields
+        registers = {"LR": lr, "MR": mr, "IMSC": imsc, "RIS": ris}
+        self.clock = Clock(**{name: int(digits, 16) for name, digits in registers.items()}, offset=int(offset),
+                           armed=len(armed))
+        return clock_text(self.clock.state())
 
 
 class Line(NamedTuple):
@@ -172,7 +180,7 @@ LINES = {
     "so": Line("", lambda it: it.output.hex(), {"": 1}),
     "st": Line("", lambda it: f"{it.count('TR'):016x}", {"": 1}),
     "se": Line("", lambda it: " ".join(f"{it.count(event):016x}" for event in "bole"), {"": 1}),
-    "cb": Line("", lambda it: saved(CLOCK, CLOCK_CONTENTS.pack(*it.clock.state())).hex(), {"": 1}),
+    "cb": Line("", lambda it: clock_form(it.clock.state()).hex(), {"": 1}),
     "cl": Line("HH..", lambda it, data=b"": it.load(CLOCK, data), {"KEPT": 1}),
 }
 CALLS = {
@@ -181,7 +189,7 @@ CALLS = {
     "sh": Line("", lambda it: f"{bool(it.port.due()):02x}", {"": 1}),
     "ss": Line("", Monitor.replace_port, {"": 1}),
     "sl": Line("HH.. HH..", Monitor.put_port, {"PORT": 1}),
-    "cs": Line("", lambda it: clock_text(*it.clock.state()), {"": 1}),
+    "cs": Line("", lambda it: clock_text(it.clock.state()), {"": 1}),
     "cl": Line("", Monitor.put_clock, {}),
 }
 # The lines of scripts as a document has them, and as a regular expression.
@@ -229,9 +237,10 @@ def port_state(source):
 
 
 def clock_state(source):
-    """Any fields of a clock, in the order of its saved state."""
+    """Any fields of a clock."""
     ahead = source.choice((number(source) - number(source), source.getrandbits(64) - 2**63, 2**63 - 1 - number(source)))
-    return [*(number(source) for _ in range(4)), ahead, source.randrange(2)]
+    return {name: {"I": number(source), "q": ahead, "b": source.randrange(2)}[form]
+            for name, form in CLOCK_FIELDS.items()}
 
 
 # What is drawn for a word in capitals. A moment mostly moves a clock about the ends of 32 bits.
@@ -239,15 +248,15 @@ DRAWN = {
     "BYTE": lambda source: f"{source.randrange(256):02x}",
     "PLACE": lambda source: f"{source.randrange(10):02x}",
     "BYTES": lambda source: source.randbytes(source.choice((0, 1, 2, 3, 3, source.randrange(80)))).hex() or "-",
-    "REGISTER": lambda source: f"{source.choice((*range(0, 0x20, 4), 0xFE3, 0x21, source.getrandbits(16))):04x}",
+    "REGISTER": lambda source: f"{source.choice((*CLOCK_AT, 0xFE3, 0x21, source.getrandbits(16))):04x}",
     "NUMBER": lambda source: f"{number(source):08x}",
     "MOMENT": lambda source: f"{source.choice((0, 0, 1, source.getrandbits(32))):08x}{number(source):08x}",
     "MASK": lambda source: f"{source.getrandbits(64) & source.choice((-1, source.getrandbits(64), 0x3F)):016x}",
     "WORDS": lambda source: source.choice((*[""] * 6, *"12nfui", "1 2", "1 f", "1 u", "2 n")),
     "PORT": lambda source: port_text(*port_state(source)),
-    "CLOCK": lambda source: clock_text(*clock_state(source)),
+    "CLOCK": lambda source: clock_text(clock_state(source)),
     "SAVED": lambda source: saved(SERIAL, b"".join(port_state(source))).hex(),
-    "KEPT": lambda source: saved(CLOCK, CLOCK_CONTENTS.pack(*clock_state(source))).hex(),
+    "KEPT": lambda source: clock_form(clock_state(source)).hex(),
 }
 
 
@@ -315,8 +324,8 @@ def spoilt(source):
     data, more = bytes.fromhex(drawn(source, source.choice(("SAVED", "KEPT")))), source.randbytes(source.randrange(80))
     place = source.choice((source.randrange(8), source.randrange(len(data))))
     changed = data[:place] + source.randbytes(1) + data[place + 1:]
-    bound = saved(data[4], bytes(source.choice((8, 9, 24, 25, 26, 72, 73, 74))))
-    return source.choice((data, changed, changed, data[:place + 1], data + more[:8], data[:8] + more, bound))
+    bound = source.choice((len(FRESH), CLOCK_CONTENTS.size, len(FRESH) + FIFO_SIZE)) + source.randrange(-1, 2)
+    return source.choice((data, changed, changed, data[:place + 1], data + more[:8], data[:8] + more, saved(data[4], bytes(bound))))
 
 
 def every_load():

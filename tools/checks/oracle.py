@@ -18,8 +18,8 @@ ENABLED_BY = {"RDA": 0x01, "THRE": 0x02}
 # The outputs of MCR, DTR, RTS, OUT1 and OUT2, each with the input of MSR that shows it in loopback.
 LOOPED = [(0x01, 0x20), (0x02, 0x10), (0x04, 0x40), (0x08, 0x80)]
 
-# The fields of a clock, in the order of a saved state.
-CLOCK_FIELDS = ["LR", "MR", "IMSC", "RIS", "offset", "armed"]
+# The fields of a clock, in the order of a saved state, each with the form of its number there, as struct has it.
+CLOCK_FIELDS = {"LR": "I", "MR": "I", "IMSC": "I", "RIS": "I", "offset": "q", "armed": "b"}
 CLOCK_AT = {0x00: "DR", 0x04: "MR", 0x08: "LR", 0x0C: "CR", 0x10: "IMSC", 0x14: "RIS", 0x18: "MIS", 0x1C: "ICR"}
 IDENTIFICATION = bytes.fromhex("31 10 04 00 0d f0 05 b1")   # from 0xFE0 on, at four offsets each
 
@@ -180,10 +180,10 @@ class Port(Device):
 
 
 class Clock(Device):
-    """A real-time clock, from the fields of a state on."""
+    """A real-time clock, from a state on. Fields that are not given are 0."""
 
-    def __init__(self, *fields):
-        self.past = [Fact(dict(zip(CLOCK_FIELDS, fields or [0] * len(CLOCK_FIELDS))))]
+    def __init__(self, **fields):
+        self.past = [Fact({**dict.fromkeys(CLOCK_FIELDS, 0), **fields})]
 
     def raw_status(self):
         """The bits that were raised, by the start or by an access, and that no write has cleared since."""
@@ -193,7 +193,7 @@ class Clock(Device):
         return bits
 
     def state(self):
-        return [self.raw_status() if name == "RIS" else self.last(name) for name in CLOCK_FIELDS]
+        return {name: self.raw_status() if name == "RIS" else self.last(name) for name in CLOCK_FIELDS}
 
     def access(self, moment, offset, value=None):
         """Makes an access. Returns the number that a read shows, 0 for a write, or None for an invalid access."""

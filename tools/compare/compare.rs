@@ -68,7 +68,8 @@ impl Devices {
                 Ok("ok".into())
             }
             #[cfg(feature = "further")]
-            ["cs"] if self.clock.is_armed() => self.take_snapshot(&self.clock.snapshot()),
+            ["cs"] => self.take_snapshot(&self.clock.snapshot()),
+            #[cfg(not(feature = "further"))]
             ["cs"] => self.restore_clock(&self.clock.state()),
             ["cl", _, _, _, _, _] => self.restore_clock(&clock_of(words)),
             ["kr", offset] => hex(self.controller.read(byte(offset))),

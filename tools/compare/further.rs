@@ -19,7 +19,7 @@ impl Devices {
             ["ch"] => hex(self.clock.line().into()),
             ["cd", moment] => Ok(self.clock.due(number(moment)).map_or("never".into(), |due| format!("{due:08x}"))),
             ["cb"] => Ok(text_of(&self.clock.snapshot().to_bytes())),
-            ["cl", .., "armed"] => self.take_snapshot(&RtcSnapshot { state: clock_of(words), armed: true }),
+            ["cl", .., "armed"] => self.take_snapshot(&RtcSnapshot { armed: true, ..clock_of(words).into() }),
             ["cl", form] => {
                 self.take_snapshot(&RtcSnapshot::from_bytes(&bytes_of(form)).map_err(fault)?)?;
                 Ok("ok".into())

@@ -96,8 +96,9 @@ export function ruleOf({ command: { name, values }, before }) {
   }
   if (name === "cr" || name === "cw") {
     const register = clockRegister(values[1]);
-    return clockRules[register?.name] ?? [register ? "It names the chip: a driver looks for it." :
-      "Nothing is here: the access is invalid.", "the-clock"];
+    if (!register) return ["Nothing is here: the access is invalid.", "the-clock"];
+    const other = register.name.startsWith("ID") ? "It names the chip: a driver looks for it." : KEPT[0];
+    return clockRules[register.name] ?? [other, "the-clock"];
   }
   return LINES[name].rule ?? ["The board tells what it counted.", "the-serial-port"];
 }

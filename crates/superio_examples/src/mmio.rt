@@ -10,8 +10,8 @@ use vm_superio::rtc_pl031::RtcEvents;
 /// The length of the window, as of a PL031.
 const LENGTH: u64 = 0x1000;
 
-/// An offset of no register. There an access is invalid, and changes no register.
-const NO_REGISTER: u16 = 0x020;
+/// An offset between two registers. There an access is invalid, and changes no register.
+const NO_REGISTER: u16 = 0x021;
 
 /// A clock whose window begins at `base`. A guest reaches its registers by accesses of four bytes. A read of one or two
 /// bytes gives that part of the register around it, as EDK II reads the identification. Any other access in the window

@@ -121,7 +121,6 @@ impl RtcState {
     #[tactic(auto, using(crate::proofs::Lemmas::Saved::clock_form_read))]
     pub fn from_bytes(bytes: &[u8]) -> Result<RtcState, Error>
         ensures form { IfOk result (λ state. bytes.now ≡ clock_form state) }
-        ensures numbers { IfOk result IsClock }
         ensures read { (state : RtcState) → IsClock state → bytes.now ≡ clock_form state → result ≡ Ok state }
         ensures fault { result_err result ≡ clock_fault bytes.now }
     {

@@ -103,7 +103,7 @@ impl RtcState {
     /// # Errors
     ///
     /// Returns the first check that fails, in the order of [`Error`]: any case but [`Error::TooManyBytes`].
-    // Clauses in crates/superio_core/src/rtc_pl031/saved_form.rt: form, numbers, read, fault.
+    // Clauses in crates/superio_core/src/rtc_pl031/saved_form.rt: form, read, fault.
     pub fn from_bytes(bytes: &[u8]) -> Result<RtcState, Error> {
         Self::parse(bytes)
     }

@@ -10,7 +10,7 @@ use Rattle.superio_script.proofs.clock_lines.load.Goals as goal
 pub returns-in-Ok : goal.returns-in-Ok
 returns-in-Ok c =
     let state = c.in-Ok.state in
-    let numbers : IsClock state = c.in-Ok.ensures.numbers in
+    let numbers : IsClock state = record { lr = search rules; mr = search rules; imsc = search rules; ris = search rules; offset = search rules } in
     let loads = clock-loaded c.args.bytes.now state numbers c.in-Ok.ensures.form in
     let now = c.from_state.ensures.state ∙ c.clock_is_history.ensures.all_states state [] in
     record {
