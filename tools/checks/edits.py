@@ -5,6 +5,7 @@ from dataclasses import dataclass, field
 
 from contracts import functions_of
 
+KEYS = ("edit", "function", "clause", "file", "old", "new")  # with which the lines of an entry begin
 REFUSED = "REFUSED: "  # begins what became of an edit, if it is as it has to be
 VERDICT = re.compile(r"only=(\d+) proved=(\d+)$|logic=(not-)?proved\b")
 UNREAD = re.compile(r"(?:\./)?(?:src|specs)/\S+ error(?!: `)")
@@ -28,33 +29,44 @@ class Edit:
     clauses: list
     file: str
     text: str
+    entry: str = ""
     changes: list = field(default_factory=list)
     problem: str = ""
 
 
-def read_edits(crate):
-    """The edits of a crate: the entries of `wrong-bodies/*.edits`, with an empty line between two."""
-    texts = [path.read_text(encoding="utf-8").strip("\n") for path in sorted(crate.glob("wrong-bodies/*.edits"))]
-    return [read_edit(crate, entry) for text in texts for entry in text.split("\n\n")]
+def read_edits(crates):
+    """The edits of these crates, by the crates' names: the entries of `wrong-bodies/*.edits` beside their folders, with
+    an empty line between two."""
+    found = {name: [] for name in crates}
+    [beside] = {crate.folder.parent for crate in crates.values()}
+    for path in sorted(beside.glob("wrong-bodies/*.edits")):
+        for entry in path.read_text(encoding="utf-8").strip("\n").split("\n\n"):
+            edit = read_edit(crates, entry)
+            found[edit.function.partition("::")[0]].append(edit)
+    return {name: edits for name, edits in found.items() if edits}
 
 
-def read_edit(crate, entry):
-    """An entry. Each `old:` text must occur once in its file, that of the function's module if none is named."""
+def read_edit(crates, entry):
+    """An entry. Each `old:` text must occur once in its file, that of the function's module if none is named. A function
+    of no crate is a LookupError, since nothing would try it."""
     said = defaultdict(list)
     for line in entry.splitlines():
         key, _, value = line.partition(":")
         said[key].append(value.removeprefix(" "))
     name, function = ("".join(said[key]) for key in ("edit", "function"))
-    modules = function.split("::")[1:]
+    crate, *modules = function.split("::")
+    folder = crates[crate].folder
     files = said["file"] or ["src/" + "/".join(modules[:end]) + ".rt" for end in range(len(modules), 0, -1)]
-    file = next((file for file in files if (crate / file).is_file()), "src/lib.rt")
-    edit = Edit(f"{crate.name}/{name}", function, said["clause"], file, (crate / file).read_text(encoding="utf-8"))
+    file = next((file for file in files if (folder / file).is_file()), "src/lib.rt")
+    edit = Edit(f"{crate}/{name}", function, said["clause"], file, (folder / file).read_text(encoding="utf-8"), entry)
     if not edit.clauses or not said["old"] or len(said["old"]) != len(said["new"]):
         edit.problem = "it has to name a clause, and to have pairs of 'old:' and 'new:'"
     for old, new in zip(said["old"], said["new"]):
         edit.changes.append((edit.text.find(old), old, new))
         if edit.text.count(old) != 1:
             edit.problem = f"an 'old:' text is in {file} {edit.text.count(old)} times, and not once"
+    if unknown := [key for key in said if key not in KEYS and not key.startswith("#")]:
+        edit.problem = f"no line begins with '{unknown[0]}'"
     return edit
 
 
