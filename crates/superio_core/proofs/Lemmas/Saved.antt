@@ -1,7 +1,7 @@
 -- Lemmas on the byte form of a saved state. Other crates' proofs use the public ones too.
-use Rattle.std.proofs.Common.{◌≡◌, ℕ, ◌<◌, ◌^◌, Bool, true, false, ap, sym, ◌∙◌, arith, refl, List, drop, ◌==◌, slice_index, Some, None, IfOk, Result, Ok, Err, ℤ, pos, negsuc, FitsSigned, length, [], ◌∷◌, take, ◌++◌, replicate}
+use Rattle.std.proofs.Common.{◌≡◌, ℕ, ◌<◌, ◌^◌, Bool, true, false, ap, sym, ◌∙◌, arith, refl, List, drop, ◌==◌, Some, None, IfOk, Result, Ok, Err, ℤ, pos, negsuc, FitsSigned, length, [], ◌∷◌, take, ◌++◌, replicate}
 use Rattle.std.specs.Result.{result_err}
-use Rattle.std.specs.Int.{w32, w64, to_le_bytes, from_le_bytes, cast_unsigned, cast_signed}
+use Rattle.std.specs.Int.{w64, to_le_bytes, from_le_bytes, cast_unsigned, cast_signed}
 use Rattle.std.proofs.lemmas.Int.{to_z-of_z}
 use Rattle.std.proofs.lemmas.Nat.{from_le_bytes-to_le_bytes_4, from_le_bytes-to_le_bytes_8}
 use Rattle.superio_core.specs.declared.rtc_pl031.saved_form.RtcState.{RtcState}
