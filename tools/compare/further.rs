@@ -1,4 +1,4 @@
-//! The calls that bindings/rust has beside those of the Rust crate. tools/c/tests/shared.txt has each.
+//! The calls that bindings/rust has beside those of the Rust crate. tools/checks/calls makes each.
 use superio::rtc_pl031::{Rtc, RtcSnapshot};
 use superio::saved::SavedStateError;
 use superio::serial::SerialState;

@@ -160,7 +160,8 @@ class States(unittest.TestCase):
 
     def test_a_state_has_the_types_that_it_is_annotated_with(self):
         """Also one that was made of other numbers, such as Booleans, which JSON has as other values."""
-        one = [SerialState(*[True] * 9, in_buffer=bytearray(b"a")), RtcState(*[True] * (len(RtcState.kinds()) - 1), armed=256)]
+        numbers = len(RtcState.kinds()) - 1
+        one = [SerialState(*[True] * 9, in_buffer=bytearray(b"a")), RtcState(*[True] * numbers, armed=256)]
         for state in (SerialState(), RtcState(), Serial().state, Rtc().state, *one):
             types = {name: type(value) for name, value in vars(state).items()}
             self.assertEqual(typing.get_type_hints(type(state)), types)
