@@ -45,13 +45,8 @@ def port_text(registers, held):
 
 
 def clock_text(state):
-    """The state of a clock, as recorded calls have it: the fields that vm-superio saves, and whether an alarm is set."""
+    """The state of a clock, as recorded calls have it: vm-superio's five fields, and whether an alarm is set."""
     return "{LR:08x} {offset} {MR:08x} {IMSC:08x} {RIS:08x}".format(**state) + " armed" * state["armed"]
-
-
-def clock_form(state):
-    """The saved state of a clock."""
-    return saved(CLOCK, CLOCK_CONTENTS.pack(*state.values()))
 
 
 class Board:
@@ -138,11 +133,9 @@ class Monitor(Board):
     def put_port(self, registers, held):
         return "full" if len(held) > FIFO_SIZE else self.replace_port(start_fact(registers, held))
 
-    def put_clock(self, lr, offset, *fields):
-        mr, imsc, ris, *armed = fields
-        registers = {"LR": lr, "MR": mr, "IMSC": imsc, "RIS": ris}
-        self.clock = Clock(**{name: int(digits, 16) for name, digits in registers.items()}, offset=int(offset),
-                           armed=len(armed))
+    def put_clock(self, lr, offset, mr, imsc, ris, *armed):
+        lr, mr, imsc, ris = (int(digits, 16) for digits in (lr, mr, imsc, ris))
+        self.clock = Clock(LR=lr, MR=mr, IMSC=imsc, RIS=ris, offset=int(offset), armed=len(armed))
         return clock_text(self.clock.state())
 
 
@@ -180,7 +173,7 @@ LINES = {
     "so": Line("", lambda it: it.output.hex(), {"": 1}),
     "st": Line("", lambda it: f"{it.count('TR'):016x}", {"": 1}),
     "se": Line("", lambda it: " ".join(f"{it.count(event):016x}" for event in "bole"), {"": 1}),
-    "cb": Line("", lambda it: clock_form(it.clock.state()).hex(), {"": 1}),
+    "cb": Line("", lambda it: saved(CLOCK, CLOCK_CONTENTS.pack(*it.clock.state().values())).hex(), {"": 1}),
     "cl": Line("HH..", lambda it, data=b"": it.load(CLOCK, data), {"KEPT": 1}),
 }
 CALLS = {
@@ -239,8 +232,7 @@ def port_state(source):
 def clock_state(source):
     """Any fields of a clock."""
     ahead = source.choice((number(source) - number(source), source.getrandbits(64) - 2**63, 2**63 - 1 - number(source)))
-    return {name: {"I": number(source), "q": ahead, "b": source.randrange(2)}[form]
-            for name, form in CLOCK_FIELDS.items()}
+    return {it: {"I": number(source), "q": ahead, "b": source.randrange(2)}[form] for it, form in CLOCK_FIELDS.items()}
 
 
 # What is drawn for a word in capitals. A moment mostly moves a clock about the ends of 32 bits.
@@ -256,7 +248,7 @@ DRAWN = {
     "PORT": lambda source: port_text(*port_state(source)),
     "CLOCK": lambda source: clock_text(clock_state(source)),
     "SAVED": lambda source: saved(SERIAL, b"".join(port_state(source))).hex(),
-    "KEPT": lambda source: clock_form(clock_state(source)).hex(),
+    "KEPT": lambda source: saved(CLOCK, CLOCK_CONTENTS.pack(*clock_state(source).values())).hex(),
 }
 
 
@@ -324,8 +316,9 @@ def spoilt(source):
     data, more = bytes.fromhex(drawn(source, source.choice(("SAVED", "KEPT")))), source.randbytes(source.randrange(80))
     place = source.choice((source.randrange(8), source.randrange(len(data))))
     changed = data[:place] + source.randbytes(1) + data[place + 1:]
-    bound = source.choice((len(FRESH), CLOCK_CONTENTS.size, len(FRESH) + FIFO_SIZE)) + source.randrange(-1, 2)
-    return source.choice((data, changed, changed, data[:place + 1], data + more[:8], data[:8] + more, saved(data[4], bytes(bound))))
+    size = source.choice((len(FRESH), CLOCK_CONTENTS.size, len(FRESH) + FIFO_SIZE)) + source.randrange(-1, 2)
+    bound = saved(data[4], bytes(size))
+    return source.choice((data, changed, changed, data[:place + 1], data + more[:8], data[:8] + more, bound))
 
 
 def every_load():

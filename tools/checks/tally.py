@@ -26,24 +26,6 @@ class NotBuilt(OSError):
     """A program or a library could not be built. The text says why."""
 
 
-class Tried:
-    """How much of each kind was tried, and the kinds of which something cannot run here."""
-
-    def __init__(self):
-        self.counts, self.left_out = Counter(), set()
-
-    def add(self, kind, number=1):
-        self.counts[kind] += number
-
-    def leave_out(self, kind):
-        self.left_out.add(kind)
-
-    def lines(self):
-        """What the check prints."""
-        return [*(f"tried: {number} {kind}" for kind, number in self.counts.items()),
-                *(f"not tried: {kind}" for kind in sorted(self.left_out))]
-
-
 def sum_line(passed, failed, skipped=0):
     """The last line of each check."""
     return f"{passed} passed, {failed} failed" + (f", {skipped} skipped" if skipped else "")
@@ -59,11 +41,12 @@ def run(command, timeout=LIMIT, **options):
 
 
 class Tally:
-    """Counts checks by their kind, and prints what failed and what is missing."""
+    """Counts checks by their kind, and prints what failed and what is missing. `tried` has how much of each kind was
+    tried, and `left_out` the kinds of which something cannot run here."""
 
     def __init__(self, kind="checks"):
         self.passed = self.failed = self.skipped = 0
-        self.tried, self.kind = Tried(), kind
+        self.tried, self.left_out, self.kind = Counter(), set(), kind
 
     def of(self, kind):
         """Names the kind of what is counted from now on."""
@@ -71,7 +54,7 @@ class Tally:
 
     def check(self, is_good, message, number=1):
         """Counts a check, which tries so many of its kind. The message says what failed."""
-        self.tried.add(self.kind, number)
+        self.tried[self.kind] += number
         self.passed += bool(is_good)
         self.failed += not is_good
         if not is_good:
@@ -81,7 +64,7 @@ class Tally:
     def skip(self, missing, what):
         """Counts a check that cannot run, for want of something."""
         self.skipped += 1
-        self.tried.leave_out(self.kind)
+        self.left_out.add(self.kind)
         print(f"skipped: {missing} is not there, for {what}")
 
     def has(self, tool, what):
@@ -114,7 +97,9 @@ class Tally:
         """Prints what was tried of each kind and the sum. Returns the exit status."""
         if not self.passed + self.failed + self.skipped:
             self.check(False, "nothing was checked")
-        print(*self.tried.lines(), sum_line(self.passed, self.failed, self.skipped), sep="\n")
+        print(*(f"tried: {number} {kind}" for kind, number in self.tried.items()),
+              *(f"not tried: {kind}" for kind in sorted(self.left_out)),
+              sum_line(self.passed, self.failed, self.skipped), sep="\n")
         return 1 if self.failed else 0
 
 
@@ -156,6 +141,6 @@ def run_tests(folder, names):
     tally.failed = len({test.id().partition(" ")[0] for test, _ in result.failures + result.errors})
     tally.skipped = len(result.skipped)
     tally.passed = max(0, result.testsRun - tally.failed - tally.skipped)
-    tally.tried.add(tally.kind, tally.passed + tally.failed)
-    tally.tried.left_out |= {tally.kind} if tally.skipped else set()
+    tally.tried[tally.kind] += tally.passed + tally.failed
+    tally.left_out |= {tally.kind} if tally.skipped else set()
     return tally.end()
