@@ -324,7 +324,7 @@ def spoilt(source):
 def every_load():
     """Each of many spoilt states is loaded as a port and as a clock, which are saved after it."""
     source = random.Random("loads")
-    for digits in dict.fromkeys(spoilt(source).hex() for _ in range(20_000)):
+    for digits in dict.fromkeys(spoilt(source).hex() for _ in range(20_500)):
         yield from (f"sl {digits}", "sb", f"cl {digits}", "cb")
 
 
