@@ -49,7 +49,7 @@ pub mod serial;
 /// [`take_back`](values::serial::Registers::take_back).
 ///
 /// No call takes or returns a [`Condition`](values::serial::registers::Condition), a
-/// [`ClockRegister`](values::rtc_pl031::ClockRegister) or a [`Sent`](values::serial::effects::Sent): the contracts of
+/// [`ClockRegister`](values::rtc_pl031::ClockRegister) or a [`Sent`](values::serial::Sent): the contracts of
 /// the proved source name their cases.
 #[path = "core/mod.rs"]
 // These lines are those of the proved source, in the layout and style of its language. A name in a pattern that is no

@@ -1,10 +1,9 @@
 //! Saved states as bytes.
-ghost use Rattle.std.specs.Prelude.{◌≡◌, ◌≢◌, ◌≤◌, ◌++◌, length, take, drop, Some};
+ghost use Rattle.std.specs.Prelude.{◌≡◌, ◌≢◌, ◌≤◌, length, take, drop, Some};
 ghost use Rattle.superio_c.specs.Saved.{load_status};
 ghost use Rattle.superio_core.specs.Rtc.{state_of_clock};
-ghost use Rattle.superio_core.specs.Serial.Port.{state_of_port};
+ghost use Rattle.superio_core.specs.Serial.{state_of_port, State};
 ghost use Rattle.superio_core.specs.Saved.{serial_fault, clock_fault, serial_form, clock_form};
-ghost use Rattle.superio_core.specs.Serial.{State};
 
 use superio_core::rtc_pl031::saved_form::SAVED_SIZE;
 use superio_core::rtc_pl031::{Clock, RtcState};

@@ -1,9 +1,7 @@
 //! The serial port. Its struct is `superio_serial` in the header: nine registers, then the received bytes.
 ghost use Rattle.std.specs.Prelude.{◌≡◌, ◌↔◌, ◌≤◌, ◌-◌, ◌==◌, not, length, IsTrue};
-ghost use Rattle.superio_core.specs.Serial.Port.{state_of_port, CoherentPort, ShowsHeldBytes};
-ghost use Rattle.superio_core.specs.Serial.{fresh_state};
-ghost use Rattle.superio_core.specs.Serial.Step.Admissible.{IsPortRead, IsPortWrite, IsPortEnqueue, IsPortTimeout};
-ghost use Rattle.superio_core.specs.Serial.Step.Raising.{is_line_up, restore_calls};
+ghost use Rattle.superio_core.specs.Serial.{state_of_port, CoherentPort, ShowsHeldBytes, fresh_state, is_line_up, restore_calls};
+ghost use Rattle.superio_core.specs.Serial.Step.{IsPortRead, IsPortWrite, IsPortEnqueue, IsPortTimeout};
 
 use superio_core::serial::{EnqueueEffects, ReadEffects, SerialPort, WriteEffects};
 

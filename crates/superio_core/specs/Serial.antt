@@ -1,57 +1,13 @@
--- The serial port: the bits of a 16550 by their standard names, and the state of a port.
+-- The serial port: its state, what a read of a register shows, and the port that a program holds.
 pub mod Operations
-pub mod Port
 pub mod RegisterMap
 pub mod Step
-use Rattle.std.specs.Prelude.{ℕ, Bool, true, false, List, [], ◌∷◌, drop, slice_index, ◌≡◌}
+use Rattle.std.specs.Prelude.{ℕ, Bool, true, false, List, [], ◌∷◌, ◌++◌, take, drop, length, slice_index, ◌≡◌, ◌≤◌, ◌%◌, min, ◌&&◌, ◌||◌, IsTrue}
+use Rattle.superio_core.specs.Bits.{has_bits, with_bits}
+use Rattle.superio_core.specs.Serial.RegisterMap.{Register, Dll, Dlm, RbrThr, Ier, Iir, Lcr, Mcr, Lsr, Msr, Scr, Unassigned, Condition, Rda, Thre, lsr_dr_bit, iir_fifo_bits, msr_read, ier_bit, iir_bit, identification_of, pending_in_order}
 pub use Rattle.superio_core.specs.declared.serial.registers.Registers.{Registers}
-
--- LCR: the divisor latch is at offsets 0 and 1
-abbrev pub lcr_dlab_bit : ℕ
-lcr_dlab_bit = 0x80
-
--- MCR: the outputs DTR, RTS, OUT1 and OUT2, and loopback
-abbrev pub mcr_dtr_bit : ℕ
-mcr_dtr_bit = 0x01
-
-abbrev pub mcr_rts_bit : ℕ
-mcr_rts_bit = 0x02
-
-abbrev pub mcr_out1_bit : ℕ
-mcr_out1_bit = 0x04
-
-abbrev pub mcr_out2_bit : ℕ
-mcr_out2_bit = 0x08
-
-abbrev pub mcr_loop_bit : ℕ
-mcr_loop_bit = 0x10
-
--- MSR: the inputs CTS, DSR, RI and DCD
-abbrev pub msr_cts_bit : ℕ
-msr_cts_bit = 0x10
-
-abbrev pub msr_dsr_bit : ℕ
-msr_dsr_bit = 0x20
-
-abbrev pub msr_ri_bit : ℕ
-msr_ri_bit = 0x40
-
-abbrev pub msr_dcd_bit : ℕ
-msr_dcd_bit = 0x80
-
--- LSR: data ready
-abbrev pub lsr_dr_bit : ℕ
-lsr_dr_bit = 0x01
-
--- IER: the four bits that a write keeps
-abbrev pub ier_bits : ℕ
-ier_bits = 0x0F
-
--- IIR: the FIFOs are enabled
-abbrev pub iir_fifo_bits : ℕ
-iir_fifo_bits = 0xC0
-
--- ---- the state of a serial port: a fresh one, that of its registers and bytes, and as bytes
+pub use Rattle.superio_core.specs.declared.fifo.RxRing.{RxRing}
+pub use Rattle.superio_core.specs.declared.serial.SerialPort.{SerialPort}
 
 -- the ten fields of a port's state; the received bytes are oldest first
 pub record State : Type 0 where
@@ -110,6 +66,37 @@ SameSettings old new = new ≡ record old {
   interrupt_identification = new.interrupt_identification;
 }
 
+-- what a read of the register shows
+abbrev pub register_read : (register : Register) (s : State) → ℕ
+register_read Dll s = s.baud_divisor_low
+register_read Dlm s = s.baud_divisor_high
+-- RBR: the oldest received byte, or 0
+register_read RbrThr s = slice_index s.in_buffer 0
+register_read Ier s = s.interrupt_enable
+-- IIR: with the bits that say that the FIFOs are enabled
+register_read Iir s = with_bits s.interrupt_identification iir_fifo_bits
+register_read Lcr s = s.line_control
+register_read Mcr s = s.modem_control
+register_read Lsr s = s.line_status
+register_read Msr s = msr_read s.modem_control s.modem_status
+register_read Scr s = s.scratch
+register_read Unassigned s = 0
+
+-- ---- the interrupt line, and the trigger calls of a restore, by the state
+
+-- a condition is pending and enabled
+abbrev pub is_asserted : (condition : Condition) (s : State) → Bool
+is_asserted condition s =
+    has_bits s.interrupt_identification (iir_bit condition) && has_bits s.interrupt_enable (ier_bit condition)
+
+-- the line, as a 16550 drives it: up while such a condition is there
+abbrev pub is_line_up : (s : State) → Bool
+is_line_up s = is_asserted Thre s || is_asserted Rda s
+
+-- one call for each such condition, as long as none is refused: THRE first
+abbrev pub restore_calls : (s : State) → List Condition
+restore_calls s = pending_in_order (is_asserted Thre s) (is_asserted Rda s)
+
 -- ---- the registers as bytes
 
 -- how many registers keep a byte
@@ -136,3 +123,41 @@ state_of_bytes bytes = record {
   scratch = slice_index bytes 8;
   in_buffer = drop register_count bytes;
 }
+
+-- ---- the received bytes in the places of a ring
+
+-- the places of the ring, from the oldest byte on: `head` counts modulo 64
+abbrev pub ring_from : (head : ℕ) (bytes : List ℕ) → List ℕ
+ring_from head bytes = drop (head % 64) bytes ++ take (head % 64) bytes
+
+-- the bytes that are held, oldest first: as many of these places as are held, and at most 64
+abbrev pub held_bytes : (fifo : RxRing) → List ℕ
+held_bytes fifo = take (min fifo.len 64) (ring_from fifo.head fifo.bytes)
+
+-- ---- the state of a port
+
+-- the registers and the bytes in the places; any struct has one
+abbrev pub state_of_port : (port : SerialPort) → State
+state_of_port port = state_with port.registers (held_bytes port.in_buffer)
+
+-- ---- what every step keeps
+
+-- IIR shows which of THRE and RDA are pending; RDA is pending only while a received byte is held; data ready is set
+-- exactly while one is; at most 64 are. The other fields are free
+pub record Coherent (s : State) : Type 0 where
+  pub thre : Bool
+  pub rda : Bool
+  pub identification : s.interrupt_identification ≡ identification_of thre rda
+  pub received : IsTrue rda → IsTrue (not_empty s.in_buffer)
+  pub data_ready : has_bits s.line_status lsr_dr_bit ≡ not_empty s.in_buffer
+  pub at_most_64 : length s.in_buffer ≤ 64
+
+-- IIR shows RDA if bytes are held and IER enables it: no byte waits without an interrupt
+abbrev pub ShowsHeldBytes : (s : State) → Type 0
+ShowsHeldBytes s =
+    IsTrue (not_empty s.in_buffer) → IsTrue (has_bits s.interrupt_enable (ier_bit Rda))
+    → IsTrue (has_bits s.interrupt_identification (iir_bit Rda))
+
+-- the state is coherent, and `len` is at most 64
+abbrev pub CoherentPort : (port : SerialPort) → Type 0
+CoherentPort port = (port.in_buffer.len ≤ 64) × Coherent (state_of_port port)

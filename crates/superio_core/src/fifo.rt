@@ -1,7 +1,6 @@
 //! What a port needs of its receive FIFO, and a FIFO in the 64 places of an array.
 ghost use Rattle.std.specs.Prelude.{◌≡◌, ◌<◌, ◌≤◌, ◌+◌, ◌-◌, ◌%◌, ℕ, min, not, List, [], ◌∷◌, ◌++◌, length, take, drop, slice_get};
-ghost use Rattle.superio_core.specs.Serial.{not_empty};
-ghost use Rattle.superio_core.specs.Serial.Port.{held_bytes};
+ghost use Rattle.superio_core.specs.Serial.{not_empty, held_bytes};
 
 /// The capacity of the FIFO, as in a 16750.
 pub const FIFO_SIZE: usize = 64;

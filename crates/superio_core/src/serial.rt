@@ -2,22 +2,16 @@
 //!
 //! A call changes the port and returns what is left to do: a byte to send, interrupts to raise, or events to report. The
 //! port owns no objects and allocates no memory, so a monitor keeps it where it likes, in any language.
-ghost use Rattle.std.specs.Prelude.{◌≡◌, ◌↔◌, ◌≤◌, ◌-◌, ◌==◌, Bool, not, length, IsTrue};
-ghost use Rattle.superio_core.specs.Serial.{fresh_state};
-ghost use Rattle.superio_core.specs.Serial.RegisterMap.{identification_of};
-ghost use Rattle.superio_core.specs.Serial.Port.{state_of_port, CoherentPort, ShowsHeldBytes};
-ghost use Rattle.superio_core.specs.Serial.Step.Raising.{is_line_up, restore_calls};
-ghost use Rattle.superio_core.specs.Serial.Step.Admissible.{IsPortRead, IsPortWrite, IsPortEnqueue, IsPortTimeout};
+ghost use Rattle.std.specs.Prelude.{◌≡◌, ◌↔◌, ◌≤◌, ◌-◌, ◌==◌, not, length, IsTrue};
+ghost use Rattle.superio_core.specs.Serial.{fresh_state, state_of_port, CoherentPort, ShowsHeldBytes, is_line_up, restore_calls};
+ghost use Rattle.superio_core.specs.Serial.Step.{IsPortRead, IsPortWrite, IsPortEnqueue, IsPortTimeout};
 
-mod bits;
-pub mod effects;
 pub mod registers;
 pub mod saved_form;
 mod steps;
 
 pub use super::fifo::RxRing;
 use super::fifo::{FIFO_SIZE, ReceiveFifo};
-pub use effects::{EnqueueEffects, ReadEffects, WriteEffects};
 pub use registers::Registers;
 
 /// A serial port without objects: its registers and received bytes. Any bytes are valid.
@@ -142,4 +136,66 @@ impl SerialPort {
         usize::from(self.in_buffer.len) <= FIFO_SIZE
             && self.registers.is_coherent(!self.in_buffer.is_empty())
     }
+}
+
+/// The byte of a read, and the events to report.
+///
+/// `in_buffer_empty` is reported before `buffer_read`.
+#[repr(C)]
+#[derive(Clone, Copy)]
+pub struct ReadEffects {
+    /// The byte that the guest reads.
+    pub byte: u8,
+    /// The guest read the data register.
+    pub buffer_read: bool,
+    /// The guest read the data register, and no byte is held now.
+    pub in_buffer_empty: bool,
+}
+
+/// What a write leaves to the caller.
+#[repr(C)]
+#[derive(Clone, Copy)]
+pub struct WriteEffects {
+    /// The byte goes out.
+    pub sends: bool,
+    /// How often to ask for the interrupt: 0, 1 or 2 times.
+    pub interrupts: u8,
+}
+
+/// What an enqueue did, and leaves to the caller.
+#[repr(C)]
+#[derive(Clone, Copy)]
+pub struct EnqueueEffects {
+    /// How many of the bytes were taken, from the first on.
+    pub taken: usize,
+    /// There were bytes, outside loopback, and 64 were held already: nothing changed.
+    pub full: bool,
+    /// How often to ask for the interrupt: 0 or 1 times.
+    pub interrupts: u8,
+}
+
+/// The trigger's answers to the port's own calls in one call, in order.
+#[derive(Clone, Copy, Debug, PartialEq, Eq)]
+pub enum Asked {
+    /// The trigger was not called.
+    Nothing,
+    /// One call, taken.
+    Took,
+    /// One call, refused.
+    Refused,
+    /// Two calls, both taken.
+    TookTook,
+    /// Two calls: the first taken, the second refused.
+    TookRefused,
+}
+
+/// The outcome of the byte that a call sent to the writer.
+#[derive(Clone, Copy, Debug, PartialEq, Eq)]
+pub enum Sent {
+    /// The call sent no byte.
+    Nothing,
+    /// The writer took the byte.
+    Out,
+    /// The writer failed.
+    Lost,
 }

@@ -2,7 +2,7 @@
 ghost use Rattle.vm_superio.specs.Links.{WriterCalls};
 ghost use Rattle.std.specs.Prelude.{◌≡◌, length, replicate};
 ghost use Rattle.std.specs.Bool.{OnTrue, OnFalse};
-ghost use Rattle.superio_core.specs.Serial.Port.{Coherent};
+ghost use Rattle.superio_core.specs.Serial.{Coherent};
 ghost use Rattle.superio_examples.specs.Bus.{serial_offset, is_width, ReadsByte, WritesByte, ReadsBytes, WritesBytes};
 
 use std::io::Write;

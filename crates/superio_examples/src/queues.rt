@@ -2,7 +2,7 @@
 //! output of a guest, until the monitor's sink takes it, and the guest never waits for the sink.
 ghost use Rattle.std.specs.Prelude.{◌≡◌, ◌≤◌, ◌-◌, ◌==◌, ℕ, [], ◌∷◌, ◌++◌, length, take, drop, max, min, Some, IfOk, OnErr};
 ghost use Rattle.std.specs.Io.{WritesAtMost};
-ghost use Rattle.std.specs.Io.KnownBytes.{WriteAppends, Appends, Keeps};
+ghost use Rattle.std.specs.Io.KnownBytes.{WriteAppends, Keeps};
 ghost use Rattle.circular_buffer.specs.Buffer.{Buffer, buffer};
 ghost use Rattle.vm_superio.specs.Serial.{state_of_port, CoherentPort, Asked, Enqueue, step_calls, step};
 ghost use Rattle.superio_examples.specs.Queues.{room_in, shows_ready, Waiting, OutputLaw, after_sent, dropped_by};

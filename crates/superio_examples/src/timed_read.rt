@@ -1,7 +1,7 @@
 //! A guest's read by a monitor that keeps the rule by which no received byte waits for ever: after a read of IIR that
 //! answers 'none pending' it makes a character timeout.
 ghost use Rattle.std.specs.Prelude.{◌≡◌, ◌≤◌};
-ghost use Rattle.superio_core.specs.Serial.Port.{state_of_port, CoherentPort};
+ghost use Rattle.superio_core.specs.Serial.{state_of_port, CoherentPort};
 ghost use Rattle.superio_examples.specs.TimedRead.{shown_at, state_after_read, calls_after_read};
 
 use superio_core::SerialPort;

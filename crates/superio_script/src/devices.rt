@@ -1,6 +1,5 @@
 //! A board of devices, and the lines that drive it.
 ghost use Rattle.std.specs.Prelude.{◌≡◌, ◌↔◌, IfOk, IfErr, IsSomeAnd, IsErrOf, OnErr};
-ghost use Rattle.superio_script.specs.Objects.{fresh_interrupt_line};
 ghost use Rattle.superio_script.specs.Command.{command_of, TakesMemory};
 ghost use Rattle.superio_script.specs.Reply.{controller_reply};
 ghost use Rattle.superio_script.specs.declared.replies.LineFault.TheVariants.{Bad, Memory};

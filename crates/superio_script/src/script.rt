@@ -1,6 +1,6 @@
 //! A whole script, from a reader to a writer.
 ghost use Rattle.std.specs.Prelude.{◌≡◌, ◌≢◌, ◌⊎◌, ℕ, ◌+◌, ◌^◌, ◌<◌, ◌≤◌, length, IfOk, IfErr, IfSome, OnOk, OnErr, vec_len, take, Some, None};
-ghost use Rattle.std.specs.Io.KnownBytes.{Keeps, Appends, Consumes, IsAtEnd};
+ghost use Rattle.std.specs.Io.KnownBytes.{Appends, Consumes, IsAtEnd};
 ghost use Rattle.superio_script.specs.Fields.{lines_of};
 ghost use Rattle.superio_script.specs.Script.{body_of, first_bad_line, PrintsLines, StopsWithoutMemory, RunsUpTo, EndsWithoutMemory, WritesFirst, WritesPart, WritesPartOf, ReadsBytes};
 

@@ -2,7 +2,7 @@
 pub mod Examples
 pub mod Rtc
 pub mod Serial
-use Rattle.std.proofs.Common.{◌≡◌, ◌≢◌, lit<, ℕ, ◌<◌, Bool, true, false, ◌==◌, refl, sym, ap, ◌∙◌, arith, List, [], ◌∷◌, ◌++◌, Option, Some, None, subst, append_assoc, append-nil, bit_and, IsTrue, not, Ok, Err, mod-lt}
+use Rattle.std.proofs.Common.{◌≡◌, ◌≢◌, lit<, ℕ, ◌<◌, Bool, true, false, ◌==◌, refl, sym, ap, ◌∙◌, arith, List, [], ◌∷◌, ◌++◌, Option, subst, append_assoc, append-nil, bit_and, IsTrue, not, Ok, Err, mod-lt}
 use Rattle.std.proofs.lemmas.Bool.{false≢true, eqb-true}
 use Rattle.std.specs.Int.Bits.{and_mask, or_add_and}
 use Rattle.std.specs.List.{list_all}

@@ -6,8 +6,7 @@ pub use Rattle.superio_core.specs.Bits.{has_bits}
 pub use Rattle.superio_core.specs.I8042.{is_reset_command}
 pub use Rattle.superio_core.specs.Rtc.{fresh_clock, read, write}
 pub use Rattle.superio_core.specs.Rtc.Step.{clock_step}
-pub use Rattle.superio_core.specs.Serial.Port.{Coherent}
-pub use Rattle.superio_core.specs.Serial.{State, fresh_state, not_empty, SameSettings}
+pub use Rattle.superio_core.specs.Serial.{Coherent, State, fresh_state, not_empty, SameSettings}
 pub use Rattle.vm_superio.specs.Serial.{Port}
 pub use Rattle.vm_superio.specs.Saved.{state_of}
 use Rattle.vm_superio.specs.Serial.{Rda, is_dlab, is_loopback, ier_bit, iir_bit}

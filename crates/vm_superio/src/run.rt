@@ -1,7 +1,7 @@
 //! Runs: a list of calls to a serial port, with a record of each. [`Serial::run`](crate::Serial::run) and
 //! [`Port::run`] make them.
 ghost use Rattle.std.specs.Prelude.{◌≡◌, IfOk, OnErr};
-ghost use Rattle.superio_core.specs.Serial.Port.{Coherent};
+ghost use Rattle.superio_core.specs.Serial.{Coherent};
 ghost use Rattle.vm_superio.specs.Serial.Step.ObjectStep.{IsCallStep, IsRun};
 ghost use Rattle.vm_superio.specs.Serial.Run.{act_of};
 ghost use Rattle.vm_superio.specs.Serial.Run.HistoryTheorem.{HistoryTheorem};
@@ -10,7 +10,7 @@ use crate::serial::{Error, Objects, Port, RefusedObject};
 use std::alloc::{AllocError, Global};
 use std::collections::VecDeque;
 use std::mem;
-pub use superio_core::serial::effects::{Asked, Sent};
+pub use superio_core::serial::{Asked, Sent};
 
 /// A call to a serial port, with the object of a restore. A [`Serial`](crate::Serial) has its three objects in one, by
 /// [`Three::with_writer`](crate::serial::Three::with_writer).

@@ -11,8 +11,7 @@ use Rattle.std.proofs.lemmas.Bool.{cases_lt}
 use Rattle.std.proofs.Math.Seq.{take-set-lt, drop-cons, take-suc}
 use Rattle.superio_core.specs.Bits.{has_bits, only_bits, with_bits, without_bits}
 use Rattle.superio_core.proofs.Lemmas.{and-without}
-use Rattle.superio_core.specs.Serial.Port.{Coherent, held_bytes, RxRing}
-use Rattle.superio_core.specs.Serial.{fresh_state}
+use Rattle.superio_core.specs.Serial.{Coherent, held_bytes, RxRing, fresh_state}
 use Rattle.superio_core.specs.Serial.Operations.{events_of_read, buffer_read, in_buffer_empty}
 
 -- ---- data ready, the lowest bit

@@ -1,9 +1,9 @@
 -- The operations on a serial port, their responses, the events that the port reports, the entries of a trace, and what
 -- an operation means for bytes and interrupts.
 use Rattle.std.specs.Prelude.{ℕ, Bool, true, false, ◌==◌, ◌&&◌, if◌then◌else◌, List, [], ◌∷◌, ◌++◌}
-pub use Rattle.superio_core.specs.declared.serial.effects.Asked.{Asked}
-pub use Rattle.superio_core.specs.declared.serial.effects.Sent.{Sent}
-use Rattle.superio_core.specs.declared.serial.effects.ReadEffects.{ReadEffects}
+pub use Rattle.superio_core.specs.declared.serial.Asked.{Asked}
+pub use Rattle.superio_core.specs.declared.serial.Sent.{Sent}
+use Rattle.superio_core.specs.declared.serial.ReadEffects.{ReadEffects}
 use Rattle.superio_core.specs.Serial.RegisterMap.{Register, RbrThr, Ier, Iir, register_at}
 
 -- an operation, without the objects of a restore

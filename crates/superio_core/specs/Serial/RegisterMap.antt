@@ -1,11 +1,58 @@
--- The registers of a 16550: which one an offset reaches, what a read of each shows, and the interrupt conditions.
-use Rattle.std.specs.Prelude.{ℕ, Bool, true, false, ◌==◌, if◌then◌else◌, List, [], ◌∷◌, ◌++◌, slice_index}
+-- The registers of a 16550: their bits by their standard names, which register an offset reaches, and the interrupt
+-- conditions.
+use Rattle.std.specs.Prelude.{ℕ, Bool, true, false, ◌==◌, if◌then◌else◌, List, [], ◌∷◌, ◌++◌}
 use Rattle.superio_core.specs.Bits.{has_bits, only_bits, with_bits}
-use Rattle.superio_core.specs.Serial.{lcr_dlab_bit, mcr_dtr_bit, mcr_rts_bit, mcr_out1_bit, mcr_out2_bit, mcr_loop_bit, msr_cts_bit, msr_dsr_bit, msr_ri_bit, msr_dcd_bit, iir_fifo_bits, State}
 pub use Rattle.superio_core.specs.declared.serial.registers.Register.{Register}
 pub use Rattle.superio_core.specs.declared.serial.registers.Register.TheVariants.{Dll, Dlm, RbrThr, Ier, Iir, Lcr, Mcr, Lsr, Msr, Scr, Unassigned}
 pub use Rattle.superio_core.specs.declared.serial.registers.Condition.{Condition}
 pub use Rattle.superio_core.specs.declared.serial.registers.Condition.TheVariants.{Rda, Thre}
+
+-- LCR: the divisor latch is at offsets 0 and 1
+abbrev pub lcr_dlab_bit : ℕ
+lcr_dlab_bit = 0x80
+
+-- MCR: the outputs DTR, RTS, OUT1 and OUT2, and loopback
+abbrev pub mcr_dtr_bit : ℕ
+mcr_dtr_bit = 0x01
+
+abbrev pub mcr_rts_bit : ℕ
+mcr_rts_bit = 0x02
+
+abbrev pub mcr_out1_bit : ℕ
+mcr_out1_bit = 0x04
+
+abbrev pub mcr_out2_bit : ℕ
+mcr_out2_bit = 0x08
+
+abbrev pub mcr_loop_bit : ℕ
+mcr_loop_bit = 0x10
+
+-- MSR: the inputs CTS, DSR, RI and DCD
+abbrev pub msr_cts_bit : ℕ
+msr_cts_bit = 0x10
+
+abbrev pub msr_dsr_bit : ℕ
+msr_dsr_bit = 0x20
+
+abbrev pub msr_ri_bit : ℕ
+msr_ri_bit = 0x40
+
+abbrev pub msr_dcd_bit : ℕ
+msr_dcd_bit = 0x80
+
+-- LSR: data ready
+abbrev pub lsr_dr_bit : ℕ
+lsr_dr_bit = 0x01
+
+-- IER: the four bits that a write keeps
+abbrev pub ier_bits : ℕ
+ier_bits = 0x0F
+
+-- IIR: the FIFOs are enabled
+abbrev pub iir_fifo_bits : ℕ
+iir_fifo_bits = 0xC0
+
+-- ---- the map
 
 -- the register at an offset: DLAB matters only at offsets 0 and 1, and offsets from 8 on reach none
 abbrev pub register_at : (dlab : Bool) (offset : ℕ) → Register
@@ -37,22 +84,6 @@ msr_read modem_control modem_status =
     (if has_bits modem_control mcr_out1_bit then msr_ri_bit else 0))
     (if has_bits modem_control mcr_out2_bit then msr_dcd_bit else 0)
     else modem_status
-
--- what a read of the register shows
-abbrev pub register_read : (register : Register) (s : State) → ℕ
-register_read Dll s = s.baud_divisor_low
-register_read Dlm s = s.baud_divisor_high
--- RBR: the oldest received byte, or 0
-register_read RbrThr s = slice_index s.in_buffer 0
-register_read Ier s = s.interrupt_enable
--- IIR: with the bits that say that the FIFOs are enabled
-register_read Iir s = with_bits s.interrupt_identification iir_fifo_bits
-register_read Lcr s = s.line_control
-register_read Mcr s = s.modem_control
-register_read Lsr s = s.line_status
-register_read Msr s = msr_read s.modem_control s.modem_status
-register_read Scr s = s.scratch
-register_read Unassigned s = 0
 
 -- ---- the two interrupt conditions
 

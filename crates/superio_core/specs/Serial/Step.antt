@@ -1,13 +1,68 @@
--- The step of a call in any state, coherent or not: what it responds, the state that it leaves, and the events that it
--- reports, given the trigger's answers and the outcome of a byte.
+-- The step of a call in any state, coherent or not: what it responds, the state that it leaves, the events that it
+-- reports and the trigger calls that it makes, given the trigger's answers and the outcome of a byte. And what a call's
+-- contract says of it.
 pub mod Admissible
-pub mod Raising
-use Rattle.std.specs.Prelude.{ℕ, ◌==◌, ◌&&◌, ◌||◌, nat_le, if◌then◌else◌, List, [], ◌∷◌, ◌++◌, length, drop}
-use Rattle.superio_core.specs.Serial.Operations.{Asked, Sent, Op, Read, Write, Enqueue, CharacterTimeout, Restore, Response, ByteRead, EnqueueOk, TimeoutOk, TriggerRefused, FifoFull, NoResponse, Event, buffer_read, out_byte, tx_lost_byte, in_buffer_empty, is_refused_at_once, recorded_write_response}
-use Rattle.superio_core.specs.Bits.{only_bits, without_bits}
-use Rattle.superio_core.specs.Serial.{lsr_dr_bit, ier_bits, State, not_empty}
-use Rattle.superio_core.specs.Serial.RegisterMap.{Register, Dll, Dlm, RbrThr, Ier, Iir, Lcr, Mcr, Scr, register_at, is_dlab, is_loopback, Rda, Thre, register_read}
-use Rattle.superio_core.specs.Serial.Step.Raising.{iir_none_bit, raise, lower, rda_becomes_pending, raise_rda_while_held, bytes_that_fit, enqueued_bytes, receive_bytes}
+use Rattle.std.specs.Prelude.{ℕ, ◌+◌, ◌-◌, Bool, not, ◌==◌, ◌&&◌, ◌||◌, nat_le, if◌then◌else◌, List, [], ◌∷◌, ◌++◌, length, take, drop, ◌≡◌}
+use Rattle.superio_core.specs.Serial.Operations.{Asked, Sent, Op, Read, Write, Enqueue, CharacterTimeout, Restore, Response, ByteRead, EnqueueOk, TimeoutOk, TriggerRefused, FifoFull, NoResponse, Event, buffer_read, out_byte, tx_lost_byte, in_buffer_empty, is_refused_at_once, recorded_write_response, count_if, OpKind, IerWrite, ThrWrite, Arrival, Timeout, kind_of, sent_by, events_of_read}
+use Rattle.superio_core.specs.Bits.{has_bits, only_bits, with_bits, without_bits}
+use Rattle.superio_core.specs.Serial.{State, not_empty, register_read}
+use Rattle.superio_core.specs.Serial.RegisterMap.{Register, Dll, Dlm, RbrThr, Ier, Iir, Lcr, Mcr, Scr, register_at, is_dlab, is_loopback, Condition, Rda, Thre, ier_bit, iir_bit, lsr_dr_bit, ier_bits}
+use Rattle.superio_core.specs.declared.serial.ReadEffects.{ReadEffects}
+use Rattle.superio_core.specs.declared.serial.WriteEffects.{WriteEffects}
+use Rattle.superio_core.specs.declared.serial.EnqueueEffects.{EnqueueEffects}
+
+-- IIR: nothing is pending. The steps alone use this bit
+abbrev pub iir_none_bit : ℕ
+iir_none_bit = 0x01
+
+-- ---- raising a condition
+
+-- a condition that is raised becomes pending if IER enables it and IIR does not show it; the trigger is called
+-- exactly then
+abbrev pub becomes_pending : (condition : Condition) (enable identification : ℕ) → Bool
+becomes_pending condition enable identification =
+    has_bits enable (ier_bit condition) && not (has_bits identification (iir_bit condition))
+
+-- IIR afterwards: if the condition became pending, its bit is set and the bit for 'none' cleared. A refusal of the
+-- trigger takes neither back
+abbrev pub raise : (condition : Condition) (enable identification : ℕ) → ℕ
+raise condition enable identification =
+    if becomes_pending condition enable identification
+    then with_bits (without_bits identification iir_none_bit) (iir_bit condition)
+    else identification
+
+-- IIR after a condition was lowered: its bit is cleared, and if no bit is left, nothing is pending
+abbrev pub lower : (condition : Condition) (identification : ℕ) → ℕ
+lower condition identification =
+    let others = without_bits identification (iir_bit condition) in
+    if others == 0 then iir_none_bit else others
+
+-- an IER write raises RDA only while bytes are held
+abbrev pub rda_becomes_pending : (held : List ℕ) (enable identification : ℕ) → Bool
+rda_becomes_pending held enable identification = not_empty held && becomes_pending Rda enable identification
+
+abbrev pub raise_rda_while_held : (held : List ℕ) (enable identification : ℕ) → ℕ
+raise_rda_while_held held enable identification =
+    if not_empty held then raise Rda enable identification else identification
+
+-- ---- receiving bytes
+
+-- the first bytes, as many as have room beside the held ones: the FIFO holds at most 64
+abbrev pub bytes_that_fit : (held bytes : List ℕ) → List ℕ
+bytes_that_fit held bytes = take (64 - length held) bytes
+
+-- an enqueue accepts the bytes that fit, and in loopback none; DLAB plays no part
+abbrev pub enqueued_bytes : (s : State) (bytes : List ℕ) → List ℕ
+enqueued_bytes s bytes = if is_loopback s.modem_control then [] else bytes_that_fit s.in_buffer bytes
+
+-- received bytes follow the others, data ready is set, and RDA is raised. No bytes change nothing
+abbrev pub receive_bytes : (bytes : List ℕ) (s : State) → State
+receive_bytes [] s = s
+receive_bytes (byte ∷ bytes) s = record s {
+  in_buffer = s.in_buffer ++ byte ∷ bytes;
+  line_status = with_bits s.line_status lsr_dr_bit;
+  interrupt_identification = raise Rda s.interrupt_enable s.interrupt_identification;
+}
 
 -- ---- the response
 
@@ -113,3 +168,68 @@ abbrev pub step_events : (s : State) (op : Op) (sent : Sent) → List Event
 step_events s (Read offset) sent = read_events (register_at (is_dlab s.line_control) offset) s.in_buffer
 step_events s (Write offset value) sent = sent_events sent
 step_events s _ sent = []
+
+-- ---- how many trigger calls a call makes, if none is refused
+
+-- what an operation means in a state
+abbrev pub kind_in_state : (s : State) (op : Op) → OpKind
+kind_in_state s op = kind_of (is_dlab s.line_control) (is_loopback s.modem_control) op
+
+-- received bytes: one, if RDA becomes pending
+abbrev pub arrival_calls : (bytes : List ℕ) (s : State) → ℕ
+arrival_calls [] s = 0
+arrival_calls (byte ∷ bytes) s = count_if (becomes_pending Rda s.interrupt_enable s.interrupt_identification)
+
+-- an IER write: one for RDA, then one for THRE
+abbrev pub ier_write_calls : (enable : ℕ) (s : State) → ℕ
+ier_write_calls enable s =
+    count_if (rda_becomes_pending s.in_buffer enable s.interrupt_identification)
+    + count_if (becomes_pending Thre enable (raise_rda_while_held s.in_buffer enable s.interrupt_identification))
+
+-- a character timeout: one, if RDA becomes pending
+abbrev pub timeout_calls : (s : State) → ℕ
+timeout_calls s = count_if (rda_becomes_pending s.in_buffer s.interrupt_enable s.interrupt_identification)
+
+abbrev pub kind_calls : (kind : OpKind) (s : State) → ℕ
+kind_calls (IerWrite value) s = ier_write_calls (only_bits value ier_bits) s
+kind_calls (ThrWrite value) s = count_if (becomes_pending Thre s.interrupt_enable s.interrupt_identification)
+kind_calls (Arrival bytes) s = arrival_calls (bytes_that_fit s.in_buffer bytes) s
+kind_calls Timeout s = timeout_calls s
+kind_calls _ s = 0
+
+abbrev pub step_calls : (s : State) (op : Op) → ℕ
+step_calls s op = kind_calls (kind_in_state s op) s
+
+-- a byte goes to the writer
+abbrev pub sends_byte : (s : State) (op : Op) → Bool
+sends_byte s op = not_empty (sent_by (kind_in_state s op))
+
+-- ---- one call of a port, as its contract states it: the effects that the caller has to carry out, and the state
+-- after it, which is that of a step without a refusal, whatever the caller finds when it does
+
+-- a read gives the byte, and which events it reports; it asks for no interrupt
+pub record IsPortRead (offset : ℕ) (effects : ReadEffects) (old new : State) : Type 0 where
+  pub response : ByteRead effects.byte ≡ step_response old (Read offset) Asked.Nothing Sent.Nothing
+  pub events : events_of_read effects ≡ step_events old (Read offset) Sent.Nothing
+  pub state : new ≡ step old (Read offset) Asked.Nothing
+
+-- a write, whatever becomes of its byte and of the interrupts
+pub record IsPortWrite (offset value : ℕ) (effects : WriteEffects) (old new : State) : Type 0 where
+  pub sends : effects.sends ≡ sends_byte old (Write offset value)
+  pub interrupts : effects.interrupts ≡ step_calls old (Write offset value)
+  pub state : new ≡ step old (Write offset value) Asked.Nothing
+
+-- an enqueue: the bytes that have room are accepted, whatever becomes of the interrupt. The FIFO is reported full if
+-- bytes are passed outside loopback while 64 are held
+pub record IsPortEnqueue (bytes : List ℕ) (effects : EnqueueEffects) (old new : State) : Type 0 where
+  pub taken : effects.taken ≡ length (enqueued_bytes old bytes)
+  pub full :
+      effects.full
+      ≡ (not (is_loopback old.modem_control || (length bytes == 0)) && nat_le 64 (length old.in_buffer))
+  pub interrupts : effects.interrupts ≡ step_calls old (Enqueue bytes)
+  pub state : new ≡ step old (Enqueue bytes) Asked.Nothing
+
+-- a character timeout, whatever becomes of the interrupt
+pub record IsPortTimeout (due : ℕ) (old new : State) : Type 0 where
+  pub interrupts : due ≡ step_calls old CharacterTimeout
+  pub state : new ≡ step old CharacterTimeout Asked.Nothing

@@ -1,8 +1,7 @@
 //! The byte form of a serial port's state.
 ghost use Rattle.std.specs.Prelude.{◌≡◌, ◌≤◌, length, List, ℕ, ◌++◌, take, drop, IfOk};
 ghost use Rattle.std.specs.Result.{result_err, IsOkAnd};
-ghost use Rattle.superio_core.specs.Serial.{state_with, State};
-ghost use Rattle.superio_core.specs.Serial.Port.{state_of_port, held_bytes};
+ghost use Rattle.superio_core.specs.Serial.{state_with, State, state_of_port, held_bytes};
 ghost use Rattle.superio_core.specs.Saved.{serial_form, serial_fault};
 
 use super::super::fifo::{FIFO_SIZE, ReceiveFifo, RxRing};

@@ -2,21 +2,18 @@
 //! with every receive FIFO, and call no object: a step returns what is left to do, which is a byte to send, an
 //! interrupt to ask for, or an event to report.
 ghost use Rattle.std.specs.Prelude.{◌≡◌, ◌≤◌, ◌==◌, not, if◌then◌else◌, [], length, slice_index};
-ghost use Rattle.superio_core.specs.Serial.{not_empty, state_with, lsr_dr_bit};
+ghost use Rattle.superio_core.specs.Serial.{not_empty, state_with, register_read, is_asserted, is_line_up, restore_calls};
+ghost use Rattle.superio_core.specs.Serial.RegisterMap.{lsr_dr_bit, Rda, Thre, RbrThr, is_loopback};
 ghost use Rattle.superio_core.specs.Bits.{only_bits, with_bits};
-ghost use Rattle.superio_core.specs.Serial.RegisterMap.{Rda, Thre, RbrThr, is_loopback, register_read};
 ghost use Rattle.superio_core.specs.Serial.Operations.{count_if, is_first_of_two_refused, write_kind, sent_by, events_of_read};
-ghost use Rattle.superio_core.specs.Serial.Step.Raising.{becomes_pending, raise, raise_rda_while_held, lower, bytes_that_fit, receive_bytes, is_asserted, is_line_up, restore_calls};
-ghost use Rattle.superio_core.specs.Serial.Step.{rbr_read, ier_write, read_step, write_step, character_timeout, read_events};
-ghost use Rattle.superio_core.specs.Serial.Step.Admissible.{ier_write_calls, arrival_calls, timeout_calls, kind_calls};
+ghost use Rattle.superio_core.specs.Serial.Step.{becomes_pending, raise, lower, bytes_that_fit, receive_bytes, rbr_read, ier_write, read_step, write_step, character_timeout, read_events, ier_write_calls, arrival_calls, timeout_calls, kind_calls};
 
 use super::super::fifo::ReceiveFifo;
-use super::bits::{
-    IER_UART_VALID_BITS, IIR_FIFO_BITS, IIR_NONE_BIT, LSR_DATA_READY_BIT, has_bits, only_bits,
-    with_bits, without_bits,
+use super::registers::{
+    Condition, IER_UART_VALID_BITS, IIR_FIFO_BITS, IIR_NONE_BIT, LSR_DATA_READY_BIT, Register,
+    Registers, has_bits, only_bits, with_bits, without_bits,
 };
-use super::effects::{Asked, ReadEffects, WriteEffects};
-use super::registers::{Condition, Register, Registers};
+use super::{Asked, ReadEffects, WriteEffects};
 
 impl Registers {
     /// Raises a condition: if it is enabled and not pending, it becomes pending. Returns whether to call the trigger,

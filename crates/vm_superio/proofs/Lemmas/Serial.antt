@@ -11,7 +11,6 @@ use Rattle.vm_superio.specs.Serial.{Coherent, answers_all, step_calls, is_dlab, 
 use Rattle.vm_superio.specs.Links.{answers_of, Link, TriggerAnswer, OutCall, WriterCalls, ObjectCall, ToTrigger, ToOut, ToEvents, answers_in, out_calls_in, events_in}
 use Rattle.vm_superio.specs.Links.Writer.{PortLinks, WriterLink, port_links, bytes_sent, outcome_of, AreSendings}
 use Rattle.vm_superio.specs.Serial.Step.{turned_on_count, IsPortStep, IsWriteStep, IsTimeoutStep}
-use Rattle.vm_superio.proofs.Lemmas.Serial.Laws.Consequences.{call_written}
 use Rattle.vm_superio.proofs.Lemmas.Serial.Laws.OneCall.{turned_bits_law}
 use Rattle.vm_superio.specs.Links.Three.{ThreeLink}
 use Rattle.vm_superio.specs.Serial.Step.ObjectStep.{Sending, sent_in, out_calls, OnePort, IsObjectStep, port_of}

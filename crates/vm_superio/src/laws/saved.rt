@@ -1,7 +1,7 @@
 //! The laws of saved states. The round trips are calls whose contracts are the laws.
 ghost use Rattle.std.specs.Prelude.{◌≡◌, ◌≤◌, length, IfOk, MatchResult};
 ghost use Rattle.vm_superio.specs.Saved.{state_of, SerialVersionLaw, ClockVersionLaw, OtherSerialVersionLaw, OtherClockVersionLaw};
-ghost use Rattle.superio_core.specs.Serial.Port.{state_of_port};
+ghost use Rattle.superio_core.specs.Serial.{state_of_port};
 ghost use Rattle.superio_core.specs.Saved.{SerialFormLaw, OneSerialStateLaw, ClockFormLaw, OneClockStateLaw};
 
 use crate::saved::{Error, Fault};

@@ -1,5 +1,5 @@
 //! A serial port with one object for all three roles: its contract states the order of the calls.
-ghost use Rattle.std.specs.Prelude.{◌≡◌, ◌≤◌, ◌+◌, ◌==◌, not, List, Result, length, map, [], ◌∷◌, if◌then◌else◌, is_some, IsTrue, IfOk, IfErr, OnOk};
+ghost use Rattle.std.specs.Prelude.{◌≡◌, ◌≤◌, ◌+◌, ◌==◌, not, List, Result, length, map, [], if◌then◌else◌, is_some, IsTrue, IfOk, IfErr, OnOk};
 ghost use Rattle.vm_superio.specs.Links.{ToTrigger, ToOut, ToEvents, raised, answers_of, all_ok, StopsAtRefusal, RefusesOwnState};
 ghost use Rattle.vm_superio.specs.Saved.{state_of};
 ghost use Rattle.vm_superio.specs.Serial.{Coherent, fresh_state, state_with, is_line_up, restore_calls, answers_all};
@@ -17,7 +17,7 @@ use std::alloc::{AllocError, Global};
 use std::io;
 use std::marker::Model;
 use superio_core::fifo::{FIFO_SIZE, ReceiveFifo};
-use superio_core::serial::effects::{Asked, ReadEffects, Sent};
+use superio_core::serial::{Asked, ReadEffects, Sent};
 use superio_core::serial::registers::Registers;
 
 /// A serial port over one object that plays all three roles: it raises the interrupt, takes the bytes and hears the

@@ -1,8 +1,7 @@
 //! The state of a serial port, and its byte form.
 ghost use Rattle.std.specs.Prelude.{◌≡◌, ◌↔◌, ◌≤◌, ℕ, List, length, take, IfOk, IfErr, IsOk, IfSome, IsTrue, MatchResult};
 ghost use Rattle.vm_superio.specs.Saved.{state_of};
-ghost use Rattle.superio_core.specs.Serial.{State, fresh_state};
-ghost use Rattle.superio_core.specs.Serial.Port.{Coherent};
+ghost use Rattle.superio_core.specs.Serial.{State, fresh_state, Coherent};
 ghost use Rattle.superio_core.specs.Saved.{serial_form, serial_fault};
 
 use crate::saved::{Error, Fault};
@@ -44,7 +43,7 @@ pub struct SerialState {
 impl SerialState {
     ghost use Rattle.vm_superio.specs.Saved.{state_of};
     ghost use Rattle.superio_core.specs.Serial.{state_with};
-    ghost use Rattle.superio_core.specs.Serial.Port.{state_of_port};
+    ghost use Rattle.superio_core.specs.Serial.{state_of_port};
 
     /// The state of a new port. Allocates no memory.
     pub fn default(alloc: Global) -> SerialState

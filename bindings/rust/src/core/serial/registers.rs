@@ -1,15 +1,80 @@
 // Made by the command tools/erase from crates/superio_core/src/serial/registers.rt.
 // These are the lines that the prover checks, without their contracts. Change them there.
-//! The registers of a 16550: which one an offset reaches, and the bytes that they hold.
+//! The registers of a 16550: their offsets and bits by their standard names, which one an offset reaches, and the bytes
+//! that they hold.
 
-use super::bits::{
-    DATA_OFFSET, DEFAULT_BAUD_DIVISOR_LOW, DEFAULT_LINE_CONTROL, DEFAULT_LINE_STATUS,
-    DEFAULT_MODEM_CONTROL, DEFAULT_MODEM_STATUS, IER_OFFSET, IER_RDA_BIT, IER_THR_EMPTY_BIT,
-    IIR_NONE_BIT, IIR_OFFSET, IIR_RDA_BIT, IIR_THR_EMPTY_BIT, LCR_DLAB_BIT, LCR_OFFSET,
-    LSR_DATA_READY_BIT, LSR_OFFSET, MCR_DTR_BIT, MCR_LOOP_BIT, MCR_OFFSET, MCR_OUT1_BIT,
-    MCR_OUT2_BIT, MCR_RTS_BIT, MSR_CTS_BIT, MSR_DCD_BIT, MSR_DELTA_BITS, MSR_DSR_BIT, MSR_OFFSET,
-    MSR_RI_BIT, SCR_OFFSET, has_bits, only_bits, with_bits,
-};
+// Offsets. DLL and DLM replace RBR, THR and IER while DLAB is set.
+pub(super) const DATA_OFFSET: u8 = 0;
+
+pub(super) const IER_OFFSET: u8 = 1;
+
+pub(super) const IIR_OFFSET: u8 = 2;
+
+pub(super) const LCR_OFFSET: u8 = 3;
+
+pub(super) const MCR_OFFSET: u8 = 4;
+
+pub(super) const LSR_OFFSET: u8 = 5;
+
+pub(super) const MSR_OFFSET: u8 = 6;
+
+pub(super) const SCR_OFFSET: u8 = 7;
+
+// Interrupt enable: received data available, transmitter holding register empty, and the bits that a write keeps.
+pub(super) const IER_RDA_BIT: u8 = 0x01;
+
+pub(super) const IER_THR_EMPTY_BIT: u8 = 0x02;
+
+pub(super) const IER_UART_VALID_BITS: u8 = 0x0F;
+
+// Interrupt identification: nothing pending, the same two conditions, and FIFOs enabled.
+pub(super) const IIR_NONE_BIT: u8 = 0x01;
+
+pub(super) const IIR_THR_EMPTY_BIT: u8 = 0x02;
+
+pub(super) const IIR_RDA_BIT: u8 = 0x04;
+
+pub(super) const IIR_FIFO_BITS: u8 = 0xC0;
+
+// Line control: the divisor latch is at offsets 0 and 1.
+pub(super) const LCR_DLAB_BIT: u8 = 0x80;
+
+// Line status: data ready.
+pub(super) const LSR_DATA_READY_BIT: u8 = 0x01;
+
+// Modem control: four outputs, and loopback.
+pub(super) const MCR_DTR_BIT: u8 = 0x01;
+
+pub(super) const MCR_RTS_BIT: u8 = 0x02;
+
+pub(super) const MCR_OUT1_BIT: u8 = 0x04;
+
+pub(super) const MCR_OUT2_BIT: u8 = 0x08;
+
+pub(super) const MCR_LOOP_BIT: u8 = 0x10;
+
+// Modem status: four inputs, above four bits that show their changes.
+pub(super) const MSR_DELTA_BITS: u8 = 0x0F;
+
+pub(super) const MSR_CTS_BIT: u8 = 0x10;
+
+pub(super) const MSR_DSR_BIT: u8 = 0x20;
+
+pub(super) const MSR_RI_BIT: u8 = 0x40;
+
+pub(super) const MSR_DCD_BIT: u8 = 0x80;
+
+// A fresh port: divisor 12, which is 9600 baud; 8 data bits; OUT2 set; the transmitter empty; and a peer that is
+// present, clear to send and ready.
+pub(super) const DEFAULT_BAUD_DIVISOR_LOW: u8 = 0x0C;
+
+pub(super) const DEFAULT_LINE_CONTROL: u8 = 0x03;
+
+pub(super) const DEFAULT_LINE_STATUS: u8 = 0x60;
+
+pub(super) const DEFAULT_MODEM_CONTROL: u8 = 0x08;
+
+pub(super) const DEFAULT_MODEM_STATUS: u8 = 0xB0;
 
 /// The register that an access reaches, by its name in the datasheet. Contracts name it.
 #[derive(Clone, Copy)]
@@ -199,4 +264,28 @@ fn shows_conditions(identification: u8, holds_bytes: bool) -> bool {
         0x06 => holds_bytes,
         _ => false,
     }
+}
+
+/// Whether all these bits are set.
+#[inline(always)]
+pub(super) fn has_bits(byte: u8, bits: u8) -> bool {
+    byte & bits == bits
+}
+
+/// The byte with these bits set.
+#[inline(always)]
+pub(super) fn with_bits(byte: u8, bits: u8) -> u8 {
+    byte | bits
+}
+
+/// The byte with only these bits.
+#[inline(always)]
+pub(super) fn only_bits(byte: u8, bits: u8) -> u8 {
+    byte & bits
+}
+
+/// The byte with these bits cleared.
+#[inline(always)]
+pub(super) fn without_bits(byte: u8, bits: u8) -> u8 {
+    byte & !bits
 }

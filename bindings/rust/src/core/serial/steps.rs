@@ -5,12 +5,11 @@
 //! interrupt to ask for, or an event to report.
 
 use super::super::fifo::ReceiveFifo;
-use super::bits::{
-    IER_UART_VALID_BITS, IIR_FIFO_BITS, IIR_NONE_BIT, LSR_DATA_READY_BIT, has_bits, only_bits,
-    with_bits, without_bits,
+use super::registers::{
+    Condition, IER_UART_VALID_BITS, IIR_FIFO_BITS, IIR_NONE_BIT, LSR_DATA_READY_BIT, Register,
+    Registers, has_bits, only_bits, with_bits, without_bits,
 };
-use super::effects::{Asked, ReadEffects, WriteEffects};
-use super::registers::{Condition, Register, Registers};
+use super::{Asked, ReadEffects, WriteEffects};
 
 impl Registers {
     /// Raises a condition: if it is enabled and not pending, it becomes pending. Returns whether to call the trigger,

@@ -1,14 +1,11 @@
 -- A step keeps a coherent state coherent.
 use Rattle.std.proofs.Common.{◌≡◌, ℕ, ◌+◌, ◌≤◌, Bool, true, false, not, ◌==◌, ◌&&◌, ◌||◌, List, [], ◌∷◌, ◌++◌, length, drop, refl, ap, sym, ◌∙◌, subst, length-append, length-take, length-drop, arith, if◌then◌else◌, IsTrue}
 use Rattle.superio_core.specs.Serial.Operations.{Asked, Op, Enqueue, is_refused_at_once, OpKind, RbrRead, IirRead, IerWrite, ThrWrite, Arrival, Timeout, Other}
-use Rattle.superio_core.specs.declared.serial.effects.Asked.TheVariants.{Nothing}
-use Rattle.superio_core.specs.Serial.{State, not_empty}
+use Rattle.superio_core.specs.declared.serial.Asked.TheVariants.{Nothing}
+use Rattle.superio_core.specs.Serial.{State, not_empty, Coherent}
 use Rattle.superio_core.specs.Serial.RegisterMap.{Thre, Rda, identification_of, is_loopback}
 use Rattle.superio_core.specs.Bits.{has_bits, only_bits, without_bits}
-use Rattle.superio_core.specs.Serial.Step.Raising.{raise, raise_rda_while_held, rda_becomes_pending, receive_bytes, bytes_that_fit}
-use Rattle.superio_core.specs.Serial.Step.{step}
-use Rattle.superio_core.specs.Serial.Step.Admissible.{kind_in_state}
-use Rattle.superio_core.specs.Serial.Port.{Coherent}
+use Rattle.superio_core.specs.Serial.Step.{raise, raise_rda_while_held, rda_becomes_pending, receive_bytes, bytes_that_fit, step, kind_in_state}
 use Rattle.superio_core.proofs.Lemmas.Serial.{data_ready_set, data_ready_cleared}
 use Rattle.superio_core.proofs.Lemmas.Serial.Step.{by_kind, next_by_kind, read_clears, raise_rda, raise_thre, ier_write_raises_rda, ier_write_leaves, timeout_raises}
 

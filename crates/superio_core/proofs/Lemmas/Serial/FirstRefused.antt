@@ -6,12 +6,10 @@ use Rattle.std.proofs.lemmas.Nat.{and_le_l, and_or_self, and_or_apart}
 use Rattle.std.proofs.lemmas.Nat.Bits.{and_pow, bit_at-lt}
 use Rattle.superio_core.specs.Serial.{Registers, State, not_empty, state_with}
 use Rattle.superio_core.specs.Serial.Operations.{Asked, count_if, is_refused_at_once, is_first_of_two_refused, write_kind}
-use Rattle.superio_core.specs.declared.serial.effects.Asked.TheVariants.{Nothing, Refused}
+use Rattle.superio_core.specs.declared.serial.Asked.TheVariants.{Nothing, Refused}
 use Rattle.superio_core.specs.Bits.{has_bits, only_bits, with_bits, without_bits}
 use Rattle.superio_core.specs.Serial.RegisterMap.{Register, RbrThr, Ier, Thre, Rda, is_loopback}
-use Rattle.superio_core.specs.Serial.Step.Raising.{becomes_pending, lower, rda_becomes_pending, raise_rda_while_held, bytes_that_fit}
-use Rattle.superio_core.specs.Serial.Step.{write_step}
-use Rattle.superio_core.specs.Serial.Step.Admissible.{arrival_calls, kind_calls}
+use Rattle.superio_core.specs.Serial.Step.{becomes_pending, lower, rda_becomes_pending, raise_rda_while_held, bytes_that_fit, write_step, arrival_calls, kind_calls}
 use Rattle.superio_core.proofs.Lemmas.{and-without, without-or}
 
 -- ---- IIR

@@ -5,8 +5,8 @@ pub mod Interrupts
 pub mod OneCall
 pub mod Reads
 pub mod StepsOfHistory
-use Rattle.std.proofs.Common.{rules, ◌≡◌, ℕ, Bool, List, [], ◌∷◌, Option, Some, None, refl, ap, sym, ◌∙◌, arith, subst, ◌++◌, length, drop, append_assoc, append-nil, length-append, if◌then◌else◌, unwrap_or}
-use Rattle.std.specs.Option.{option_or, option_map_or}
+use Rattle.std.proofs.Common.{rules, ◌≡◌, ℕ, Bool, List, [], ◌∷◌, Option, None, refl, ap, sym, ◌∙◌, arith, subst, ◌++◌, length, drop, append_assoc, append-nil, length-append, if◌then◌else◌, unwrap_or}
+use Rattle.std.specs.Option.{option_map_or}
 use Rattle.std.proofs.Math.Seq.{drop-append-add}
 use Rattle.vm_superio.specs.Serial.{Asked, Op, TraceEntry, OpKind, kind_of, State, not_empty, only_bits, has_bits, is_dlab, is_loopback, step, kind_in_state}
 use Rattle.vm_superio.specs.Serial.History.{state_of_history, with_data_ready, line_status, value_written_at, last_found, dlab, kind_at, accepted_by, taken_by, remaining_bytes, accepted_bytes, taken_bytes, held_bytes}

@@ -1,7 +1,7 @@
 -- One more byte follows the others.
 use Rattle.std.proofs.Common.{◌≡◌, suc, ◌+◌, ◌<◌, [], ◌∷◌, ◌++◌, length, take, slice_index_or, slice_set, sym, ap, ◌∙◌, arith, length-set, append_assoc}
 use Rattle.std.proofs.Math.Seq.{take-suc}
-use Rattle.superio_core.specs.Serial.Port.{held_bytes, ring_from}
+use Rattle.superio_core.specs.Serial.{held_bytes, ring_from}
 use Rattle.superio_core.proofs.Lemmas.Serial.{take-ring-set}
 use Rattle.superio_core.proofs.fifo.RxRingReceiveFifo.fill.Goals as goal
 

@@ -1,6 +1,6 @@
 -- The bytes so far follow those that were held.
 use Rattle.std.proofs.Common.{◌≡◌, ◌+◌, ◌++◌, length, take}
-use Rattle.superio_core.specs.Serial.Port.{held_bytes, ring_from}
+use Rattle.superio_core.specs.Serial.{held_bytes, ring_from}
 use Rattle.superio_core.proofs.fifo.RxRingReceiveFifo.fill.Given as goal
 
 abbrev pub invariant-loop-i : goal.invariant-loop-i

@@ -1,6 +1,6 @@
 -- One more byte follows the others.
 use Rattle.std.proofs.Common.{◌≡◌, ◌+◌, ◌-◌, ◌<◌, ◌≤◌, min, [], ◌∷◌, ◌++◌, length, take, slice_set, sym, ap, ◌∙◌, arith, length-take, take_all}
-use Rattle.superio_core.specs.Serial.Port.{held_bytes, ring_from}
+use Rattle.superio_core.specs.Serial.{held_bytes, ring_from}
 use Rattle.superio_core.proofs.Lemmas.Serial.{take-ring-set}
 use Rattle.superio_core.proofs.fifo.RxRingReceiveFifo.push.Goals as goal
 

@@ -1,6 +1,6 @@
 -- The ring without its oldest byte.
 use Rattle.std.proofs.Common.{◌≡◌, ◌-◌, ◌<◌, ◌%◌, suc, min, length, take, drop, get_or, Some, slice_get, sym, ap, ◌∙◌, arith}
-use Rattle.superio_core.specs.Serial.Port.{ring_from}
+use Rattle.superio_core.specs.Serial.{ring_from}
 use Rattle.superio_core.proofs.Lemmas.Serial.{take-ring-rest, ring-first}
 use Rattle.superio_core.proofs.fifo.RxRingReceiveFifo.take_first.Goals as goal
 

@@ -1,7 +1,7 @@
 -- A step keeps a coherent state coherent.
 use Rattle.std.proofs.Common.{sym, subst}
 use Rattle.superio_core.specs.Serial.Operations.{Asked, CharacterTimeout}
-use Rattle.superio_core.specs.Serial.Port.{state_of_port, Coherent, ShowsHeldBytes}
+use Rattle.superio_core.specs.Serial.{state_of_port, Coherent, ShowsHeldBytes}
 use Rattle.superio_core.proofs.Lemmas.Serial.Coherence.{coherence_law}
 use Rattle.superio_core.proofs.Lemmas.Serial.Step.{shows_held_bytes}
 use Rattle.superio_core.proofs.serial.SerialPort.character_timeout.Goals as goal

@@ -1,6 +1,6 @@
 -- A step keeps a coherent state coherent.
 use Rattle.std.proofs.Common.{sym, ◌∙◌, subst}
-use Rattle.superio_core.specs.Serial.Port.{Coherent, state_of_port}
+use Rattle.superio_core.specs.Serial.{Coherent, state_of_port}
 use Rattle.superio_core.proofs.Lemmas.Serial.Coherence.{receive-coherent}
 use Rattle.superio_core.proofs.serial.SerialPort.enqueue_raw_bytes.Goals as goal
 

@@ -1,5 +1,5 @@
 use Rattle.std.proofs.Common.{arith, ◌≡◌, ◌≤◌, Bool, true, false, not, min, length, length-take, ap, sym, ◌∙◌, refl}
-use Rattle.superio_core.specs.Serial.Port.{ring_from, held_bytes}
+use Rattle.superio_core.specs.Serial.{ring_from, held_bytes}
 use Rattle.superio_core.proofs.serial.SerialPort.is_coherent.Goals as goal
 
 twice : (b : Bool) → not (not b) ≡ b

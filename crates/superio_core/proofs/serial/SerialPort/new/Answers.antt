@@ -1,7 +1,6 @@
 -- A fresh port is coherent.
 use Rattle.std.proofs.Common.{sym, ap, ◌∙◌, subst}
-use Rattle.superio_core.specs.Serial.Port.{Coherent}
-use Rattle.superio_core.specs.Serial.{state_with}
+use Rattle.superio_core.specs.Serial.{Coherent, state_with}
 use Rattle.superio_core.proofs.Lemmas.Serial.{fresh_coherent}
 use Rattle.superio_core.proofs.serial.SerialPort.new.Goals as goal
 

@@ -1,7 +1,7 @@
 -- A step keeps a coherent state coherent.
 use Rattle.std.proofs.Common.{sym, ap, ◌∙◌, subst}
 use Rattle.superio_core.specs.Serial.Operations.{Asked, Read}
-use Rattle.superio_core.specs.Serial.Port.{Coherent, state_of_port}
+use Rattle.superio_core.specs.Serial.{Coherent, state_of_port}
 use Rattle.superio_core.specs.Serial.Step.{read_step}
 use Rattle.superio_core.proofs.Lemmas.Serial.Coherence.{coherence_law}
 use Rattle.superio_core.proofs.serial.SerialPort.read.Goals as goal

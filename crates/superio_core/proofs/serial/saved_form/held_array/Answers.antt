@@ -1,7 +1,7 @@
 -- One more byte is taken.
 use Rattle.std.proofs.Common.{◌≡◌, ℕ, ◌+◌, ◌<◌, ◌≤◌, List, [], ◌∷◌, ◌++◌, length, take, drop, slice_get, slice_set, Some, sym, ap, ◌∙◌, arith, append_assoc, length-set}
 use Rattle.std.proofs.lemmas.List.{take_more_set}
-use Rattle.superio_core.specs.Serial.Port.{held_bytes}
+use Rattle.superio_core.specs.Serial.{held_bytes}
 use Rattle.superio_core.proofs.serial.saved_form.held_array.Goals as goal
 
 first-rest : (held : List ℕ) (byte : ℕ) → Some byte ≡ slice_get held 0 → byte ∷ drop 1 held ≡ held

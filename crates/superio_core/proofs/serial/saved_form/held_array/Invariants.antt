@@ -1,5 +1,5 @@
 use Rattle.std.proofs.Common.{◌≡◌, ◌+◌, ◌≤◌, ◌++◌, length, take}
-use Rattle.superio_core.specs.Serial.Port.{held_bytes}
+use Rattle.superio_core.specs.Serial.{held_bytes}
 use Rattle.superio_core.proofs.serial.saved_form.held_array.Given as goal
 
 -- what was taken and what is still held are what was held

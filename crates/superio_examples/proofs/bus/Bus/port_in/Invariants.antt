@@ -1,7 +1,7 @@
 -- The bytes read so far, and then any that are read from here on, are read one after another.
 use Rattle.std.proofs.Common.{List, ℕ, ◌++◌, take}
 use Rattle.vm_superio.specs.Links.{WriterCalls}
-use Rattle.superio_core.specs.Serial.Port.{Coherent}
+use Rattle.superio_core.specs.Serial.{Coherent}
 use Rattle.superio_examples.specs.Bus.{ReadsBytes}
 use Rattle.superio_examples.proofs.bus.Bus.port_in.Given as goal
 

@@ -2,7 +2,7 @@
 use Rattle.std.proofs.Common.{drop}
 use Rattle.std.specs.Result.{result_and}
 use Rattle.vm_superio.specs.Links.{WriterCalls}
-use Rattle.superio_core.specs.Serial.Port.{Coherent}
+use Rattle.superio_core.specs.Serial.{Coherent}
 use Rattle.superio_examples.specs.Bus.{WritesBytes}
 use Rattle.superio_examples.proofs.bus.Bus.port_out.Given as goal
 

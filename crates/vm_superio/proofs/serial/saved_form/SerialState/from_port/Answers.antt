@@ -1,6 +1,6 @@
 -- One more byte is copied.
 use Rattle.std.proofs.Common.{◌≡◌, ℕ, List, [], ◌∷◌, ◌++◌, length, drop, slice_get, Some, sym, ap, ◌∙◌, arith, append_assoc}
-use Rattle.superio_core.specs.Serial.Port.{held_bytes}
+use Rattle.superio_core.specs.Serial.{held_bytes}
 use Rattle.vm_superio.proofs.serial.saved_form.SerialState.from_port.Goals as goal
 
 first-rest : (held : List ℕ) (byte : ℕ) → Some byte ≡ slice_get held 0 → byte ∷ drop 1 held ≡ held

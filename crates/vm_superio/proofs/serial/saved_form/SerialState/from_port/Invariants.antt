@@ -1,6 +1,6 @@
 -- What was copied and what is still held are what the port holds.
 use Rattle.std.proofs.Common.{◌≡◌, ◌+◌, ◌≤◌, ◌++◌, length, vec_len, vec_capacity}
-use Rattle.superio_core.specs.Serial.Port.{held_bytes}
+use Rattle.superio_core.specs.Serial.{held_bytes}
 use Rattle.vm_superio.proofs.serial.saved_form.SerialState.from_port.Given as goal
 
 abbrev pub invariant-loop-byte : goal.invariant-loop-byte
