@@ -29,7 +29,7 @@ METADATA = f"""\
 Metadata-Version: 2.1
 Name: superio
 Version: {VERSION}
-Summary: A 16550 serial port, a PL031 clock and an i8042 reset controller for virtual machine monitors
+Summary: Legacy devices for virtual machine monitors, such as a 16550 serial port and a PL031 clock
 License: Apache-2.0 OR BSD-3-Clause
 Requires-Python: >=3.8
 """

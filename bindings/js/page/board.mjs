@@ -1,5 +1,5 @@
 /**
- * The lines of a script, and the board that they drive: three devices, an interrupt line and an output of 256 bytes. It
+ * The lines of a script, and the board that they drive: the devices, an interrupt line and an output of 256 bytes. It
  * replies to each line as the program `superio` does; docs/SCRIPT.md has the forms.
  */
 import { I8042, Rtc, SavedStateError, Serial } from "../superio.mjs";

@@ -26,7 +26,7 @@ python3 -m superio view --help describes the viewer of a trace.
 def _parser() -> argparse.ArgumentParser:
     parser = argparse.ArgumentParser(
         "python3 -m superio", formatter_class=argparse.RawDescriptionHelpFormatter, epilog=_EPILOG,
-        description="A board with a serial port, a clock and a reset controller. At a terminal it is a shell; help "
+        description="A board with emulated devices, such as a serial port. At a terminal it is a shell; help "
                     "lists its commands. A file or a pipe runs without prompts, up to the first bad line.")
     parser.add_argument("file", nargs="?", metavar="FILE", help="the lines to carry out; - is standard input")
     parser.add_argument("--version", action="version", version=f"superio {__version__}")

@@ -1,4 +1,4 @@
-"""The lines of a script, and the board that they drive: three devices, an interrupt line and an output of 256 bytes.
+"""The lines of a script, and the board that they drive: the devices, an interrupt line and an output of 256 bytes.
 
 It replies to each line as the program `superio` does.
 """
@@ -108,7 +108,7 @@ class Call(NamedTuple):
 
 
 class Board:
-    """A serial port, a clock and a reset controller, with an interrupt line and an output.
+    """One device of each kind, with an interrupt line and an output.
 
     >>> board = Board()
     >>> board.run(parse(b"sw 00 48")).reply

@@ -12,6 +12,9 @@ from .registers import (CLOCK, CLOCK_KEPT, FIELDS, FIFO_SIZE, SERIAL, Register, 
                         byte_string, clock_offset, number, serial_offset)
 from .saved import Saved
 
+__all__ = ["EnqueueEffects", "I8042", "I8042WriteEffects", "ReadEffects", "Rtc", "RtcReadEffects", "RtcWriteEffects",
+           "Serial", "WriteEffects"]
+
 _NEVER = 2 ** 64 - 1
 _STATES = 1024
 _OR_NAME = ", or the name of a register,"

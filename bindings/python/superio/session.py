@@ -14,7 +14,7 @@ from .words import Speaker, UsageError
 _DEEPEST = 10
 
 INTRO = """\
-A serial port, a clock and a reset controller, as a guest sees them.
+A serial port and other devices, as a guest sees them.
 Try:  write IER RDA    the guest asks for interrupts
       type "hi"        input arrives
       read IIR         the guest asks why
