@@ -3,9 +3,8 @@ ghost use Rattle.std.specs.Prelude.{◌≡◌, ◌+◌, ◌*◌, ◌<◌, ◌≤
 ghost use Rattle.hex.specs.Hex.{encode_lower};
 ghost use Rattle.superio_core.specs.declared.saved.Error.TheVariants.{UnknownVersion};
 ghost use Rattle.superio_script.specs.Loading.{fault_words};
-ghost use Rattle.superio_script.specs.Reply.{with_lf, digits_reply, count_digits, counts_reply};
+ghost use Rattle.superio_script.specs.Reply.{with_lf, digits_reply, count_digits};
 
-use crate::objects::Counts;
 use arrayvec::ArrayVec;
 use std::error::Error;
 use std::fmt;
@@ -25,8 +24,8 @@ pub(crate) fn reply_text(text: &[u8]) -> Reply
     reply
 }
 
-/// Appends two digits for each byte.
-fn push_digits(reply: &mut Reply, bytes: &[u8])
+/// Appends two digits for each byte, to a reply of several fields.
+pub(crate) fn push_digits(reply: &mut Reply, bytes: &[u8])
     requires at_most_256 { length bytes.now ≤ 256 }
     requires room { length reply.old.items + 2 * length bytes.now ≤ 513 }
     ensures digits { reply.new.items ≡ reply.old.items ++ encode_lower bytes.now }
@@ -87,22 +86,6 @@ pub(crate) fn reply_count(count: u64) -> Reply
     ensures { result.items ≡ with_lf (count_digits count) }
 {
     reply_digits(&count.to_be_bytes())
-}
-
-/// The counts of a serial port's events, and LF.
-pub(crate) fn reply_events(counts: &Counts) -> Reply
-    ensures { result.items ≡ counts_reply counts.now }
-{
-    let mut reply = Reply::new();
-    push_digits(&mut reply, &counts.buffer_read_count().to_be_bytes());
-    reply.push(b' ');
-    push_digits(&mut reply, &counts.out_byte_count().to_be_bytes());
-    reply.push(b' ');
-    push_digits(&mut reply, &counts.tx_lost_byte_count().to_be_bytes());
-    reply.push(b' ');
-    push_digits(&mut reply, &counts.in_buffer_empty_count().to_be_bytes());
-    reply.push(b'\n');
-    reply
 }
 
 // ---- faults

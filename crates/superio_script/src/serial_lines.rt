@@ -2,7 +2,7 @@
 ghost use Rattle.std.specs.Prelude.{◌≡◌, ◌<◌, ◌≤◌, length, IfOk, IfErr, OnErr, IsTrue};
 ghost use Rattle.vm_superio.specs.Serial.{write_response, enqueue_response, timeout_response, failure_response};
 ghost use Rattle.vm_superio.specs.Saved.{state_of};
-ghost use Rattle.superio_script.specs.Reply.{response_reply};
+ghost use Rattle.superio_script.specs.Reply.{response_reply, counts_reply};
 ghost use Rattle.superio_script.specs.Board.{IsSerialLineStep, IsRestore};
 ghost use Rattle.superio_script.specs.Command.{takes_memory};
 ghost use Rattle.superio_script.specs.declared.command.SerialCommand.TheVariants.{Restore, Save, Load};
@@ -11,7 +11,7 @@ use crate::command::SerialCommand;
 use crate::driver::drain;
 use crate::objects::{Counts, Line, LineRefused, Output};
 use crate::replies::{
-    LineFault, Reply, reply_byte, reply_count, reply_digits, reply_events, reply_fault, reply_text,
+    LineFault, Reply, push_digits, reply_byte, reply_count, reply_digits, reply_fault, reply_text,
 };
 use std::alloc::Global;
 use std::mem;
@@ -50,6 +50,22 @@ pub(crate) fn serial_line(
         SerialCommand::Calls => Ok(reply_count(serial.interrupt_evt().calls())),
         SerialCommand::Events => Ok(reply_events(serial.events())),
     }
+}
+
+/// The counts of a serial port's events, and LF.
+fn reply_events(counts: &Counts) -> Reply
+    ensures { result.items ≡ counts_reply counts.now }
+{
+    let mut reply = Reply::new();
+    push_digits(&mut reply, &counts.buffer_read_count().to_be_bytes());
+    reply.push(b' ');
+    push_digits(&mut reply, &counts.out_byte_count().to_be_bytes());
+    reply.push(b' ');
+    push_digits(&mut reply, &counts.tx_lost_byte_count().to_be_bytes());
+    reply.push(b' ');
+    push_digits(&mut reply, &counts.in_buffer_empty_count().to_be_bytes());
+    reply.push(b'\n');
+    reply
 }
 
 /// Restores the port from its own state.
