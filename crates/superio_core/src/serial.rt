@@ -2,17 +2,26 @@
 //!
 //! A call changes the port and returns what is left to do: a byte to send, interrupts to raise, or events to report. The
 //! port owns no objects and allocates no memory, so a monitor keeps it where it likes, in any language.
-ghost use Rattle.std.specs.Prelude.{◌≡◌, ◌↔◌, ◌≤◌, ◌-◌, ◌==◌, not, length, IsTrue};
-ghost use Rattle.superio_core.specs.Serial.{fresh_state, state_of_port, CoherentPort, ShowsHeldBytes, is_line_up, restore_calls};
-ghost use Rattle.superio_core.specs.Serial.Step.{IsPortRead, IsPortWrite, IsPortEnqueue, IsPortTimeout};
+//!
+//! The steps of its calls are methods of the registers, at the end. They take the received bytes if they use them, and
+//! work with every receive FIFO.
+ghost use Rattle.std.specs.Prelude.{◌≡◌, ◌↔◌, ◌≤◌, ◌-◌, ◌==◌, not, length, IsTrue, if◌then◌else◌, [], slice_index};
+ghost use Rattle.superio_core.specs.Serial.{fresh_state, state_of_port, CoherentPort, ShowsHeldBytes, is_line_up, restore_calls, not_empty, state_with, register_read, is_asserted};
+ghost use Rattle.superio_core.specs.Serial.Step.{IsPortRead, IsPortWrite, IsPortEnqueue, IsPortTimeout, becomes_pending, raise, lower, bytes_that_fit, receive_bytes, rbr_read, ier_write, read_step, write_step, character_timeout, read_events, ier_write_calls, arrival_calls, timeout_calls, kind_calls};
+ghost use Rattle.superio_core.specs.Serial.RegisterMap.{lsr_dr_bit, Rda, Thre, RbrThr, is_loopback};
+ghost use Rattle.superio_core.specs.Bits.{only_bits, with_bits};
+ghost use Rattle.superio_core.specs.Serial.Operations.{count_if, is_first_of_two_refused, write_kind, sent_by, events_of_read};
 
 pub mod registers;
 pub mod saved_form;
-mod steps;
 
 pub use super::fifo::RxRing;
 use super::fifo::{FIFO_SIZE, ReceiveFifo};
 pub use registers::Registers;
+use registers::{
+    Condition, IER_UART_VALID_BITS, IIR_FIFO_BITS, IIR_NONE_BIT, LSR_DATA_READY_BIT, Register,
+    has_bits, only_bits, with_bits, without_bits,
+};
 
 /// A serial port without objects: its registers and received bytes. Any bytes are valid.
 #[repr(C)]
@@ -198,4 +207,235 @@ pub enum Sent {
     Out,
     /// The writer failed.
     Lost,
+}
+
+// ---- the steps
+
+impl Registers {
+    /// Raises a condition: if it is enabled and not pending, it becomes pending. Returns whether to call the trigger,
+    /// once.
+    #[inline(always)]
+    fn raise(&mut self, condition: Condition) -> bool
+        ensures due { result
+            ≡ becomes_pending condition self.old.interrupt_enable self.old.interrupt_identification }
+        ensures registers { self.new ≡ record self.old {
+          interrupt_identification =
+              raise condition self.old.interrupt_enable self.old.interrupt_identification;
+        } }
+    {
+        if !has_bits(self.interrupt_enable, condition.ier_bit())
+            || has_bits(self.interrupt_identification, condition.iir_bit())
+        {
+            return false;
+        }
+        let others = without_bits(self.interrupt_identification, IIR_NONE_BIT);
+        self.interrupt_identification = with_bits(others, condition.iir_bit());
+        true
+    }
+
+    /// Lowers a condition: it is no longer pending.
+    #[inline(always)]
+    fn lower(&mut self, condition: Condition)
+        ensures registers { self.new ≡ record self.old {
+          interrupt_identification = lower condition self.old.interrupt_identification;
+        } }
+    {
+        let others = without_bits(self.interrupt_identification, condition.iir_bit());
+        self.interrupt_identification = if others == 0 { IIR_NONE_BIT } else { others };
+    }
+
+    /// An IER write: stores the low four bits, raises RDA if bytes are held, then raises THRE. Returns how often to
+    /// call the trigger.
+    #[inline(always)]
+    fn write_ier<F: ReceiveFifo>(&mut self, fifo: &F, value: u8) -> u8
+        ensures due { result ≡ ier_write_calls (only_bits value 0x0F) (state_with self.old (F.held fifo.now)) }
+        ensures at_most_2 { result ≤ 2 }
+        ensures state { state_with self.new (F.held fifo.now)
+            ≡ ier_write (only_bits value 0x0F) Asked.Nothing (state_with self.old (F.held fifo.now)) }
+    {
+        self.interrupt_enable = only_bits(value, IER_UART_VALID_BITS);
+        if !fifo.is_empty() && self.raise(Condition::Rda) {
+            if self.raise(Condition::Thre) { 2 } else { 1 }
+        } else if self.raise(Condition::Thre) {
+            1
+        } else {
+            0
+        }
+    }
+
+    /// Lowers THRE if the first of two trigger calls was refused: a refusal ends an IER write before it raises THRE.
+    pub fn take_back(&mut self, due: u8, asked: Asked)
+        ensures registers { self.new ≡ record self.old {
+          interrupt_identification =
+              if is_first_of_two_refused due asked
+              then lower Thre self.old.interrupt_identification
+              else self.old.interrupt_identification;
+        } }
+    {
+        if due == 2 && matches!(asked, Asked::Refused) {
+            self.lower(Condition::Thre);
+        }
+    }
+
+    /// Notes received bytes: sets data ready and raises RDA.
+    #[inline(always)]
+    fn note_received(&mut self) -> bool
+        ensures due { result ≡ becomes_pending Rda self.old.interrupt_enable self.old.interrupt_identification }
+        ensures registers { self.new ≡ record self.old {
+          line_status = with_bits self.old.line_status lsr_dr_bit;
+          interrupt_identification = raise Rda self.old.interrupt_enable self.old.interrupt_identification;
+        } }
+    {
+        self.line_status = with_bits(self.line_status, LSR_DATA_READY_BIT);
+        self.raise(Condition::Rda)
+    }
+
+    /// Adds as many of these bytes as fit after the held ones, first ones first. Returns how many it added, and whether
+    /// to call the trigger.
+    #[inline(always)]
+    pub fn receive<F: ReceiveFifo>(&mut self, fifo: &mut F, bytes: &[u8]) -> (usize, bool)
+        ensures count { result.0 ≡ length (bytes_that_fit (F.held fifo.old) bytes.now) }
+        ensures due { count_if result.1
+            ≡ arrival_calls (bytes_that_fit (F.held fifo.old) bytes.now) (state_with self.old (F.held fifo.old)) }
+        ensures state { state_with self.new (F.held fifo.new)
+            ≡ receive_bytes (bytes_that_fit (F.held fifo.old) bytes.now) (state_with self.old (F.held fifo.old)) }
+        ensures canonical { F.canonical fifo.old → F.canonical fifo.new }
+    {
+        let count = fifo.fill(bytes);
+        if count == 0 {
+            return (0, false);
+        }
+        (count, self.note_received())
+    }
+
+    /// A character timeout: raises RDA if bytes are held. Returns how often to call the trigger.
+    #[inline(always)]
+    pub fn character_timeout<F: ReceiveFifo>(&mut self, fifo: &F) -> u8
+        ensures due { result ≡ timeout_calls (state_with self.old (F.held fifo.now)) }
+        ensures at_most_1 { result ≤ 1 }
+        ensures state { state_with self.new (F.held fifo.now)
+            ≡ character_timeout (state_with self.old (F.held fifo.now)) }
+    {
+        u8::from(!fifo.is_empty() && self.raise(Condition::Rda))
+    }
+
+    /// An RBR read: lowers RDA, then takes the oldest byte or gives 0.
+    #[inline(always)]
+    fn read_rbr<F: ReceiveFifo>(&mut self, fifo: &mut F) -> ReadEffects
+        ensures value { result.byte ≡ slice_index (F.held fifo.old) 0 }
+        ensures state { state_with self.new (F.held fifo.new) ≡ rbr_read (state_with self.old (F.held fifo.old)) }
+        ensures events { events_of_read result ≡ read_events RbrThr (F.held fifo.old) }
+        ensures canonical { F.canonical fifo.old → F.canonical fifo.new }
+    {
+        self.lower(Condition::Rda);
+        let byte = fifo.take_first().unwrap_or(0);
+        let in_buffer_empty = fifo.is_empty();
+        if in_buffer_empty {
+            self.line_status = without_bits(self.line_status, LSR_DATA_READY_BIT);
+        }
+        ReadEffects {
+            byte,
+            buffer_read: true,
+            in_buffer_empty,
+        }
+    }
+
+    /// Reads a register.
+    #[inline(always)]
+    pub fn read<F: ReceiveFifo>(&mut self, fifo: &mut F, register: Register) -> ReadEffects
+        ensures value { result.byte
+            ≡ register_read register (state_with self.old (F.held fifo.old)) }
+        ensures state { state_with self.new (F.held fifo.new)
+            ≡ read_step register (state_with self.old (F.held fifo.old)) }
+        ensures events { events_of_read result ≡ read_events register (F.held fifo.old) }
+        ensures canonical { F.canonical fifo.old → F.canonical fifo.new }
+    {
+        let byte = match register {
+            Register::RbrThr => return self.read_rbr(fifo),
+            Register::Dll => self.baud_divisor_low,
+            Register::Dlm => self.baud_divisor_high,
+            Register::Ier => self.interrupt_enable,
+            Register::Iir => {
+                let identification = self.interrupt_identification;
+                self.interrupt_identification = IIR_NONE_BIT;
+                with_bits(identification, IIR_FIFO_BITS)
+            }
+            Register::Lcr => self.line_control,
+            Register::Mcr => self.modem_control,
+            Register::Lsr => self.line_status,
+            Register::Msr => self.read_msr(),
+            Register::Scr => self.scratch,
+            Register::Unassigned => 0,
+        };
+        ReadEffects {
+            byte,
+            buffer_read: false,
+            in_buffer_empty: false,
+        }
+    }
+
+    /// Writes a register. In loopback a THR write is received. Otherwise its byte goes out, and THRE is raised whatever
+    /// happens to the byte. The due trigger calls count as taken: `take_back` applies a refusal.
+    #[inline(always)]
+    pub fn write<F: ReceiveFifo>(
+        &mut self,
+        fifo: &mut F,
+        register: Register,
+        value: u8,
+    ) -> WriteEffects
+        ensures sends { let kind = write_kind register (is_loopback self.old.modem_control) value in
+            result.sends ≡ not_empty (sent_by kind) }
+        ensures interrupts { let kind = write_kind register (is_loopback self.old.modem_control) value in
+            result.interrupts ≡ kind_calls kind (state_with self.old (F.held fifo.old)) }
+        ensures at_most_2 { result.interrupts ≤ 2 }
+        ensures state { state_with self.new (F.held fifo.new)
+            ≡ write_step register value Asked.Nothing (state_with self.old (F.held fifo.old)) }
+        ensures canonical { F.canonical fifo.old → F.canonical fifo.new }
+    {
+        let mut sends = false;
+        let mut interrupts = 0;
+        match register {
+            Register::Dll => self.baud_divisor_low = value,
+            Register::Dlm => self.baud_divisor_high = value,
+            Register::RbrThr if self.is_loopback() => {
+                interrupts = u8::from(fifo.push(value) && self.note_received());
+            }
+            Register::RbrThr => {
+                sends = true;
+                interrupts = u8::from(self.raise(Condition::Thre));
+            }
+            Register::Ier => interrupts = self.write_ier(fifo, value),
+            Register::Lcr => self.line_control = value,
+            Register::Mcr => self.modem_control = value,
+            Register::Scr => self.scratch = value,
+            Register::Iir | Register::Lsr | Register::Msr | Register::Unassigned => {}
+        }
+        WriteEffects { sends, interrupts }
+    }
+
+    /// Whether a condition is pending and enabled.
+    fn is_asserted(&self, condition: Condition) -> bool
+        ensures { result ≡ is_asserted condition (state_with self.now []) }
+    {
+        has_bits(self.interrupt_identification, condition.iir_bit())
+            && has_bits(self.interrupt_enable, condition.ier_bit())
+    }
+
+    /// How often a restore calls the trigger: once for each condition that is pending and enabled.
+    pub fn interrupts_due(&self) -> u8
+        ensures calls { result ≡ length (restore_calls (state_with self.now [])) }
+        ensures at_most_2 { result ≤ 2 }
+    {
+        u8::from(self.is_asserted(Condition::Thre)) + u8::from(self.is_asserted(Condition::Rda))
+    }
+
+    /// Whether the interrupt line is up: a condition is pending and enabled.
+    #[inline(always)]
+    #[tactic(auto, using(crate::proofs::Lemmas::Serial::Step::up_while_due))]
+    pub fn interrupt_line(&self) -> bool
+        ensures line { result ≡ is_line_up (state_with self.now []) }
+        ensures due { result ≡ not (length (restore_calls (state_with self.now [])) == 0) }
+    {
+        self.is_asserted(Condition::Thre) || self.is_asserted(Condition::Rda)
+    }
 }
