@@ -1,6 +1,6 @@
 /**
- * What the package does by itself: layouts, copies, refused arguments, names, and what superio.d.ts and package.json say
- * of it. tools/js/check makes recorded calls with it too, over the board of the page.
+ * What the package does by itself: layouts, copies, refused arguments, names, and what superio.d.ts and package.json
+ * say of it. tools/js/check makes recorded calls with it too, over the board of the page.
  */
 import assert from "node:assert/strict";
 import { readFileSync, readdirSync } from "node:fs";

@@ -1,5 +1,5 @@
-//! The devices of a virtual machine monitor as values: a call changes the value and returns what is left to do. No object,
-//! no heap, no dependency.
+//! The devices of a virtual machine monitor as values: a call changes the value and returns what is left to do. No
+//! object, no heap, no dependency.
 //!
 //! ```text
 //! let mut port = SerialPort::new();

@@ -1,5 +1,5 @@
-//! Short modules to copy into a monitor: a bus, a clock's window in memory, triggers, input and output in an event loop,
-//! a migration, a whole monitor, and first claims about the devices.
+//! Short modules to copy into a monitor: a bus, a clock's window in memory, triggers, input and output in an event
+//! loop, a migration, a whole monitor, and first claims about the devices.
 #![tactic(auto)]
 
 pub mod bus;

@@ -178,8 +178,8 @@ impl Monitor {
         }
     }
 
-    /// A guest's read of a port. One of IIR that shows nothing pending is followed by a character timeout, so that bytes
-    /// which the guest left in the FIFO interrupt it again.
+    /// A guest's read of a port. One of IIR that shows nothing pending is followed by a character timeout, so that
+    /// bytes which the guest left in the FIFO interrupt it again.
     fn read_port(&mut self, port: u16) -> (Answer, u8)
         ensures acts { Acts (Event.PortRead port) result.0 result.1 (machine_of self.old) (machine_of self.new) }
     {
@@ -264,8 +264,8 @@ impl Monitor {
         (Answer::Done, interrupts)
     }
 
-    /// Gives the serial port input if it holds no byte and input may go in, and returns how often to raise the interrupt.
-    /// Input may go in from the event on by which the guest is ready.
+    /// Gives the serial port input if it holds no byte and input may go in, and returns how often to raise the
+    /// interrupt. Input may go in from the event on by which the guest is ready.
     fn feed(&mut self) -> u8
         ensures interrupts { result ≡ feed_calls (machine_of self.old) }
         ensures at_most_1 { result ≤ 1 }

@@ -119,8 +119,8 @@ pub(crate) fn shows_ready(enable: u8) -> bool
 /// the memory for this limit. A byte that finds no room is dropped, and counted.
 ///
 /// A monitor passes each byte that the guest sends to [`Output::push`]. An `Output` may also be a port's own writer.
-/// Then the guest's write returns an I/O error of the kind `WriteZero` for a byte that is dropped, which the monitor can
-/// log, and no contract says what the output holds after an I/O error.
+/// Then the guest's write returns an I/O error of the kind `WriteZero` for a byte that is dropped, which the monitor
+/// can log, and no contract says what the output holds after an I/O error.
 #[derive(Drop)]
 pub struct Output {
     ring: HeapCircularBuffer<u8>,
@@ -150,8 +150,8 @@ impl Output {
         Ok(Output { ring, dropped: 0 })
     }
 
-    /// An output where these bytes wait, and `dropped` were dropped. At most `limit` may wait, or as many as wait now if
-    /// these are more.
+    /// An output where these bytes wait, and `dropped` were dropped. At most `limit` may wait, or as many as wait now
+    /// if these are more.
     ///
     /// # Errors
     ///

@@ -1,5 +1,5 @@
-//! Triggers: the usual one, a file descriptor that the host's kernel watches, such as an eventfd that is the irqfd of an
-//! interrupt line; and one that counts its calls, for a monitor that injects interrupts itself.
+//! Triggers: the usual one, a file descriptor that the host's kernel watches, such as an eventfd that is the irqfd of
+//! an interrupt line; and one that counts its calls, for a monitor that injects interrupts itself.
 ghost use Rattle.std.specs.Prelude.{◌≡◌, [], ◌∷◌, OnOk};
 ghost use Rattle.std.specs.Io.KnownBytes.{Appends};
 ghost use Rattle.vm_superio.specs.Links.ForAnyObject.{FoldsEvents, FoldsEvents-nil, FoldsEvents-append};

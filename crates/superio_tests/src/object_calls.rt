@@ -1,7 +1,7 @@
 //! The calls that objects get, and the faults that they answer, as far as no contract says so. A data write makes one
 //! `write`, and one `flush` if that succeeded, and returns their fault as it is, whichever call makes it. So does an
-//! event, an output that is drained, and a script, which calls its streams no more than it has to. A call that takes and
-//! drops objects does not call them before.
+//! event, an output that is drained, and a script, which calls its streams no more than it has to. A call that takes
+//! and drops objects does not call them before.
 use crate::objects::{
     Log, Object, PortObjects, Then, Writing, by_std, faults, is_same, port, writings,
 };

@@ -105,8 +105,8 @@ impl Writing {
     }
 }
 
-/// The outcome of std's own `write_all` over a writer that does this, piece by piece, and then of `flush`, if that is to
-/// be called.
+/// The outcome of std's own `write_all` over a writer that does this, piece by piece, and then of `flush`, if that is
+/// to be called.
 pub fn by_std(writing: Writing, pieces: &[&[u8]], flushes: bool) -> Outcome {
     let log = Log::new();
     log.start(writing);

@@ -1,5 +1,5 @@
-//! The programs to copy at work, with values from data sheets, from PCs and from guests: parts of a monitor, a whole one,
-//! and one that moves.
+//! The programs to copy at work, with values from data sheets, from PCs and from guests: parts of a monitor, a whole
+//! one, and one that moves.
 
 use crate::objects::{Log, Object, port};
 use std::test::Fail;

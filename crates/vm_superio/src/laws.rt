@@ -136,10 +136,10 @@ pub fn interrupt_driver()
     ensures taken { TakenAfterRunsLaw }
 {}
 
-/// One call in any state, and the level of the interrupt line. A call that calls the trigger, which may refuse, leaves the
-/// line up. The line goes up in such a call, or in an IER write that enables a pending condition, for which the trigger
-/// is not called again. It goes down only in a read of IIR or RBR, or in an IER write. From a start whose IIR is 1, 2, 4
-/// or 6, the line is up exactly while the trace has a condition pending that IER enables.
+/// One call in any state, and the level of the interrupt line. A call that calls the trigger, which may refuse, leaves
+/// the line up. The line goes up in such a call, or in an IER write that enables a pending condition, for which the
+/// trigger is not called again. It goes down only in a read of IIR or RBR, or in an IER write. From a start whose IIR
+/// is 1, 2, 4 or 6, the line is up exactly while the trace has a condition pending that IER enables.
 #[tactic(auto, using(crate::proofs::Lemmas::Serial::Laws::Interrupts::interrupt_line_laws))]
 pub fn interrupt_line()
     ensures after { LineAfterLaw }
@@ -246,8 +246,8 @@ pub fn alarm_due_by_history()
     ensures { AlarmDueByHistory }
 {}
 
-/// From any state, a clock that was set by a write of RTCLR shows the value written and as many seconds more as have passed
-/// since, if 32 bits hold both times.
+/// From any state, a clock that was set by a write of RTCLR shows the value written and as many seconds more as have
+/// passed since, if 32 bits hold both times.
 pub fn set_time()
     ensures { SetTimeLaw }
 {

@@ -261,8 +261,8 @@ impl<T: Trigger, EV: SerialEvents, W: Write> Serial<T, EV, W> {
         self.port.recorded_write(offset, value).reply
     }
 
-    /// Whether a write at `offset` sends its byte, as a THR write outside loopback does. Changes nothing: an event loop may
-    /// ask before the write whether its sink has room.
+    /// Whether a write at `offset` sends its byte, as a THR write outside loopback does. Changes nothing: an event loop
+    /// may ask before the write whether its sink has room.
     pub fn sends(&self, offset: u8) -> bool
         ensures { (value : ℕ) → sent_by (kind_in_state self.now.state (Write offset value))
             ≡ (if result then value ∷ [] else []) }

@@ -47,13 +47,14 @@ pub struct I8042WriteEffects {
 ///
 /// # Safety
 ///
-/// `count` bytes can be read at `bytes`, and nobody writes them while the result is in use. If `count` is 0, `bytes` may be
-/// null.
+/// `count` bytes can be read at `bytes`, and nobody writes them while the result is in use. If `count` is 0, `bytes`
+/// may be null.
 unsafe fn bytes_at<'a>(bytes: *const u8, count: usize) -> &'a [u8] {
     if count == 0 {
         return &[];
     }
-    // SAFETY: as the function requires. A slice of no bytes has to have a pointer that is not null, hence the case above.
+    // SAFETY: as the function requires. A slice of no bytes has to have a pointer that is not null, hence the case
+    // above.
     unsafe { core::slice::from_raw_parts(bytes, count) }
 }
 
@@ -127,8 +128,8 @@ pub unsafe extern "C" fn superio_serial_save(port: &SerialPort, bytes: *mut u8) 
 
 /// # Safety
 ///
-/// A port can be written at `port`, which need not hold one. `count` bytes outside the port can be read at `bytes`, which may
-/// be null if `count` is 0.
+/// A port can be written at `port`, which need not hold one. `count` bytes outside the port can be read at `bytes`,
+/// which may be null if `count` is 0.
 #[no_mangle]
 pub unsafe extern "C" fn superio_serial_load(port: *mut SerialPort, bytes: *const u8, count: usize) -> u32 {
     // SAFETY: as the function requires of both.
@@ -147,8 +148,8 @@ pub unsafe extern "C" fn superio_rtc_save(clock: &Clock, bytes: *mut u8) {
 
 /// # Safety
 ///
-/// A clock can be written at `clock`, which need not hold one. `count` bytes outside the clock can be read at `bytes`, which
-/// may be null if `count` is 0.
+/// A clock can be written at `clock`, which need not hold one. `count` bytes outside the clock can be read at `bytes`,
+/// which may be null if `count` is 0.
 #[no_mangle]
 pub unsafe extern "C" fn superio_rtc_load(clock: *mut Clock, bytes: *const u8, count: usize) -> u32 {
     // SAFETY: as the function requires of both.

@@ -1,7 +1,7 @@
 // Made by the command tools/erase from crates/superio_core/src/lib.rt.
 // These are the lines that the prover checks, without their contracts. Change them there.
-//! The devices of a virtual machine monitor as values: a call changes the value and returns what is left to do. No object,
-//! no heap, no dependency.
+//! The devices of a virtual machine monitor as values: a call changes the value and returns what is left to do. No
+//! object, no heap, no dependency.
 //!
 //! ```text
 //! let mut port = SerialPort::new();

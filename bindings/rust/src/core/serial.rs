@@ -2,8 +2,8 @@
 // These are the lines that the prover checks, without their contracts. Change them there.
 //! A serial port with the registers of a 16550, as a value.
 //!
-//! A call changes the port and returns what is left to do: a byte to send, interrupts to raise, or events to report. The
-//! port owns no objects and allocates no memory, so a monitor keeps it where it likes, in any language.
+//! A call changes the port and returns what is left to do: a byte to send, interrupts to raise, or events to report.
+//! The port owns no objects and allocates no memory, so a monitor keeps it where it likes, in any language.
 //!
 //! The steps of its calls are methods of the registers, at the end. They take the received bytes if they use them, and
 //! work with every receive FIFO.
@@ -47,8 +47,8 @@ impl SerialPort {
         self.registers.read(&mut self.in_buffer, register)
     }
 
-    /// Writes `value` at `offset`, as a guest does. Then send the byte if it goes out, and ask for the interrupts. Neither
-    /// a lost byte nor a refusal changes the port.
+    /// Writes `value` at `offset`, as a guest does. Then send the byte if it goes out, and ask for the interrupts.
+    /// Neither a lost byte nor a refusal changes the port.
     #[inline(always)]
     // Clauses in crates/superio_core/src/serial.rt: step, at_most_2, coherent.
     pub fn write(&mut self, offset: u8, value: u8) -> WriteEffects {
