@@ -2,8 +2,8 @@
 use Rattle.std.proofs.Common.{rules, arith, ◌≡◌, Some, None, IfSome, List, ℕ}
 use Rattle.std.proofs.lemmas.Option.{IfSome_then}
 use Rattle.std.proofs.KnownBytes.{Keeps-refl}
-use Rattle.superio_script.specs.Script.{RunsUpTo, WritesPartOf}
-use Rattle.superio_script.proofs.ScriptLemmas.{IfSome-always, WritesPart-nothing, WritesPart-kept}
+use Rattle.superio_script.specs.Script.{body_of, PrintsLines, RunsUpTo, WritesPartOf}
+use Rattle.superio_script.proofs.ScriptLemmas.{Appends-then_kept, IfSome-always, WritesPart-nothing, WritesPart-kept}
 use Rattle.superio_script.proofs.LineLemmas.{length-lines_of-le}
 use Rattle.superio_script.proofs.script.run_script.Goals as goal
 
@@ -22,12 +22,22 @@ returns-in_err-write_replies-clause-bad g c = λ number is.
 pub returns-clause-ok : goal.returns-clause-ok
 returns-clause-ok g c =
     let ok = c.in_ok-write_replies.ensures.ok in
-    let runs : IfSome (g.R.Read.remaining c.args.reader.now) (λ script. RunsUpTo None script (g.R.Read.remaining c.read_script.new.reader) (g.W.Write.contents c.args.writer.now) (g.W.Write.contents c.write_replies.new.writer)) =
+    let start = g.W.Write.contents c.args.writer.now in
+    let middle = g.W.Write.contents c.write_replies.new.writer in
+    let end = g.W.Write.contents c.flush.new.self in
+    let runs : IfSome (g.R.Read.remaining c.args.reader.now) (λ script. RunsUpTo None script (g.R.Read.remaining c.read_script.new.reader) start end) =
     IfSome_then (g.R.Read.remaining c.args.reader.now)
     {P = λ (script : List ℕ). c.in_ok-script.script.items ≡ script}
-    {Q = λ (script : List ℕ). RunsUpTo None script (g.R.Read.remaining c.read_script.new.reader) (g.W.Write.contents c.args.writer.now) (g.W.Write.contents c.write_replies.new.writer)}
+    {Q = λ (script : List ℕ). RunsUpTo None script (g.R.Read.remaining c.read_script.new.reader) start end}
     c.in_ok-script.ensures.whole
-    (λ script same. record { within_limit = search rules; none_left = search rules; first_bad = search (rules, ok.0); text = search (rules, ok.1) }) in
+    (λ script same.
+    let printed : PrintsLines (body_of script).mask (body_of script).lines start middle = search (rules, ok.1) in
+    record {
+      within_limit = search rules;
+      none_left = search rules;
+      first_bad = search (rules, ok.0);
+      text = (printed.0, printed.1, Appends-then_kept start middle end printed.0 printed.2 c.flush.ensures.bytes);
+    }) in
     search (rules, runs)
 
 pub returns-in_err-script-clause-part : goal.returns-in_err-script-clause-part

@@ -17,10 +17,3 @@ invariant_of-result c =
       clock = fresh ∙ fresh_clock-history;
       controller = search rules;
     }
-
-pub returns-clause-fresh : goal.returns-clause-fresh
-returns-clause-fresh c = record {
-  serial = at-start c.args.mask _ (search rules) (search rules) (search rules) (search rules);
-  clock = search rules;
-  controller = search rules;
-}
