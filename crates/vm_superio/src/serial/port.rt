@@ -17,8 +17,8 @@ use std::alloc::{AllocError, Global};
 use std::io;
 use std::marker::Model;
 use superio_core::fifo::{FIFO_SIZE, ReceiveFifo};
-use superio_core::serial::{Asked, ReadEffects, Sent};
 use superio_core::serial::registers::Registers;
+use superio_core::serial::{Asked, ReadEffects, Sent};
 
 /// A serial port over one object that plays all three roles: it raises the interrupt, takes the bytes and hears the
 /// events. Each call's contract states all calls of the object, in order.
