@@ -21,6 +21,7 @@ from superio.library import FILE_NAME as LIBRARY
 
 HERE = Path(__file__).resolve().parent
 PACKAGE = HERE / "superio"
+INTERFACE = PACKAGE / "superio.abi"
 # The repository, or the folder of the sources alone.
 ROOT = HERE if (HERE / "LICENSE").is_file() else HERE.parents[1]
 LICENSES = ["LICENSE", *(f"LICENSES/{path.name}" for path in sorted((ROOT / "LICENSES").iterdir()))]
@@ -55,7 +56,7 @@ def build_wheel(wheel_directory: str, config_settings: Optional[Dict[str, Any]] 
     """Writes the wheel into a folder, and returns the name of its file."""
     tag = "py3-none-" + re.sub(r"[-.]", "_", sysconfig.get_platform())
     name, folder = f"superio-{VERSION}-{tag}.whl", f"superio-{VERSION}.dist-info"
-    files = {f"superio/{path.name}": path.read_bytes() for path in sorted(PACKAGE.glob("*.py"))}
+    files = {f"superio/{path.name}": path.read_bytes() for path in [*sorted(PACKAGE.glob("*.py")), INTERFACE]}
     files["superio/py.typed"] = b""
     files[f"superio/{LIBRARY}"] = _library().read_bytes()
     files.update((f"{folder}/licenses/{path}", (ROOT / path).read_bytes()) for path in LICENSES)
@@ -75,7 +76,7 @@ def build_sdist(sdist_directory: str, config_settings: Optional[Dict[str, Any]] 
     """Writes the sources and the libraries of each machine into a folder, and returns the name of the file."""
     folder = f"superio-{VERSION}"
     own = [*(HERE / name for name in ("README.md", "build_wheel.py", "pyproject.toml")), *PACKAGE.glob("*.py"),
-           PACKAGE / "py.typed"]
+           INTERFACE, PACKAGE / "py.typed"]
     shared = [*(ROOT / "prebuilt").glob(f"*-linux/{LIBRARY}"), *(ROOT / name for name in LICENSES)]
     files = {path.relative_to(top).as_posix(): path.read_bytes() for top, paths in ((HERE, own), (ROOT, shared))
              for path in paths}

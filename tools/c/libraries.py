@@ -6,6 +6,8 @@ from pathlib import Path
 ROOT = Path(__file__).resolve().parents[2]
 PREBUILT = ROOT / "prebuilt"
 HEADER = ROOT / "include" / "superio.h"
+# What programs have compiled into them of the header, as a table, which Python reads.
+INTERFACE = ROOT / "bindings" / "python" / "superio" / "superio.abi"
 STATIC = "libsuperio_c.a"
 # Its number is the header's. What needs a header that is missing says so.
 SHARED = "libsuperio.so." + "".join(re.findall(r"^#define SUPERIO_ABI (\d+)$", HEADER.read_text(encoding="ascii"), re.M)

@@ -1,14 +1,21 @@
-"""The shared library of the devices, which is found and checked. Its structs and functions are those of superio.h."""
+"""The shared library of the devices, which is found and checked. Its structs and functions are those of superio.h, as
+superio.abi has them."""
 import ctypes
 import os
-from ctypes import POINTER, Structure, c_bool, c_char_p, c_size_t, c_uint8, c_uint16, c_uint32, c_uint64
+import re
 from functools import lru_cache
 from pathlib import Path
-from typing import Any
+from typing import Any, List
 
-from .registers import FIFO_SIZE, RtcState, SerialState
+_PACKAGE = Path(__file__).resolve().parent
+_TABLE = (_PACKAGE / "superio.abi").read_text(encoding="ascii")
 
-ABI = 3
+
+def _found(form: str) -> List[Any]:
+    return re.findall(f"^{form}$", _TABLE, re.M)
+
+
+ABI = int(_found(r"abi (\d+)")[0])
 """The binary interface of superio.h that this package is written for."""
 
 FILE_NAME = f"libsuperio.so.{ABI}"
@@ -16,55 +23,35 @@ FILE_NAME = f"libsuperio.so.{ABI}"
 VARIABLE = "SUPERIO_LIBRARY"
 """The environment variable that can name the library's file."""
 
-SERIAL_SAVED_MAX = 81
-"""The length of the longest saved state of a serial port."""
+_CONSTANTS = {name: int(value) for name, value in _found(r"constant SUPERIO_(\w+) (\d+)")}
+SERIAL_SAVED_MAX, RTC_SAVED_SIZE = _CONSTANTS["SERIAL_SAVED_MAX"], _CONSTANTS["RTC_SAVED_SIZE"]
+"""The length of the longest saved state of a serial port, and that of a clock's saved state."""
+
+_TYPES = {"void": None, "bool": ctypes.c_bool, "size_t": ctypes.c_size_t, "const uint8_t *": ctypes.c_char_p,
+          **{f"{name}_t": getattr(ctypes, f"c_{name}") for name in ("uint8", "uint16", "uint32", "uint64", "int64")}}
 
 
-def _struct(name: str, **fields: Any) -> Any:
-    return type(name, (Structure,), {"_fields_": list(fields.items())})
+def _struct(name: str) -> Any:
+    fields = _found(rf"field {name}\.(\w+) (\w+) at (\d+) size (\d+)")
+    return type(name, (ctypes.Structure,), {"_fields_": [
+        (field, _TYPES[kind] * int(size) if kind == "uint8_t" and size != "1" else _TYPES[kind])
+        for field, kind, _, size in sorted(fields, key=lambda it: int(it[2]))]})
 
 
-SerialStruct = _struct("superio_serial", **SerialState.kinds(), head=c_uint8, len=c_uint8, bytes=c_uint8 * FIFO_SIZE)
-RtcStruct = _struct("superio_rtc", **RtcState.kinds())
-RTC_SAVED_SIZE = 8 + RtcStruct.armed.offset + 1
-"""The length of the saved state of a clock: a header, the fields of the struct, and one byte for the alarm."""
-
-_Read = _struct("superio_serial_read_effects", byte=c_uint8, buffer_read=c_bool, in_buffer_empty=c_bool)
-_Write = _struct("superio_serial_write_effects", sends=c_bool, interrupts=c_uint8)
-_Enqueue = _struct("superio_serial_enqueue_effects", taken=c_size_t, full=c_bool, interrupts=c_uint8)
-_RtcRead = _struct("superio_rtc_read_effects", value=c_uint32, invalid_read=c_bool)
-_RtcWrite = _struct("superio_rtc_write_effects", invalid_write=c_bool)
-_I8042Write = _struct("superio_i8042_write_effects", resets=c_bool)
-
-STRUCTS = {struct.__name__: struct for struct in (SerialStruct, RtcStruct, _Read, _Write, _Enqueue, _RtcRead, _RtcWrite,
-                                                  _I8042Write)}
+STRUCTS = {name: _struct(name) for name in _found(r"struct (\w+) size \d+")}
 """The structs of superio.h by their names there."""
 
-_SERIAL, _RTC, _BYTES_OUT = POINTER(SerialStruct), POINTER(RtcStruct), POINTER(c_uint8)
+SerialStruct, RtcStruct = STRUCTS["superio_serial"], STRUCTS["superio_rtc"]
 
-PROTOTYPES = {
-    "superio_abi": (c_uint32, []),
-    "superio_serial_new": (SerialStruct, []),
-    "superio_serial_read": (_Read, [_SERIAL, c_uint8]),
-    "superio_serial_write": (_Write, [_SERIAL, c_uint8, c_uint8]),
-    "superio_serial_enqueue": (_Enqueue, [_SERIAL, c_char_p, c_size_t]),
-    "superio_serial_character_timeout": (c_uint8, [_SERIAL]),
-    "superio_serial_fifo_capacity": (c_size_t, [_SERIAL]),
-    "superio_serial_interrupts_due": (c_uint8, [_SERIAL]),
-    "superio_serial_interrupt_line": (c_bool, [_SERIAL]),
-    "superio_serial_is_coherent": (c_bool, [_SERIAL]),
-    "superio_serial_save": (c_size_t, [_SERIAL, _BYTES_OUT]),
-    "superio_serial_load": (c_uint32, [_SERIAL, c_char_p, c_size_t]),
-    "superio_rtc_new": (RtcStruct, []),
-    "superio_rtc_read": (_RtcRead, [_RTC, c_uint16, c_uint64]),
-    "superio_rtc_write": (_RtcWrite, [_RTC, c_uint16, c_uint32, c_uint64]),
-    "superio_rtc_line": (c_bool, [_RTC]),
-    "superio_rtc_due": (c_uint64, [_RTC, c_uint64]),
-    "superio_rtc_save": (None, [_RTC, _BYTES_OUT]),
-    "superio_rtc_load": (c_uint32, [_RTC, c_char_p, c_size_t]),
-    "superio_i8042_write": (_I8042Write, [c_uint8, c_uint8]),
-    "superio_i8042_read": (c_uint8, [c_uint8]),
-}
+
+def _type(kind: str) -> Any:
+    """The type of a result or a parameter. An array parameter is a pointer."""
+    types = {**_TYPES, **STRUCTS}
+    return types[kind] if kind in types else ctypes.POINTER(types[re.sub(r"^const | (?:\*|\[\w+\])$", "", kind)])
+
+
+PROTOTYPES = {name: (_type(result), [_type(kind) for kind in parameters.split(", ") if kind != "void"])
+              for result, name, parameters in _found(r"function (\w+) (superio_\w+)\((.*)\)")}
 """The functions of superio.h: what each returns, and its parameters."""
 
 
@@ -97,9 +84,8 @@ def open_library() -> ctypes.PyDLL:
 
     Raises `LibraryError` if there is none, or if the first one found cannot be used.
     """
-    package = Path(__file__).resolve().parent
-    places = [package / FILE_NAME, *(place / "prebuilt" / f"{os.uname().machine}-linux" / FILE_NAME
-                                     for place in package.parents[2:3])]
+    places = [_PACKAGE / FILE_NAME, *(place / "prebuilt" / f"{os.uname().machine}-linux" / FILE_NAME
+                                      for place in _PACKAGE.parents[2:3])]
     named = os.environ.get(VARIABLE) or next((str(path) for path in places if path.is_file()), "")
     if named:
         return _loaded(named)
