@@ -2,8 +2,8 @@
  * superio.h: emulated legacy devices for a virtual machine monitor.
  *
  * A 16550 serial port, a PL031 real-time clock, and an i8042 controller that
- * resets the machine. Each function is proved to meet its specification, for
- * every argument and every content of its struct.
+ * resets the machine. What a call does to a device is proved, for every
+ * argument and every content of its struct.
  *
  * How it works
  * ------------
