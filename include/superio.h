@@ -303,7 +303,9 @@ superio_serial_enqueue_effects superio_serial_enqueue(superio_serial *port,
  *
  * - after each guest read at offset 2 whose byte has bit 0x01 set, which says
  *   that nothing is pending;
- * - once in each turn of your event loop.
+ * - once in each turn of your event loop. For a guest whose handler does not
+ *   read IIR until nothing is pending, a timer has to make turns while bytes
+ *   are held.
  */
 uint8_t superio_serial_character_timeout(superio_serial *port)
     SUPERIO_MUST_USE SUPERIO_NONNULL SUPERIO_ACCESS(read_write, 1);
