@@ -9,6 +9,8 @@ mod objects;
 #[cfg(test)]
 mod printed;
 #[cfg(test)]
+mod runs;
+#[cfg(test)]
 mod sessions;
 #[cfg(test)]
 mod sizes;

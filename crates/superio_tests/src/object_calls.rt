@@ -3,7 +3,7 @@
 //! event, an output that is drained, and a script, which calls its streams no more than it has to. A call that takes
 //! and drops objects does not call them before.
 use crate::objects::{
-    Log, Object, PortObjects, Then, Writing, by_std, faults, is_same, port, writings,
+    Log, Object, PortCall, Then, Writing, by_std, faults, is_same, port, writings,
 };
 use std::alloc::Global;
 use std::io;
@@ -13,7 +13,7 @@ use superio_examples::bus::{Bus, BusError, COM1, Keyboard};
 use superio_examples::queues::Output;
 use superio_examples::triggers::EventFd;
 use superio_script::{LineRefused, ScriptFault, run_script};
-use vm_superio::run::{Call, Reply};
+use vm_superio::run::{Call, Reply, run};
 use vm_superio::serial::{Error, Refused};
 use vm_superio::{I8042Device, Rtc, Serial, SerialState, Trigger};
 
@@ -79,11 +79,9 @@ fn a_run_returns_the_fault_of_its_writer(rt: HostRuntime) -> Result<(), Fail> {
         for writing in writings(fault) {
             let log = Log::new();
             log.start(writing);
-            let calls: Vec<Call<PortObjects>> = vec![in alloc;
-                Call::Read(7),
-                Call::Write(0, b'x'),
-            ]?;
-            let done = port(alloc, &log)?.run(alloc, calls)?;
+            let calls: Vec<PortCall> = vec![in alloc; Call::Read(7), Call::Write(0, b'x')]?;
+            let mut serial = port(alloc, &log)?;
+            let done = run(alloc, &mut serial, calls)?;
             let is_expected = match &done[1].reply {
                 Reply::Wrote(sent) => is_right(alloc, &log, writing, sent)?,
                 _ => false,

@@ -9,7 +9,8 @@ use std::io::{ErrorKind, Write};
 use std::test::Fail;
 use superio_script::LineRefused;
 use vm_superio::rtc_pl031::RtcEvents;
-use vm_superio::serial::{Error, Refused, SerialEvents, Three, WriterOut};
+use vm_superio::run::Call;
+use vm_superio::serial::{Error, Refused, SerialEvents};
 use vm_superio::{Serial, Trigger};
 
 // ---- faults
@@ -185,8 +186,8 @@ pub struct Object<'a>(pub &'a Log);
 /// A port over three objects of a log.
 pub type Port<'a> = Serial<Object<'a>, Object<'a>, Object<'a>>;
 
-/// The objects of a port in a run.
-pub type PortObjects<'a> = Three<Object<'a>, Object<'a>, WriterOut<Object<'a>>>;
+/// A call of such a port in a run.
+pub type PortCall<'a> = Call<Object<'a>, Object<'a>, Object<'a>>;
 
 /// A new port.
 pub fn port(alloc: Global, log: &Log) -> Result<Port<'_>, Error<LineRefused>> {

@@ -1,6 +1,6 @@
 //! Calls that may return that memory was refused do not, while there is memory. A body that gives up at some size meets
 //! each contract.
-use crate::objects::{Log, Object, PortObjects, port};
+use crate::objects::{Log, Object, PortCall, port};
 use std::alloc::AllocError;
 use std::io::Write;
 use std::test::Fail;
@@ -10,7 +10,7 @@ use superio_examples::first_claims::{
 use superio_examples::monitor::{Event, Monitor};
 use superio_examples::queues::{Input, Output};
 use superio_examples::saved_monitor::{move_monitor, save_monitor};
-use vm_superio::run::Call;
+use vm_superio::run::{Call, run};
 use vm_superio::serial::{Port, SerialPort, Three};
 use vm_superio::{Serial, SerialState};
 
@@ -42,14 +42,14 @@ fn lists_of_each_size_are_taken(rt: HostRuntime) -> Result<(), Fail> {
     let object = Object(&log);
     for size in SIZES {
         let bytes = b"x".repeat(alloc, size)?;
-        let mut calls: Vec<Call<PortObjects>> = Vec::new(alloc);
+        let mut calls: Vec<PortCall> = Vec::new(alloc);
         for _ in 0..size {
             calls.push(Call::Read(5))?;
         }
         calls.push(Call::Enqueue(bytes.clone()?))?;
-        calls.push(Call::Restore(Three::with_writer(object, object, object)))?;
+        calls.push(Call::Restore(object, object, object))?;
         let mut serial = port(alloc, &log)?;
-        assert!(rt; serial.run(alloc, calls)?.len() == size + 2);
+        assert!(rt; run(alloc, &mut serial, calls)?.len() == size + 2);
         assert!(rt; read_back(alloc, object, object, &bytes)?.len() == size.min(64));
         let reads = restored_reads_same(alloc, &mut serial, object, object, object, 0);
         assert!(rt; reads.is_ok());

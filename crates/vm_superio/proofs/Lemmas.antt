@@ -1,5 +1,6 @@
 -- Lemmas on the bits of LSR, and on the output of a writer.
 pub mod Examples
+pub mod ObjectExample
 pub mod Rtc
 pub mod Serial
 use Rattle.std.proofs.Common.{◌≡◌, ◌≢◌, lit<, ℕ, ◌<◌, Bool, true, false, ◌==◌, refl, sym, ap, ◌∙◌, arith, List, [], ◌∷◌, ◌++◌, Option, subst, append_assoc, append-nil, bit_and, IsTrue, not, Ok, Err, mod-lt}

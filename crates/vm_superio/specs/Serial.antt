@@ -39,12 +39,13 @@ pub record OnePort (O : Type 0) : Type 0 where
   pub state : State
   pub objects : O
 
+-- three objects as one
+abbrev pub as_one : {T EV W : Type 0} → (trigger : T) (events : EV) (out : W) → Three T EV (WriterOut W)
+as_one trigger events out = record { trigger = trigger; events = events; out = record { writer = out } }
+
 -- the port over its three objects as one
 abbrev pub one_port : {T EV W : Type 0} → (port : Port T EV W) → OnePort (Three T EV (WriterOut W))
-one_port port = record {
-  state = port.state;
-  objects = record { trigger = port.trigger; events = port.events; out = record { writer = port.out } };
-}
+one_port port = record { state = port.state; objects = as_one port.trigger port.events port.out }
 
 -- what a write or an enqueue returns, as a response, and the refusal in it. Neither takes memory
 abbrev pub failure_response : {E : Type 0} → (error : Error E) → Response

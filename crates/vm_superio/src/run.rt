@@ -1,21 +1,21 @@
-//! Runs: a list of calls to a serial port, with a record of each. [`Serial::run`](crate::Serial::run) and
-//! [`Port::run`] make them.
+//! Runs: a list of calls to a serial port as one call, with a record of each.
 ghost use Rattle.std.specs.Prelude.{◌≡◌, IfOk, OnErr};
 ghost use Rattle.superio_core.specs.Serial.{Coherent};
-ghost use Rattle.vm_superio.specs.Serial.Step.ObjectStep.{IsCallStep, IsRun};
 ghost use Rattle.vm_superio.specs.Serial.Run.{act_of};
+ghost use Rattle.vm_superio.specs.Serial.Run.Steps.{IsCallStep, IsRun};
 ghost use Rattle.vm_superio.specs.Serial.Run.HistoryTheorem.{HistoryTheorem};
 
-use crate::serial::{Error, Objects, Port, RefusedObject};
+use crate::Trigger;
+use crate::serial::{Error, Refused, Serial, SerialEvents};
 use std::alloc::{AllocError, Global};
 use std::collections::VecDeque;
+use std::io::Write;
 use std::mem;
 pub use superio_core::serial::{Asked, Sent};
 
-/// A call to a serial port, with the object of a restore. A [`Serial`](crate::Serial) has its three objects in one, by
-/// [`Three::with_writer`](crate::serial::Three::with_writer).
+/// A call to a serial port, with the objects of a restore.
 #[derive(Clone, Debug, Drop, Eq, PartialEq)]
-pub enum Call<O> {
+pub enum Call<T, EV, W> {
     /// `read` at this offset.
     Read(u8),
     /// `write` at this offset, of this value.
@@ -24,11 +24,11 @@ pub enum Call<O> {
     Enqueue(Vec<u8>),
     /// `character_timeout`.
     CharacterTimeout,
-    /// Recreates the port from its own state, with this object.
-    Restore(O),
+    /// Recreates the port from its own state, with this trigger, events object and writer.
+    Restore(T, EV, W),
 }
 
-/// A call without its object.
+/// A call without its objects.
 #[derive(Clone, Debug, Drop, Eq, PartialEq)]
 pub enum Act {
     /// `read` at this offset.
@@ -45,28 +45,24 @@ pub enum Act {
 
 /// What a call returned. Match on it: an `io::Error` cannot be compared.
 #[derive(Drop)]
-#[derive_where(Clone; O, O::E)]
-#[derive_where(Debug; O)]
-pub enum Reply<O: Objects> {
+pub enum Reply<T: Trigger, EV: SerialEvents, W: Write> {
     /// The byte that was read.
     Byte(u8),
     /// What `write` returned.
-    Wrote(Result<(), Error<O::E>>),
+    Wrote(Result<(), Error<T::E>>),
     /// What `enqueue_raw_bytes` returned.
-    Enqueued(Result<usize, Error<O::E>>),
+    Enqueued(Result<usize, Error<T::E>>),
     /// What `character_timeout` returned.
-    TimedOut(Result<(), Error<O::E>>),
-    /// The port was recreated: the object that it had until then.
-    Restored(O),
-    /// The port stayed: why, and the object of the restore.
-    NotRestored(RefusedObject<O>),
+    TimedOut(Result<(), Error<T::E>>),
+    /// The port was recreated: the old port, with its own objects.
+    Restored(Serial<T, EV, W>),
+    /// The port stayed: why, and the objects of the restore.
+    NotRestored(Refused<T, EV, W>),
 }
 
 /// The record of a call.
 #[derive(Drop)]
-#[derive_where(Clone; O, O::E)]
-#[derive_where(Debug; O)]
-pub struct Done<O: Objects> {
+pub struct Done<T: Trigger, EV: SerialEvents, W: Write> {
     /// The call.
     pub act: Act,
     /// The trigger's answers to the port's own calls; `Nothing` for a restore.
@@ -74,46 +70,51 @@ pub struct Done<O: Objects> {
     /// The outcome of the byte that it sent.
     pub sent: Sent,
     /// What it returned.
-    pub reply: Reply<O>,
+    pub reply: Reply<T, EV, W>,
 }
 
-impl<O: Objects> Port<O> {
-    /// Makes the calls in order, and returns a record of each.
-    ///
-    /// Nothing stops a run early: a refused interrupt, a failure of the output or a refused restore is recorded with
-    /// its call, and the run goes on. A restore makes the port again from its own state, with another object in place
-    /// of its own. If it is refused, the old object stays.
-    ///
-    /// From a coherent start the records are a trace: the start, the calls and the object's answers determine all calls
-    /// of the object, in order, each byte read, every other response and the final state.
-    ///
-    /// # Errors
-    ///
-    /// Returns `AllocError` if allocating all records fails. It then makes no call and drops the calls.
-    pub fn run(&mut self, alloc: Global, calls: Vec<Call<O>>) -> Result<Vec<Done<O>>, AllocError>
-    where
-        O: Drop,
-        ensures run { IfOk result (λ done. IsRun O.link self.old calls.items done.items self.new) }
-        ensures history { IfOk result (λ done. Coherent self.old.state →
-            HistoryTheorem O.link self.old calls.items done.items self.new) }
-        ensures refused { OnErr result (self.new ≡ self.old) }
-    {
-        let mut done = Vec::with_capacity(alloc, calls.len())?;
-        let mut calls = VecDeque::from_vec(calls);
-        while let Some(call) = calls.pop_front() {
-            done.push_reserved(self.make(alloc, call));
-        }
-        Ok(done)
+/// Makes the calls in order, and returns a record of each.
+///
+/// Nothing stops a run early: a refusal of the trigger, a failure of the writer or a refused restore is recorded with
+/// its call, and the run goes on. A restore makes a port from the port's state and other objects, and replaces the old
+/// port with it. If it is refused, the old port stays.
+///
+/// From a coherent start the records are a trace: the start, the earlier calls and the trigger's answers determine each
+/// byte read. They also determine the final state and, given the outcome of the byte that a call sent, every other
+/// response.
+///
+/// # Errors
+///
+/// Returns `AllocError` if allocating all records fails. It then makes no call and drops the calls.
+pub fn run<T: Trigger + Drop, EV: SerialEvents + Drop, W: Write + Drop>(
+    alloc: Global,
+    serial: &mut Serial<T, EV, W>,
+    calls: Vec<Call<T, EV, W>>,
+) -> Result<Vec<Done<T, EV, W>>, AllocError>
+    ensures run { IfOk result (λ done.
+        IsRun T.link EV.link W.contents serial.old calls.items done.items serial.new) }
+    ensures history { IfOk result (λ done. Coherent serial.old.state →
+        HistoryTheorem T.link EV.link W.contents serial.old calls.items done.items serial.new) }
+    ensures refused { OnErr result (serial.new ≡ serial.old) }
+{
+    let mut done = Vec::with_capacity(alloc, calls.len())?;
+    let mut calls = VecDeque::from_vec(calls);
+    while let Some(call) = calls.pop_front() {
+        done.push_reserved(serial.make(alloc, call));
     }
+    Ok(done)
+}
 
+impl<T: Trigger, EV: SerialEvents, W: Write> Serial<T, EV, W> {
     /// Makes one call.
-    fn make(&mut self, alloc: Global, call: Call<O>) -> Done<O>
+    fn make(&mut self, alloc: Global, call: Call<T, EV, W>) -> Done<T, EV, W>
         ensures act { result.act ≡ act_of call }
-        ensures made { IsCallStep O.link call result.asked result.sent result.reply self.old self.new }
+        ensures made { IsCallStep T.link EV.link W.contents call result.asked result.sent result.reply
+            self.old self.new }
     {
         match call {
             Call::Read(offset) => {
-                let made = self.recorded_read(offset);
+                let made = self.port.recorded_read(offset);
                 record(
                     Act::Read(offset),
                     made.asked,
@@ -122,7 +123,7 @@ impl<O: Objects> Port<O> {
                 )
             }
             Call::Write(offset, value) => {
-                let made = self.recorded_write(offset, value);
+                let made = self.port.recorded_write(offset, value);
                 record(
                     Act::Write(offset, value),
                     made.asked,
@@ -131,7 +132,7 @@ impl<O: Objects> Port<O> {
                 )
             }
             Call::Enqueue(bytes) => {
-                let made = self.recorded_enqueue(&bytes);
+                let made = self.port.recorded_enqueue(&bytes);
                 record(
                     Act::Enqueue(bytes),
                     made.asked,
@@ -140,7 +141,7 @@ impl<O: Objects> Port<O> {
                 )
             }
             Call::CharacterTimeout => {
-                let made = self.recorded_timeout();
+                let made = self.port.recorded_timeout();
                 record(
                     Act::CharacterTimeout,
                     made.asked,
@@ -148,32 +149,40 @@ impl<O: Objects> Port<O> {
                     Reply::TimedOut(made.reply),
                 )
             }
-            Call::Restore(other) => {
-                let reply = self.restore(alloc, other);
+            Call::Restore(trigger, events, out) => {
+                let reply = self.restore(alloc, trigger, events, out);
                 record(Act::Restore, Asked::Nothing, Sent::Nothing, reply)
             }
         }
     }
 
-    /// Recreates the port from its own state, with another object in place of its own.
-    fn restore(&mut self, alloc: Global, other: O) -> Reply<O>
-        ensures { IsCallStep O.link (Call.Restore other) Asked.Nothing Sent.Nothing result self.old self.new }
+    /// Recreates the port from its own state, with these objects.
+    fn restore(&mut self, alloc: Global, trigger: T, events: EV, out: W) -> Reply<T, EV, W>
+        ensures { IsCallStep T.link EV.link W.contents (Call.Restore trigger events out) Asked.Nothing Sent.Nothing
+            result self.old self.new }
     {
         let Ok(state) = self.state(alloc) else {
-            return Reply::NotRestored(RefusedObject {
+            return Reply::NotRestored(Refused {
                 error: Error::Memory,
-                objects: other,
+                trigger,
+                events,
+                out,
             });
         };
-        match Self::from_state(alloc, &state, other) {
-            Ok(port) => Reply::Restored(mem::replace(self, port).into_objects()),
+        match Self::from_state(alloc, &state, trigger, events, out) {
+            Ok(port) => Reply::Restored(mem::replace(self, port)),
             Err(refused) => Reply::NotRestored(refused),
         }
     }
 }
 
 /// The record of a call.
-fn record<O: Objects>(act: Act, asked: Asked, sent: Sent, reply: Reply<O>) -> Done<O>
+fn record<T: Trigger, EV: SerialEvents, W: Write>(
+    act: Act,
+    asked: Asked,
+    sent: Sent,
+    reply: Reply<T, EV, W>,
+) -> Done<T, EV, W>
     ensures act { result.act ≡ act }
     ensures asked { result.asked ≡ asked }
     ensures sent { result.sent ≡ sent }

@@ -11,7 +11,6 @@ mod port;
 pub mod saved_form;
 
 use crate::Trigger;
-use crate::run::{Call, Done};
 pub use errors::{Error, Refused};
 pub use objects::{NoEvents, Objects, SerialEvents, SerialOut, Three, WriterOut};
 use port::reassert;
@@ -30,7 +29,7 @@ pub use superio_core::serial::{EnqueueEffects, ReadEffects, RxRing, SerialPort, 
 /// Contracts see the port as its state and the three objects that it owns.
 #[derive(Drop)]
 pub struct Serial<T: Trigger, EV: SerialEvents, W: Write> {
-    port: Port<Three<T, EV, WriterOut<W>>>,
+    pub(crate) port: Port<Three<T, EV, WriterOut<W>>>,
 }
 
 impl<T: Trigger, EV: SerialEvents, W: Write> Model for Serial<T, EV, W> {
@@ -77,14 +76,11 @@ impl<T: Trigger, W: Write> Serial<T, NoEvents, W> {
 impl<T: Trigger, EV: SerialEvents, W: Write> Serial<T, EV, W> {
     ghost use Rattle.std.specs.Borrow.{Lends, sem};
     ghost use Rattle.vm_superio.specs.contracts.serial.Serial.{the_row};
-    ghost use Rattle.vm_superio.specs.Links.Three.{ThreeLink};
-    ghost use Rattle.vm_superio.specs.Links.Writer.{taken_calls, WriterLink};
+    ghost use Rattle.vm_superio.specs.Links.Writer.{taken_calls};
     ghost use Rattle.vm_superio.specs.Serial.{Other, Read, SameSettings, ShowsHeldBytes, Write, enqueued_bytes, is_dlab, kind_in_state, sends_byte, sent_by};
-    ghost use Rattle.vm_superio.specs.Serial.Run.Three.{ThreeHistory};
     ghost use Rattle.vm_superio.specs.Serial.Step.{with_trigger, with_events, with_writer};
     ghost use Rattle.vm_superio.specs.Serial.Step.{IsReadStep, IsWriteStep, IsEnqueueStep, IsTimeoutStep, IsRetryStep};
     ghost use Rattle.vm_superio.specs.Serial.Step.{WriteFate, EnqueueFate, TimeoutFate};
-    ghost use Rattle.vm_superio.specs.Serial.Step.ObjectStep.{one_port, IsRun};
 
     /// Makes a serial port as `new` does, but reports events to `serial_evts`. Calls neither the trigger nor the events
     /// object.
@@ -389,36 +385,5 @@ impl<T: Trigger, EV: SerialEvents, W: Write> Serial<T, EV, W> {
         ensures coherent { Coherent self.old.state → Coherent self.new.state }
     {
         self.port.recorded_timeout().reply
-    }
-
-    /// Makes the calls in order, and returns a record of each.
-    ///
-    /// Nothing stops a run early: a refusal of the trigger, a failure of the writer or a refused restore is recorded
-    /// with its call, and the run goes on. A restore makes the port again from its own state, with other objects in
-    /// place of its own. If it is refused, the old objects stay.
-    ///
-    /// From a coherent start the records are a trace: the start, the earlier calls and the trigger's answers determine
-    /// each byte read. They also determine the final state and, given the outcome of the byte that a call sent, every
-    /// other response.
-    ///
-    /// # Errors
-    ///
-    /// Returns `AllocError` if allocating all records fails. It then makes no call and drops the calls.
-    pub fn run(
-        &mut self,
-        alloc: Global,
-        calls: Vec<Call<Three<T, EV, WriterOut<W>>>>,
-    ) -> Result<Vec<Done<Three<T, EV, WriterOut<W>>>>, AllocError>
-    where
-        T: Drop,
-        EV: Drop,
-        W: Drop,
-        ensures run { IfOk result (λ done. IsRun (ThreeLink T.link EV.link (WriterLink W.contents))
-            (one_port self.old) calls.items done.items (one_port self.new)) }
-        ensures history { IfOk result (λ done. Coherent self.old.state →
-            ThreeHistory T.link EV.link W.contents self.old calls.items done.items self.new) }
-        ensures refused { OnErr result (self.new ≡ self.old) }
-    {
-        self.port.run(alloc, calls)
     }
 }

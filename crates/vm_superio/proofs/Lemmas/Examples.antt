@@ -23,7 +23,7 @@ five_told_with_two_reads law start end calls coherent follow one taken =
 
 -- ---- the calls by which the reads of a run are determined
 
-no_restore_is_left : {O E : Type 0} (done : Done O E) → done.act ≡ Act.Restore → without_restores (done ∷ []) ≡ []
+no_restore_is_left : {T E EV W : Type 0} (done : Done T EV W E) → done.act ≡ Act.Restore → without_restores (done ∷ []) ≡ []
 no_restore_is_left done restored = simp (restored)
 
 -- ---- what waiting bytes, drivers and the line are said of

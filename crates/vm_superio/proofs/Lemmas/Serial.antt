@@ -54,7 +54,7 @@ module _ {E : Type 0} where
   out_in_order [] (event ∷ events) answers = out_in_order [] events answers
   out_in_order (call ∷ sending) events answers = ap (λ rest. call ∷ rest) (out_in_order sending events answers)
 
-  events_in_order : (sending : List OutCall) (events : List Event) (answers : List (TriggerAnswer E)) → events_in (in_order sending events answers) ≡ events
+  pub events_in_order : (sending : List OutCall) (events : List Event) (answers : List (TriggerAnswer E)) → events_in (in_order sending events answers) ≡ events
   events_in_order [] [] [] = refl
   events_in_order [] [] (answer ∷ answers) = events_in_order [] [] answers
   events_in_order [] (event ∷ events) answers = ap (λ rest. event ∷ rest) (events_in_order [] events answers)

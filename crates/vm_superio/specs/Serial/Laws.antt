@@ -1,6 +1,7 @@
 -- The laws by which steps and history agree: after any trace, both describe the same port.
 pub mod Consequences
 pub mod Line
+pub mod ObjectRun
 pub mod OneCall
 pub mod PortRun
 use Rattle.std.specs.Prelude.{◌≡◌, Bool, List, [], ◌∷◌, IsTrue}

@@ -1,6 +1,7 @@
 -- The records of a run as a trace.
 pub mod HistoryTheorem
-pub mod Three
+pub mod Segments
+pub mod Steps
 use Rattle.std.specs.Prelude.{◌≡◌, ⊤, List, [], ◌∷◌, Bool, true, false, not, Option, None, filter}
 use Rattle.std.specs.declared.io.Error as io
 pub use Rattle.vm_superio.specs.declared.run.Act.{Act}
@@ -22,22 +23,22 @@ abbrev pub is_restore : (act : Act) → Bool
 is_restore Act.Restore = true
 is_restore _ = false
 
--- the call without its object
-abbrev pub act_of : {O : Type 0} → (call : Call O) → Act
+-- the call without its objects
+abbrev pub act_of : {T EV W : Type 0} → (call : Call T EV W) → Act
 act_of (Call.Read offset) = Act.Read offset
 act_of (Call.Write offset value) = Act.Write offset value
 act_of (Call.Enqueue bytes) = Act.Enqueue bytes
 act_of Call.CharacterTimeout = Act.CharacterTimeout
-act_of (Call.Restore objects) = Act.Restore
+act_of (Call.Restore trigger events out) = Act.Restore
 
 -- the trace with further entries, oldest first, each with its response
 abbrev pub trace_after : (trace : Trace) (later : List (TraceEntry × Response)) → Trace
 trace_after trace [] = trace
 trace_after trace (next ∷ later) = trace_after (next.0 ∷ trace) later
 
-module _ {O E : Type 0} where
+module _ {T E EV W : Type 0} where
   -- a reply is of the kind that belongs to the act
-  abbrev pub IsReplyTo : (act : Act) (reply : Reply O E) → Type 0
+  abbrev pub IsReplyTo : (act : Act) (reply : Reply T EV W E) → Type 0
   IsReplyTo (Act.Read offset) (Byte byte) = ⊤
   IsReplyTo (Act.Write offset value) (Wrote answer) = ⊤
   IsReplyTo (Act.Enqueue bytes) (Enqueued answer) = ⊤
@@ -47,54 +48,54 @@ module _ {O E : Type 0} where
   IsReplyTo _ _ = ⊥
 
   -- there is one record for each call, in order
-  abbrev pub RecordsOf : (calls : List (Call O)) (records : List (Done O E)) → Type 0
+  abbrev pub RecordsOf : (calls : List (Call T EV W)) (records : List (Done T EV W E)) → Type 0
   RecordsOf [] [] = ⊤
   RecordsOf (call ∷ calls) (done ∷ later) =
       (done.act ≡ act_of call) × IsReplyTo (act_of call) done.reply × RecordsOf calls later
   RecordsOf _ _ = ⊥
 
-  abbrev pub entry_of : (done : Done O E) → TraceEntry
+  abbrev pub entry_of : (done : Done T EV W E) → TraceEntry
   entry_of done = record { op = op_of done.act; asked = done.asked; sent = done.sent }
 
-  abbrev pub response_of : (reply : Reply O E) → Response
+  abbrev pub response_of : (reply : Reply T EV W E) → Response
   response_of (Byte byte) = ByteRead byte
   response_of (Wrote answer) = write_response answer
   response_of (Enqueued answer) = enqueue_response answer
   response_of (TimedOut answer) = timeout_response answer
   response_of _ = NoResponse
 
-  -- the refusal of an interrupt that a reply carries, of the port's own objects
-  abbrev pub refusal_in_reply : (reply : Reply O E) → Option E
+  -- the refusal of an interrupt that a reply carries, of the port's own trigger
+  abbrev pub refusal_in_reply : (reply : Reply T EV W E) → Option E
   refusal_in_reply (Wrote answer) = refusal_in_result answer
   refusal_in_reply (Enqueued answer) = refusal_in_result answer
   refusal_in_reply (TimedOut answer) = refusal_in_result answer
   refusal_in_reply _ = None
 
-  -- and the fault of the output
-  abbrev pub fault_in_reply : (reply : Reply O E) → Option io.Error
+  -- and the fault of the writer
+  abbrev pub fault_in_reply : (reply : Reply T EV W E) → Option io.Error
   fault_in_reply (Wrote answer) = fault_in_result answer
   fault_in_reply _ = None
 
-  abbrev pub entries_of : (records : List (Done O E)) → List (TraceEntry × Response)
+  abbrev pub entries_of : (records : List (Done T EV W E)) → List (TraceEntry × Response)
   entries_of [] = []
   entries_of (done ∷ later) = (entry_of done, response_of done.reply) ∷ entries_of later
 
   -- the trace at the end of a run
-  abbrev pub trace_of : (records : List (Done O E)) → Trace
+  abbrev pub trace_of : (records : List (Done T EV W E)) → Trace
   trace_of records = trace_after [] (entries_of records)
 
-  abbrev pub without_restores : (records : List (Done O E)) → List (Done O E)
-  without_restores records = filter (λ (done : Done O E). not (is_restore done.act)) records
+  abbrev pub without_restores : (records : List (Done T EV W E)) → List (Done T EV W E)
+  without_restores records = filter (λ (done : Done T EV W E). not (is_restore done.act)) records
 
 -- ---- what a guest reads over a run from a coherent start, by the history alone
 
-module _ {O E : Type 0} where
+module _ {T E EV W : Type 0} where
   -- the reply to each read is the guest read at its point of the trace
-  abbrev pub ReadIs : (start : State) (trace : Trace) (act : Act) (reply : Reply O E) → Type 0
+  abbrev pub ReadIs : (start : State) (trace : Trace) (act : Act) (reply : Reply T EV W E) → Type 0
   ReadIs start trace (Act.Read offset) reply = reply ≡ Byte (guest_read start trace offset)
   ReadIs start trace _ reply = ⊤
 
-  abbrev pub ReadsAre : (start : State) (trace : Trace) (records : List (Done O E)) → Type 0
+  abbrev pub ReadsAre : (start : State) (trace : Trace) (records : List (Done T EV W E)) → Type 0
   ReadsAre start trace [] = ⊤
   ReadsAre start trace (done ∷ later) =
       ReadIs start trace done.act done.reply × ReadsAre start (entry_of done ∷ trace) later
