@@ -6,6 +6,7 @@
 ghost use Rattle.vm_superio.specs.Serial.Laws.{RegisterLaw, HeldBytesLaw, LineStatusLaw, InterruptLaw, CoherenceLaw, StateLaw, ResponseLaw, StepLaw, CallLaw, RetryLaw, WholeRunLaw};
 ghost use Rattle.vm_superio.specs.Serial.Laws.Consequences.{PendingByPrefixesLaw, TriggerBoundLaw, WaitingBytesLaw, SameReadsLaw, TakenThenHeldLaw, ReadsAreTakenLaw, ReadThenHeldLaw, OutputLaw, PollingDriverLaw, DriverGetsAllLaw, PollsAfterDataReadyLaw};
 ghost use Rattle.vm_superio.specs.Serial.Laws.Line.{NoByteWaitsLaw, TimeoutCallsLaw, TimeoutsShowLaw, OwedAfterRunLaw, TakenAfterRunsLaw, LineAfterLaw, UpAfterCallLaw, GoesUpLaw, StaysUpLaw, LineOfHistoryLaw};
+ghost use Rattle.vm_superio.specs.Serial.Laws.Transmit.{StaysPendingLaw, IerWriteAsksLaw, ThrWriteAsksLaw, CalledSinceLaw, AskedAgainLaw, SentAfterRunsLaw, HandledLaw, HandledIsRunLaw};
 ghost use Rattle.vm_superio.specs.Links.Writer.{KnownOutputLaw};
 ghost use Rattle.vm_superio.specs.Rtc.{ClockIsHistory, RawBitsByHistory, AlarmDueByHistory, SetTimeLaw};
 ghost use Rattle.vm_superio.specs.Serial.Laws.PortRun.{PortRunLaw, PortOutputLaw, PortBoundLaw};
@@ -144,6 +145,31 @@ pub fn no_byte_waits()
 pub fn interrupt_driver()
     ensures owed { OwedAfterRunLaw }
     ensures taken { TakenAfterRunsLaw }
+{}
+
+/// From any start, an IER write that enables THRE, and each THR write outside loopback while IER enables it, leave THRE
+/// pending until IIR is read. If it was not pending, the trigger is called once. What is pending after a read of IIR
+/// has had its trigger call since.
+#[tactic(auto, using(crate::proofs::Lemmas::Serial::Laws::Transmit::asks_for_more_laws))]
+pub fn asks_for_more()
+    ensures pending { StaysPendingLaw }
+    ensures ier_write { IerWriteAsksLaw }
+    ensures thr_write { ThrWriteAsksLaw }
+    ensures called { CalledSinceLaw }
+{}
+
+/// From any start, for any driver that at each interrupt sends at least one of the bytes that it has left, one of them
+/// after its last read of IIR: the interrupt is asked for again as long as it has bytes left, and the byte with i bytes
+/// before it is sent within i + 1 runs, whatever is received and whatever timeouts are made meanwhile. A handler that
+/// goes on until IIR shows nothing pending, as Linux's does, sends all its bytes in one run. It also leaves no received
+/// byte, unless its last turn took as many as it takes in one; those wait for a character timeout. Such a run is one of
+/// which [`interrupt_driver`] speaks.
+#[tactic(auto, using(crate::proofs::Lemmas::Serial::Laws::Transmit::transmit_laws))]
+pub fn sending_driver()
+    ensures asked_again { AskedAgainLaw }
+    ensures sent { SentAfterRunsLaw }
+    ensures handled { HandledLaw }
+    ensures run { HandledIsRunLaw }
 {}
 
 /// One call in any state, and the level of the interrupt line. A call that calls the trigger, which may refuse, leaves

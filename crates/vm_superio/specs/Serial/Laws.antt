@@ -4,6 +4,7 @@ pub mod Line
 pub mod ObjectRun
 pub mod OneCall
 pub mod PortRun
+pub mod Transmit
 use Rattle.std.specs.Prelude.{◌≡◌, Bool, List, [], ◌∷◌, IsTrue}
 use Rattle.vm_superio.specs.Serial.{Asked, Sent, Op, Restore, TraceEntry, Response, NoResponse, Trace, sent_by, has_bits, lsr_dr_bit, State, not_empty, identification_of, Coherent, step, step_response, step_events, step_calls, is_admissible, restore_calls}
 use Rattle.vm_superio.specs.Links.Writer.{bytes_sent}

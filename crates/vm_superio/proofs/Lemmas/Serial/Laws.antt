@@ -6,6 +6,7 @@ pub mod ObjectRun
 pub mod OneCall
 pub mod Reads
 pub mod StepsOfHistory
+pub mod Transmit
 use Rattle.std.proofs.Common.{rules, ◌≡◌, ℕ, Bool, List, [], ◌∷◌, Option, None, refl, ap, sym, ◌∙◌, arith, subst, ◌++◌, length, drop, append_assoc, append-nil, length-append, if◌then◌else◌, unwrap_or}
 use Rattle.std.specs.Option.{option_map_or}
 use Rattle.std.proofs.Math.Seq.{drop-append-add}

@@ -20,7 +20,7 @@ nothing_there [] before x e = cc
 nothing_there (y ∷ after) before x e = cc
 
 -- one more entry that does not acknowledge
-none_more : (start : State) (acknowledges : OpKind → Bool) (newest trace : List TraceEntry) (entry : TraceEntry)
+pub none_more : (start : State) (acknowledges : OpKind → Bool) (newest trace : List TraceEntry) (entry : TraceEntry)
     → IsFalse (acknowledges (kind_at start (newest ++ trace) entry.op)) → NoneAcknowledges start acknowledges newest trace
     → NoneAcknowledges start acknowledges (entry ∷ newest) trace
 none_more start acknowledges newest trace entry not_here none [] before x e =

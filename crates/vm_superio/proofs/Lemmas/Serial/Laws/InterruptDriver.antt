@@ -58,7 +58,7 @@ pub ruleset no_byte_waits_laws = (no_byte_waits_law, timeout_calls_law)
 -- ---- a driver that is run by interrupts takes all bytes
 
 -- an IIR read leaves RDA not pending
-idle : (start : State) (last : TraceEntry) (trace : Trace) → kind_at start trace last.op ≡ IirRead
+pub idle : (start : State) (last : TraceEntry) (trace : Trace) → kind_at start trace last.op ≡ IirRead
     → is_pending Rda start (last ∷ trace) ≡ false
 idle start last trace reads =
     ap (λ (kind : OpKind). raises_rda kind (held_bytes start trace) (interrupt_enable start trace)
@@ -71,14 +71,14 @@ owed_after_run_law start before run asked is some enabled =
 
 -- ---- later entries only add to the bytes taken and accepted
 
-abbrev Begins : (bytes all : List ℕ) → Type 0
+abbrev pub Begins : (bytes all : List ℕ) → Type 0
 Begins bytes all = (more : List ℕ) × (all ≡ bytes ++ more)
 
 begins_then : (bytes middle all : List ℕ) → Begins bytes middle → Begins middle all → Begins bytes all
 begins_then bytes middle all (one, first) (two, second) =
     (one ++ two, second ∙ ap (λ list. list ++ two) first ∙ append_assoc bytes one two)
 
-taken_grows : (start : State) (run before : Trace) → Begins (taken_bytes start before) (taken_bytes start (run ++ before))
+pub taken_grows : (start : State) (run before : Trace) → Begins (taken_bytes start before) (taken_bytes start (run ++ before))
 taken_grows start [] before = ([], sym (append-nil _))
 taken_grows start (entry ∷ run) before =
     begins_then (taken_bytes start before) (taken_bytes start (run ++ before)) (taken_bytes start (entry ∷ run ++ before)) (taken_grows start run before) (_, refl)
@@ -91,16 +91,16 @@ accepted_grows start (entry ∷ run) before =
 -- ---- how many bytes are taken
 
 -- all bytes: those at the start, then those accepted
-abbrev all_bytes : (start : State) (trace : Trace) → List ℕ
+abbrev pub all_bytes : (start : State) (trace : Trace) → List ℕ
 all_bytes start trace = start.in_buffer ++ accepted_bytes start trace
 
 some_held : (held : List ℕ) → 0 < length held → IsTrue (not_empty held)
 some_held held none = grind arith
 
-longer : (bytes all : List ℕ) → Begins bytes all → length bytes ≤ length all
+pub longer : (bytes all : List ℕ) → Begins bytes all → length bytes ≤ length all
 longer bytes all (more, is) = omega (arith, ap length is, length-append bytes more)
 
-all_grow : (start : State) (run before : Trace) → length (all_bytes start before) ≤ length (all_bytes start (run ++ before))
+pub all_grow : (start : State) (run before : Trace) → length (all_bytes start before) ≤ length (all_bytes start (run ++ before))
 all_grow start run before =
     omega (
       arith,
@@ -109,7 +109,7 @@ all_grow start run before =
       length-append start.in_buffer (accepted_bytes start (run ++ before)),
     )
 
-counted : (start : State) (trace : Trace)
+pub counted : (start : State) (trace : Trace)
     → length (taken_bytes start trace) + length (held_bytes start trace) ≡ length (all_bytes start trace)
 counted start trace = sym (length-append (taken_bytes start trace) (held_bytes start trace)) ∙ ap length (taken_then_held start trace)
 
