@@ -2,7 +2,7 @@
 use Rattle.std.specs.Prelude.{◌≡◌, ℕ, ◌+◌, ◌-◌, ◌%◌, Bool, ◌&&◌, ◌||◌, ◌==◌, nat_le, nat_lt, if◌then◌else◌, List, [], ◌∷◌, Option, Some, None, Result, Ok, Err}
 use Rattle.std.specs.Result.{result_and}
 use Rattle.std.specs.Bool.{OnTrue, OnFalse}
-use Rattle.vm_superio.specs.Links.{Link, TriggerAnswer, OutCall}
+use Rattle.vm_superio.specs.Links.{Link, TriggerAnswer, Contents}
 use Rattle.vm_superio.specs.Serial.{Port, Event}
 use Rattle.vm_superio.specs.Serial.Step.{IsReadStep, IsWriteStep}
 use Rattle.superio_examples.specs.declared.bus.Bus.{Bus}
@@ -36,12 +36,12 @@ is_width length = (length == 1) || (length == 2) || (length == 4)
 abbrev pub next_port : (port : ℕ) → ℕ
 next_port port = (port + 1) % 0x10000
 
-module _ {T E EV W R F : Type 0} (trigger : Link T (TriggerAnswer E)) (events : Link EV Event) (out : Link W OutCall)
+module _ {T E EV W R F : Type 0} (trigger : Link T (TriggerAnswer E)) (events : Link EV Event) (contents : Contents W)
     (reset : Link R (TriggerAnswer F)) where
   -- a byte is read: by the serial port, or without a change
   abbrev pub ReadsAt : (offset : Option ℕ) (port byte : ℕ) (old new : Bus T EV W R E F) → Type 0
   ReadsAt (Some offset) port byte old new =
-      IsReadStep trigger events out offset byte old.serial new.serial × (new ≡ record old { serial = new.serial })
+      IsReadStep trigger events contents offset byte old.serial new.serial × (new ≡ record old { serial = new.serial })
   ReadsAt None port byte old new = (byte ≡ other_byte old.keyboard port) × (new ≡ old)
 
   abbrev pub ReadsByte : (port byte : ℕ) (old new : Bus T EV W R E F) → Type 0
@@ -56,9 +56,9 @@ module _ {T E EV W R F : Type 0} (trigger : Link T (TriggerAnswer E)) (events : 
   -- the bus forwards a write to the serial port, and returns its result: an error is the serial port's
   abbrev pub ForwardsWrite :
       (offset value : ℕ) (result : Result (Unit {0}) (BusError E F)) (old new : Port T EV W) → Type 0
-  ForwardsWrite offset value (Ok done) old new = IsWriteStep trigger events out offset value (Ok tt) old new
+  ForwardsWrite offset value (Ok done) old new = IsWriteStep trigger events contents offset value (Ok tt) old new
   ForwardsWrite offset value (Err (Serial error)) old new =
-      IsWriteStep trigger events out offset value (Err error) old new
+      IsWriteStep trigger events contents offset value (Err error) old new
   ForwardsWrite offset value (Err (Reset refusal)) old new = ⊥
 
   -- the reset trigger is called once, and the bus returns its result: an error is the trigger's refusal

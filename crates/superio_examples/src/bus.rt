@@ -1,5 +1,4 @@
 //! A bus that forwards a guest's port I/O to a serial port and a reset controller, by port number.
-ghost use Rattle.vm_superio.specs.Links.{WriterCalls};
 ghost use Rattle.std.specs.Prelude.{◌≡◌, length, replicate};
 ghost use Rattle.std.specs.Bool.{OnTrue, OnFalse};
 ghost use Rattle.superio_core.specs.Serial.{Coherent};
@@ -62,7 +61,7 @@ impl<T: Trigger, EV: SerialEvents, W: Write, R: Trigger> Bus<T, EV, W, R> {
     /// Reads the byte at `port`, as a guest's `in` does. A port of neither device gives 0xFF, as on a PC. So does 0x61:
     /// Linux waits for its bit 0x20 when it measures the processor's clock.
     pub fn read(&mut self, port: u16) -> u8
-        ensures step { ReadsByte T.link EV.link (WriterCalls W.contents) R.link port result self.old self.new }
+        ensures step { ReadsByte T.link EV.link W.contents R.link port result self.old self.new }
         ensures coherent { Coherent self.old.serial.state → Coherent self.new.serial.state }
     {
         match (serial_offset(self.base, port), port, self.keyboard) {
@@ -83,7 +82,7 @@ impl<T: Trigger, EV: SerialEvents, W: Write, R: Trigger> Bus<T, EV, W, R> {
     /// write: it has taken effect on the registers. Returns [`BusError::Reset`] if the reset trigger refused the reset
     /// command: nobody was notified of the reset.
     pub fn write(&mut self, port: u16, value: u8) -> Result<(), BusError<T::E, R::E>>
-        ensures step { WritesByte T.link EV.link (WriterCalls W.contents) R.link port value result self.old self.new }
+        ensures step { WritesByte T.link EV.link W.contents R.link port value result self.old self.new }
         ensures coherent { Coherent self.old.serial.state → Coherent self.new.serial.state }
     {
         match (serial_offset(self.base, port), port) {
@@ -106,7 +105,7 @@ impl<T: Trigger, EV: SerialEvents, W: Write, R: Trigger> Bus<T, EV, W, R> {
     /// guest access has, gives 0xFF in each byte and changes nothing.
     pub fn port_in(&mut self, port: u16, bytes: &mut [u8])
         ensures bytes { OnTrue (is_width (length bytes.old))
-            (ReadsBytes T.link EV.link (WriterCalls W.contents) R.link port bytes.new self.old self.new) }
+            (ReadsBytes T.link EV.link W.contents R.link port bytes.new self.old self.new) }
         ensures other_lengths { OnFalse (is_width (length bytes.old)) (bytes.new ≡ replicate (length bytes.old) 0xFF) }
         ensures alone { OnFalse (is_width (length bytes.old)) (self.new ≡ self.old) }
         ensures coherent { Coherent self.old.serial.state → Coherent self.new.serial.state }
@@ -130,7 +129,7 @@ impl<T: Trigger, EV: SerialEvents, W: Write, R: Trigger> Bus<T, EV, W, R> {
     /// Returns the first error of a byte's `write`. The monitor can log it. The guest goes on.
     pub fn port_out(&mut self, port: u16, bytes: &[u8]) -> Result<(), BusError<T::E, R::E>>
         ensures bytes { OnTrue (is_width (length bytes.now))
-            (WritesBytes T.link EV.link (WriterCalls W.contents) R.link port bytes.now result self.old self.new) }
+            (WritesBytes T.link EV.link W.contents R.link port bytes.now result self.old self.new) }
         ensures other_lengths { OnFalse (is_width (length bytes.now)) (result ≡ Ok tt) }
         ensures alone { OnFalse (is_width (length bytes.now)) (self.new ≡ self.old) }
         ensures coherent { Coherent self.old.serial.state → Coherent self.new.serial.state }

@@ -2,7 +2,7 @@
 use Rattle.std.proofs.Common.{◌≡◌, ◌≢◌, lit<, ℕ, zero, suc, ◌+◌, ◌-◌, ◌<◌, ◌≤◌, Bool, true, false, ◌==◌, List, [], ◌∷◌, ◌++◌, length, refl, ap, sym, ◌∙◌, subst, arith, ◌↔◌, IsTrue, bit_and, drop, slice_index, if◌then◌else◌, ◌&&◌, mod-lt}
 use Rattle.std.proofs.lemmas.Bool.{false≢true}
 use Rattle.std.specs.Int.Bits.{and_mask}
-use Rattle.vm_superio.specs.Links.{Link, TriggerAnswer, OutCall}
+use Rattle.vm_superio.specs.Links.{Link, TriggerAnswer, Contents}
 use Rattle.vm_superio.specs.Serial.{Port, has_bits, without_bits, State, not_empty, Coherent, RbrThr, register_at, is_dlab, register_read, identification_of, Read, Response, ByteRead, Event, buffer_read, in_buffer_empty, rbr_read, read_step, step, read_events, Asked}
 use Rattle.vm_superio.specs.Serial.Step.{IsReadStep}
 use Rattle.vm_superio.specs.Serial.Laws.{CoherenceLaw}
@@ -31,7 +31,7 @@ abbrev byte_in : (response : Response) → ℕ
 byte_in (ByteRead byte) = byte
 byte_in _ = 0
 
-module _ {T E EV W : Type 0} (trigger : Link T (TriggerAnswer E)) (events : Link EV Event) (out : Link W OutCall) where
+module _ {T E EV W : Type 0} (trigger : Link T (TriggerAnswer E)) (events : Link EV Event) (contents : Contents W) where
   -- a read at offset 0 with DLAB clear
   pub record IsRbrRead (byte : ℕ) (old new : Port T EV W) : Type 0 where
     pub value : byte ≡ slice_index old.state.in_buffer 0
@@ -41,20 +41,20 @@ module _ {T E EV W : Type 0} (trigger : Link T (TriggerAnswer E)) (events : Link
   -- a read of LSR that shows data ready, and then one of RBR
   pub record IsPass (byte : ℕ) (old new : Port T EV W) : Type 0 where
     pub ready : IsReady old.state
-    pub made : IsReadStep trigger events out 0 byte old new
+    pub made : IsReadStep trigger events contents 0 byte old new
     pub hidden : is_dlab new.state.line_control ≡ false
     pub less : reads_left new.state + 1 ≡ reads_left old.state
 
-module _ {T E EV W : Type 0} {trigger : Link T (TriggerAnswer E)} {events : Link EV Event} {out : Link W OutCall} where
+module _ {T E EV W : Type 0} {trigger : Link T (TriggerAnswer E)} {events : Link EV Event} {contents : Contents W} where
   -- a read of LCR, and of LSR, gives its byte
-  pub lcr_read : {byte : ℕ} {old new : Port T EV W} → IsReadStep trigger events out 3 byte old new → byte ≡ old.state.line_control
+  pub lcr_read : {byte : ℕ} {old new : Port T EV W} → IsReadStep trigger events contents 3 byte old new → byte ≡ old.state.line_control
   lcr_read made = ap byte_in made.response
 
-  pub lsr_read : {byte : ℕ} {old new : Port T EV W} → IsReadStep trigger events out 5 byte old new → byte ≡ old.state.line_status
+  pub lsr_read : {byte : ℕ} {old new : Port T EV W} → IsReadStep trigger events contents 5 byte old new → byte ≡ old.state.line_status
   lsr_read made = ap byte_in made.response
 
   pub rbr_read-from_step : {byte : ℕ} {old new : Port T EV W} → is_dlab old.state.line_control ≡ false
-      → IsReadStep trigger events out 0 byte old new → IsRbrRead trigger events out byte old new
+      → IsReadStep trigger events contents 0 byte old new → IsRbrRead trigger events contents byte old new
   rbr_read-from_step {byte} {old} {new} hidden made = record {
     value = ap byte_in made.response ∙ ap (λ latch. register_read (register_at latch 0) old.state) hidden;
     state = made.state ∙ ap (λ latch. read_step (register_at latch 0) old.state) hidden;
@@ -63,12 +63,12 @@ module _ {T E EV W : Type 0} {trigger : Link T (TriggerAnswer E)} {events : Link
   }
 
   pub pass : {status byte : ℕ} {old seen new : Port T EV W} → RbrDataReadyLaw → is_dlab old.state.line_control ≡ false
-      → IsReadStep trigger events out 5 status old seen → seen ≡ old → has_bits status 0x01 ≡ true
-      → IsReadStep trigger events out 0 byte seen new → IsPass trigger events out byte old new
+      → IsReadStep trigger events contents 5 status old seen → seen ≡ old → has_bits status 0x01 ≡ true
+      → IsReadStep trigger events contents 0 byte seen new → IsPass trigger events contents byte old new
   pass {status} {byte} {old} {seen} {new} law hidden looked same shows read =
       let ready = ap (λ lsr. has_bits lsr 0x01) (sym (lsr_read looked)) ∙ shows in
-      let made : IsReadStep trigger events out 0 byte old new =
-      subst (λ (port : Port T EV W). IsReadStep trigger events out 0 byte port new) same read in
+      let made : IsReadStep trigger events contents 0 byte old new =
+      subst (λ (port : Port T EV W). IsReadStep trigger events contents 0 byte port new) same read in
       let state = (rbr_read-from_step hidden made).state in
       let left = ap (λ (s : State). s.in_buffer) state in
       let still = ap (λ (s : State). has_bits s.line_status 0x01) made.state ∙ law old.state hidden
@@ -84,9 +84,9 @@ module _ {T E EV W : Type 0} {trigger : Link T (TriggerAnswer E)} {events : Link
       }
 
 -- a driver reads what the steps say, if its reads end because LSR does not show data ready
-module _ {T E EV W : Type 0} (trigger : Link T (TriggerAnswer E)) (events : Link EV Event) (out : Link W OutCall) where
+module _ {T E EV W : Type 0} (trigger : Link T (TriggerAnswer E)) (events : Link EV Event) (contents : Contents W) where
   pub reads-are_stepped : (most : ℕ) (bytes : List ℕ) (old new : Port T EV W) → is_dlab old.state.line_control ≡ false
-      → ReadsWhileReady trigger events out bytes old new → has_bits new.state.line_status 0x01 ≡ false
+      → ReadsWhileReady trigger events contents bytes old new → has_bits new.state.line_status 0x01 ≡ false
       → length bytes ≤ most → bytes ≡ bytes_while_ready most old.state
   reads-are_stepped zero [] old new hidden same ended few = refl
   reads-are_stepped (suc most) [] old new hidden same ended few =
@@ -170,18 +170,18 @@ events-of_all : (left : List ℕ) →
 events-of_all left = grind arith
 
 module _
-    {T E EV W : Type 0} (trigger : Link T (TriggerAnswer E)) (events : Link EV Event) (out : Link W OutCall)
+    {T E EV W : Type 0} (trigger : Link T (TriggerAnswer E)) (events : Link EV Event) (contents : Contents W)
     (no_event : (x y : EV) → events x [] y ↔ (x ≡ y))
     (joined : (x y z : EV) (first second : List Event) → events x first y → events y second z → events x (first ++ second) z)
     (coherence : CoherenceLaw) where
   pub coherent_after : (bytes : List ℕ) (old new : Port T EV W) → Coherent old.state
-      → ReadsWhileReady trigger events out bytes old new → Coherent new.state
+      → ReadsWhileReady trigger events contents bytes old new → Coherent new.state
   coherent_after [] old new is same = subst (λ (port : Port T EV W). Coherent port.state) (sym same) is
   coherent_after (byte ∷ bytes) old new is (ready, (middle, made, later)) =
       coherent_after bytes middle new (subst Coherent (sym made.state) (coherence old.state (Read 0) Asked.Nothing is)) later
 
   pub takes_all : (bytes : List ℕ) (old new : Port T EV W) → Coherent old.state → is_dlab old.state.line_control ≡ false
-      → ReadsWhileReady trigger events out bytes old new → has_bits new.state.line_status 0x01 ≡ false
+      → ReadsWhileReady trigger events contents bytes old new → has_bits new.state.line_status 0x01 ≡ false
       → TakesAll events bytes old new
   takes_all [] old new is hidden same clear =
       let clear_before = ap (λ (port : Port T EV W). has_bits port.state.line_status 0x01) (sym same) ∙ clear in record {

@@ -8,8 +8,9 @@ use Rattle.superio_core.specs.Saved.{serial_form}
 use Rattle.vm_superio.specs.Serial.Step.{RefusesRestore, IsPortStep}
 use Rattle.vm_superio.specs.Serial.History.{none_lost, output, kind_at, dlab}
 use Rattle.vm_superio.specs.Serial.Laws.{state_after, StateLaw, RegisterLaw, CoherenceLaw}
-use Rattle.vm_superio.specs.Links.{Link, answers_of, all_ok, StopsAtRefusal, OutCall, Put, Flush, WriterCalls}
-use Rattle.vm_superio.specs.Links.Writer.{PortLinks, port_links, bytes_sent, outcome_of, AreSendings, OutLink}
+use Rattle.vm_superio.specs.Links.{Contents, answers_of, all_ok, StopsAtRefusal}
+use Rattle.vm_superio.specs.Links.Writer.{PortLinks, port_links, bytes_sent, outcome_of, WriterLink}
+use Rattle.vm_superio.proofs.Lemmas.{known_output_law}
 use Rattle.vm_superio.specs.Serial.{Port, failure_response, Asked, Sent, Op, Read, Trace, Response, is_sent, is_lost, answer_count, ends_in_refusal, kind_of, sent_by, State, not_empty, fresh_state, has_bits, only_bits, Coherent, Condition, register_at, is_dlab, is_loopback, pending_in_order, step, step_response, read_step, rbr_read, answers_all, step_calls, sends_byte, kind_in_state, restore_calls}
 use Rattle.vm_superio.specs.declared.serial.errors.Error.{Error}
 use Rattle.vm_superio.specs.declared.serial.errors.Error.TheVariants.{Trigger, IOError, FullFifo, Memory}
@@ -45,34 +46,20 @@ written-is_sent : (latch loopback : Bool) (op : Op) (outcome : Sent) → IsTrue 
 written-is_sent latch loopback op outcome kept fits = grind arith
 
 -- the output is what the writer holds, if the writer is linked by the byte's outcome, and took what was sent
-abbrev output_link : Link Output OutCall
-output_link = WriterCalls (λ output. Some (written_bytes output))
-
-after_nothing :
-    (accepted : List ℕ) (calls : List OutCall) (old new : Output) →
-    AreSendings [] accepted calls → output_link old calls new → written_bytes new ≡ written_bytes old ++ accepted
-after_nothing accepted calls old new sends linked = grind (arith, append-nil)
-
-after_out :
-    (accepted : List ℕ) (calls : List OutCall) (old new : Output) →
-    AreSendings (Sent.Out ∷ []) accepted calls → output_link old calls new → written_bytes new ≡ written_bytes old ++ accepted
-after_out (byte ∷ bytes) (Put put (Ok done) ∷ Flush (Ok flushed) ∷ calls) old new sends linked =
-    let after : Output = linked.2.0 in
-    let one = linked.2.1 ∙ linked.1 ∙ ap (λ byte. written_bytes old ++ byte ∷ []) sends.0 in
-    after_nothing bytes calls after new sends.1 linked.2.2 ∙ ap (λ xs. xs ++ bytes) one ∙ append_assoc (written_bytes old) (byte ∷ []) bytes
-after_out _ _ old new sends linked = absurd sends
+abbrev output_link : Contents Output
+output_link = λ output. Some (written_bytes output)
 
 written_bytes-after_call :
     (known : Option (List ℕ)) (outcome : Sent) (accepted bytes : List ℕ) (old new : Output) →
-    OutLink output_link (outcome_of outcome) accepted old new → (IsTrue (not (is_lost outcome)) → accepted ≡ bytes) →
+    WriterLink output_link (outcome_of outcome) accepted old new → (IsTrue (not (is_lost outcome)) → accepted ≡ bytes) →
     IfSome known (λ all. written_bytes old ≡ all) → IfSome (output_after known outcome bytes) (λ all. written_bytes new ≡ all)
 written_bytes-after_call known Sent.Lost accepted bytes old new link same was = tt
 written_bytes-after_call None Sent.Nothing accepted bytes old new link same was = tt
 written_bytes-after_call None Sent.Out accepted bytes old new link same was = tt
 written_bytes-after_call (Some all) Sent.Nothing accepted bytes old new link same was =
-    after_nothing accepted link.calls old new link.sends link.linked ∙ ap (λ xs. xs ++ accepted) was ∙ ap (λ xs. all ++ xs) (same refl)
+    known_output_law output_link old new [] accepted link refl ∙ ap (λ xs. xs ++ accepted) was ∙ ap (λ xs. all ++ xs) (same refl)
 written_bytes-after_call (Some all) Sent.Out accepted bytes old new link same was =
-    after_out accepted link.calls old new link.sends link.linked ∙ ap (λ xs. xs ++ accepted) was ∙ ap (λ xs. all ++ xs) (same refl)
+    known_output_law output_link old new (Sent.Out ∷ []) accepted link refl ∙ ap (λ xs. xs ++ accepted) was ∙ ap (λ xs. all ++ xs) (same refl)
 
 -- ---- a call
 

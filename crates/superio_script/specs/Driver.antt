@@ -1,7 +1,7 @@
 -- A driver on the guest's side of a serial port, which polls.
 use Rattle.std.specs.Prelude.{◌≡◌, ◌++◌, ℕ, zero, suc, false, if◌then◌else◌, List, [], ◌∷◌, length, IsTrue}
 use Rattle.std.specs.List.{repeat}
-use Rattle.vm_superio.specs.Links.{Link, TriggerAnswer, OutCall}
+use Rattle.vm_superio.specs.Links.{Link, TriggerAnswer, Contents}
 use Rattle.vm_superio.specs.Serial.{Port, has_bits, without_bits, lsr_dr_bit, State, RbrThr, Thre, register_read, iir_bit, identification_of, Event, buffer_read, in_buffer_empty, rbr_read}
 use Rattle.vm_superio.specs.Serial.Step.{IsReadStep}
 
@@ -10,12 +10,12 @@ abbrev pub IsReady : (s : State) → Type 0
 IsReady s = IsTrue (has_bits s.line_status lsr_dr_bit)
 
 -- reads at offset 0 that give these bytes, in order, each while LSR shows data ready, take a port from `old` to `new`
-module _ {T E EV W : Type 0} (trigger : Link T (TriggerAnswer E)) (events : Link EV Event) (out : Link W OutCall) where
+module _ {T E EV W : Type 0} (trigger : Link T (TriggerAnswer E)) (events : Link EV Event) (contents : Contents W) where
   abbrev pub ReadsWhileReady : (bytes : List ℕ) (old new : Port T EV W) → Type 0
   ReadsWhileReady [] old new = new ≡ old
   ReadsWhileReady (byte ∷ bytes) old new =
       IsReady old.state
-      × ((middle : Port T EV W) × IsReadStep trigger events out 0 byte old middle
+      × ((middle : Port T EV W) × IsReadStep trigger events contents 0 byte old middle
       × ReadsWhileReady bytes middle new)
 
 -- the bytes that at most so many reads of RBR give, each while LSR shows data ready

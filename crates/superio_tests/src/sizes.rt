@@ -11,7 +11,7 @@ use superio_examples::monitor::{Event, Monitor};
 use superio_examples::queues::{Input, Output};
 use superio_examples::saved_monitor::{move_monitor, save_monitor};
 use vm_superio::run::{Call, run};
-use vm_superio::serial::{Port, SerialPort, Three};
+use vm_superio::serial::SerialPort;
 use vm_superio::{Serial, SerialState};
 
 /// Sizes about the FIFO's, and above.
@@ -21,17 +21,19 @@ const SIZES: [usize; 6] = [0, 1, 63, 64, 65, 1_000];
 fn states_of_each_size_are_made(rt: HostRuntime) -> Result<(), Fail> {
     let alloc = rt.alloc();
     let log = Log::new();
-    let objects = || Three::with_writer(Object(&log), Object(&log), Object(&log));
+    let object = Object(&log);
     for held in 0..=64usize {
         let mut state = SerialState::default(alloc);
         state.in_buffer = b"x".repeat(alloc, held)?;
         let form = state.to_bytes().unwrap();
         assert!(rt; SerialState::from_bytes(alloc, form.as_bytes())? == state);
         assert!(rt; SerialState::from_port(alloc, &state.to_port().unwrap())? == state);
-        let made = Port::from_state(alloc, &state, objects()).map_err(|_| AllocError)?;
+        let made = Serial::from_state(alloc, &state, object, object, object).map_err(
+            |_| AllocError,
+        )?;
         assert!(rt; made.state(alloc)? == state.clone(alloc)?);
     }
-    assert!(rt; Port::new(alloc, objects()).is_ok());
+    assert!(rt; Serial::with_events(alloc, object, object, object).is_ok());
     Ok(())
 }
 

@@ -5,11 +5,8 @@ pub mod Laws
 pub mod Run
 pub mod Step
 use Rattle.std.specs.Prelude.{ℕ, Option, Some, None, Result, Ok, Err, List, ◌++◌, codes, option_map}
-use Rattle.std.specs.declared.io.Error as io
 pub use Rattle.vm_superio.specs.declared.serial.errors.Error.{Error}
 pub use Rattle.vm_superio.specs.declared.serial.errors.Error.TheVariants.{Trigger, IOError, FullFifo, Memory}
-pub use Rattle.vm_superio.specs.declared.serial.objects.Three.{Three}
-pub use Rattle.vm_superio.specs.declared.serial.objects.WriterOut.{WriterOut}
 unfoldable pub use Rattle.superio_core.specs.Bits.{has_bits, only_bits, with_bits}
 pub use Rattle.superio_core.specs.Bits.{without_bits}
 pub use Rattle.superio_core.specs.Serial.{SameSettings, State, fresh_state, not_empty, state_with, Coherent, ShowsHeldBytes, state_of_port, CoherentPort, register_read, is_asserted, is_line_up, restore_calls}
@@ -33,19 +30,6 @@ pub record Port (T EV W : Type 0) : Type 0 where
   pub trigger : T
   pub events : EV
   pub out : W
-
--- the port over one object in all three roles: the state, and the object
-pub record OnePort (O : Type 0) : Type 0 where
-  pub state : State
-  pub objects : O
-
--- three objects as one
-abbrev pub as_one : {T EV W : Type 0} → (trigger : T) (events : EV) (out : W) → Three T EV (WriterOut W)
-as_one trigger events out = record { trigger = trigger; events = events; out = record { writer = out } }
-
--- the port over its three objects as one
-abbrev pub one_port : {T EV W : Type 0} → (port : Port T EV W) → OnePort (Three T EV (WriterOut W))
-one_port port = record { state = port.state; objects = as_one port.trigger port.events port.out }
 
 -- what a write or an enqueue returns, as a response, and the refusal in it. Neither takes memory
 abbrev pub failure_response : {E : Type 0} → (error : Error E) → Response
@@ -73,15 +57,6 @@ refusal_in_error _ = None
 abbrev pub refusal_in_result : {R E : Type 0} → (answer : Result R (Error E)) → Option E
 refusal_in_result (Ok done) = None
 refusal_in_result (Err error) = refusal_in_error error
-
--- the output's fault that a call returned
-abbrev pub fault_in_error : {E : Type 0} → (error : Error E) → Option io.Error
-fault_in_error (IOError fault) = Some fault
-fault_in_error _ = None
-
-abbrev pub fault_in_result : {R E : Type 0} → (answer : Result R (Error E)) → Option io.Error
-fault_in_result (Ok done) = None
-fault_in_result (Err error) = fault_in_error error
 
 -- ---- what an error of a serial port prints
 

@@ -10,12 +10,10 @@ ghost use Rattle.vm_superio.specs.Serial.Laws.Transmit.{StaysPendingLaw, IerWrit
 ghost use Rattle.vm_superio.specs.Links.Writer.{KnownOutputLaw};
 ghost use Rattle.vm_superio.specs.Rtc.{ClockIsHistory, RawBitsByHistory, AlarmDueByHistory, SetTimeLaw};
 ghost use Rattle.vm_superio.specs.Serial.Laws.PortRun.{PortRunLaw, PortOutputLaw, PortBoundLaw};
-ghost use Rattle.vm_superio.specs.Serial.Laws.ObjectRun.{CallsInOrderLaw};
 ghost use Rattle.vm_superio.specs.Serial.Laws.OneCall.{OneCallLaw, OneReadLaw, ReceivedLaw, RbrReadLaw, RbrDataReadyLaw, ThrWriteLaw, OutcomeEventsLaw, TurnedBitsLaw};
 
 pub mod saved;
 
-use crate::serial::Objects;
 use std::io::Write;
 
 /// From any start, each register that stores writes holds its last effective one, and MSR never changes.
@@ -85,14 +83,6 @@ pub fn retries_of_history()
 #[tactic(auto, using(crate::proofs::Lemmas::Serial::Laws::StepsOfHistory::whole_run_law))]
 pub fn whole_runs()
     ensures { WholeRunLaw }
-{}
-
-/// From a coherent start, over a port with one object in all three roles: in the state that a trace leads to, each call
-/// adds its calls of the object to those that the object had before, in order, and makes no other. The start, the calls
-/// and the object's answers determine them: a byte is put and flushed, its events are reported, and then the interrupt
-/// is raised. The premises are the fields of the calls' clauses `step`.
-pub fn calls_in_order<O: Objects>()
-    ensures { CallsInOrderLaw O.link }
 {}
 
 /// Calls of a coherent `SerialPort` have the effects that the history says, by the start and the operations

@@ -1,6 +1,7 @@
 //! Runs: a list of calls to a serial port as one call, with a record of each.
 ghost use Rattle.std.specs.Prelude.{◌≡◌, IfOk, OnErr};
 ghost use Rattle.superio_core.specs.Serial.{Coherent};
+ghost use Rattle.vm_superio.specs.Links.Writer.{port_links};
 ghost use Rattle.vm_superio.specs.Serial.Run.{act_of};
 ghost use Rattle.vm_superio.specs.Serial.Run.Steps.{IsCallStep, IsRun};
 ghost use Rattle.vm_superio.specs.Serial.Run.HistoryTheorem.{HistoryTheorem};
@@ -92,9 +93,9 @@ pub fn run<T: Trigger + Drop, EV: SerialEvents + Drop, W: Write + Drop>(
     calls: Vec<Call<T, EV, W>>,
 ) -> Result<Vec<Done<T, EV, W>>, AllocError>
     ensures run { IfOk result (λ done.
-        IsRun T.link EV.link W.contents serial.old calls.items done.items serial.new) }
+        IsRun (port_links T.link EV.link W.contents) serial.old calls.items done.items serial.new) }
     ensures history { IfOk result (λ done. Coherent serial.old.state →
-        HistoryTheorem T.link EV.link W.contents serial.old calls.items done.items serial.new) }
+        HistoryTheorem (port_links T.link EV.link W.contents) serial.old calls.items done.items serial.new) }
     ensures refused { OnErr result (serial.new ≡ serial.old) }
 {
     let mut done = Vec::with_capacity(alloc, calls.len())?;
@@ -109,21 +110,21 @@ impl<T: Trigger, EV: SerialEvents, W: Write> Serial<T, EV, W> {
     /// Makes one call.
     fn make(&mut self, alloc: Global, call: Call<T, EV, W>) -> Done<T, EV, W>
         ensures act { result.act ≡ act_of call }
-        ensures made { IsCallStep T.link EV.link W.contents call result.asked result.sent result.reply
+        ensures made { IsCallStep (port_links T.link EV.link W.contents) call result.asked result.sent result.reply
             self.old self.new }
     {
         match call {
             Call::Read(offset) => {
-                let made = self.port.recorded_read(offset);
+                let byte = self.read(offset);
                 record(
                     Act::Read(offset),
-                    made.asked,
-                    made.sent,
-                    Reply::Byte(made.reply),
+                    Asked::Nothing,
+                    Sent::Nothing,
+                    Reply::Byte(byte),
                 )
             }
             Call::Write(offset, value) => {
-                let made = self.port.recorded_write(offset, value);
+                let made = self.recorded_write(offset, value);
                 record(
                     Act::Write(offset, value),
                     made.asked,
@@ -132,7 +133,7 @@ impl<T: Trigger, EV: SerialEvents, W: Write> Serial<T, EV, W> {
                 )
             }
             Call::Enqueue(bytes) => {
-                let made = self.port.recorded_enqueue(&bytes);
+                let made = self.recorded_enqueue(&bytes);
                 record(
                     Act::Enqueue(bytes),
                     made.asked,
@@ -141,7 +142,7 @@ impl<T: Trigger, EV: SerialEvents, W: Write> Serial<T, EV, W> {
                 )
             }
             Call::CharacterTimeout => {
-                let made = self.port.recorded_timeout();
+                let made = self.recorded_timeout();
                 record(
                     Act::CharacterTimeout,
                     made.asked,
@@ -158,8 +159,8 @@ impl<T: Trigger, EV: SerialEvents, W: Write> Serial<T, EV, W> {
 
     /// Recreates the port from its own state, with these objects.
     fn restore(&mut self, alloc: Global, trigger: T, events: EV, out: W) -> Reply<T, EV, W>
-        ensures { IsCallStep T.link EV.link W.contents (Call.Restore trigger events out) Asked.Nothing Sent.Nothing
-            result self.old self.new }
+        ensures { IsCallStep (port_links T.link EV.link W.contents) (Call.Restore trigger events out)
+            Asked.Nothing Sent.Nothing result self.old self.new }
     {
         let Ok(state) = self.state(alloc) else {
             return Reply::NotRestored(Refused {

@@ -1,25 +1,26 @@
 //! A serial port with the registers of a 16550.
-ghost use Rattle.vm_superio.specs.Links.{WriterCalls, all_ok, RefusesOwnState};
+ghost use Rattle.vm_superio.specs.Links.{all_ok, RefusesOwnState};
 ghost use Rattle.std.specs.Prelude.{◌≡◌, ◌<◌, ◌≤◌, ◌+◌, ◌-◌, ◌==◌, not, ℕ, [], ◌∷◌, ◌++◌, if◌then◌else◌, false, length, vec_len, IsErr, IfOk, OnOk, OnErr, IfErr};
 ghost use Rattle.vm_superio.specs.Saved.{state_of};
 ghost use Rattle.vm_superio.specs.Serial.{Coherent, fresh_state, is_line_up, restore_calls};
 ghost use Rattle.vm_superio.specs.Serial.Step.{RefusesRestore};
 
 mod errors;
-mod objects;
-mod port;
+mod events;
+mod recorded;
 pub mod saved_form;
 
 use crate::Trigger;
+use crate::fifo::Fifo;
 pub use errors::{Error, Refused};
-pub use objects::{NoEvents, Objects, SerialEvents, SerialOut, Three, WriterOut};
-use port::reassert;
-pub use port::{Port, RefusedObject};
+pub use events::{NoEvents, SerialEvents};
+use recorded::{call_again, report_read, restored};
 pub use saved_form::SerialState;
 use std::alloc::{AllocError, Global};
 use std::io::Write;
 use std::marker::Model;
-use superio_core::fifo::FIFO_SIZE;
+use superio_core::fifo::{FIFO_SIZE, ReceiveFifo};
+use superio_core::serial::registers::Registers;
 pub use superio_core::serial::registers::{Condition, Register};
 pub use superio_core::serial::{EnqueueEffects, ReadEffects, RxRing, SerialPort, WriteEffects};
 
@@ -29,19 +30,23 @@ pub use superio_core::serial::{EnqueueEffects, ReadEffects, RxRing, SerialPort, 
 /// Contracts see the port as its state and the three objects that it owns.
 #[derive(Drop)]
 pub struct Serial<T: Trigger, EV: SerialEvents, W: Write> {
-    pub(crate) port: Port<Three<T, EV, WriterOut<W>>>,
+    registers: Registers,
+    in_buffer: Fifo,
+    interrupt_evt: T,
+    events: EV,
+    out: W,
 }
 
 impl<T: Trigger, EV: SerialEvents, W: Write> Model for Serial<T, EV, W> {
-    ghost use Rattle.vm_superio.specs.Serial.{Port};
+    ghost use Rattle.vm_superio.specs.Serial.{Port, state_with};
 
     ghost Value = { Port T EV W };
 
     ghost view = { λ serial. record {
-      state = serial.port.state;
-      trigger = serial.port.objects.trigger;
-      events = serial.port.objects.events;
-      out = serial.port.objects.out.writer;
+      state = state_with serial.registers serial.in_buffer;
+      trigger = serial.interrupt_evt;
+      events = serial.events;
+      out = serial.out;
     } };
 }
 
@@ -76,7 +81,7 @@ impl<T: Trigger, W: Write> Serial<T, NoEvents, W> {
 impl<T: Trigger, EV: SerialEvents, W: Write> Serial<T, EV, W> {
     ghost use Rattle.std.specs.Borrow.{Lends, sem};
     ghost use Rattle.vm_superio.specs.contracts.serial.Serial.{the_row};
-    ghost use Rattle.vm_superio.specs.Links.Writer.{taken_calls};
+    ghost use Rattle.std.specs.Io.KnownBytes.{Appends};
     ghost use Rattle.vm_superio.specs.Serial.{Other, Read, SameSettings, ShowsHeldBytes, Write, enqueued_bytes, is_dlab, kind_in_state, sends_byte, sent_by};
     ghost use Rattle.vm_superio.specs.Serial.Step.{with_trigger, with_events, with_writer};
     ghost use Rattle.vm_superio.specs.Serial.Step.{IsReadStep, IsWriteStep, IsEnqueueStep, IsTimeoutStep, IsRetryStep};
@@ -88,6 +93,7 @@ impl<T: Trigger, EV: SerialEvents, W: Write> Serial<T, EV, W> {
     /// # Errors
     ///
     /// As for `new`.
+    #[tactic(auto, using(superio_core::proofs::Lemmas::Serial::fresh_coherent))]
     pub fn with_events(
         alloc: Global,
         trigger: T,
@@ -106,10 +112,21 @@ impl<T: Trigger, EV: SerialEvents, W: Write> Serial<T, EV, W> {
         ensures events_back { IfErr result (λ refused. refused.events ≡ serial_evts) }
         ensures out_back { IfErr result (λ refused. refused.out ≡ out) }
     {
-        match Port::new(alloc, Three::with_writer(trigger, serial_evts, out)) {
-            Ok(port) => Ok(Serial { port }),
-            Err(objects) => Err(Refused::with_objects(Error::Memory, objects)),
-        }
+        let Ok(in_buffer) = Fifo::new(alloc) else {
+            return Err(Refused {
+                error: Error::Memory,
+                trigger,
+                events: serial_evts,
+                out,
+            });
+        };
+        Ok(Serial {
+            registers: Registers::new(),
+            in_buffer,
+            interrupt_evt: trigger,
+            events: serial_evts,
+            out,
+        })
     }
 
     /// Makes a serial port from a saved state, taken unchanged, and new objects. Calls the trigger once for each
@@ -124,7 +141,7 @@ impl<T: Trigger, EV: SerialEvents, W: Write> Serial<T, EV, W> {
     pub fn from_state(
         alloc: Global,
         state: &SerialState,
-        trigger: T,
+        mut trigger: T,
         serial_evts: EV,
         out: W,
     ) -> Result<Self, Refused<T, EV, W>>
@@ -142,9 +159,20 @@ impl<T: Trigger, EV: SerialEvents, W: Write> Serial<T, EV, W> {
         ensures events_back { IfErr result (λ refused. refused.events ≡ serial_evts) }
         ensures out_back { IfErr result (λ refused. refused.out ≡ out) }
     {
-        match Port::from_state(alloc, state, Three::with_writer(trigger, serial_evts, out)) {
-            Ok(port) => Ok(Serial { port }),
-            Err(refused) => Err(Refused::with_objects(refused.error, refused.objects)),
+        match restored(alloc, state, &mut trigger) {
+            Ok((registers, in_buffer)) => Ok(Serial {
+                registers,
+                in_buffer,
+                interrupt_evt: trigger,
+                events: serial_evts,
+                out,
+            }),
+            Err(error) => Err(Refused {
+                error,
+                trigger,
+                events: serial_evts,
+                out,
+            }),
         }
     }
 
@@ -158,14 +186,15 @@ impl<T: Trigger, EV: SerialEvents, W: Write> Serial<T, EV, W> {
         ensures at_most_64 { length self.now.state.in_buffer ≤ 64 }
         ensures coherent { IfOk result (λ saved. Coherent self.now.state → Coherent (state_of saved)) }
     {
-        self.port.state(alloc)
+        let in_buffer = self.in_buffer.to_vec(alloc)?;
+        Ok(SerialState::of(&self.registers, in_buffer))
     }
 
     /// The writer.
     pub fn writer(&self) -> &W
         ensures { result.now ≡ self.now.out }
     {
-        &self.port.objects.out.writer
+        &self.out
     }
 
     /// The writer, mutably. Nothing else in the port changes.
@@ -175,7 +204,7 @@ impl<T: Trigger, EV: SerialEvents, W: Write> Serial<T, EV, W> {
             self.entry result (with_writer self.old)) }
         ensures value { result.now ≡ self.old.out }
     {
-        &mut self.port.objects.out.writer
+        &mut self.out
     }
 
     /// Returns the writer unchanged. Drops the trigger and the events object.
@@ -185,9 +214,7 @@ impl<T: Trigger, EV: SerialEvents, W: Write> Serial<T, EV, W> {
         EV: Drop,
         ensures { result ≡ self.out }
     {
-        let objects = self.port.objects;
-        let out = objects.out;
-        out.writer
+        self.out
     }
 
     /// Returns the trigger, the events object and the writer, unchanged. Calls none of them.
@@ -196,15 +223,14 @@ impl<T: Trigger, EV: SerialEvents, W: Write> Serial<T, EV, W> {
         ensures events { result.1 ≡ self.events }
         ensures out { result.2 ≡ self.out }
     {
-        let objects = self.port.objects;
-        (objects.trigger, objects.events, objects.out.writer)
+        (self.interrupt_evt, self.events, self.out)
     }
 
     /// The trigger of the interrupt line.
     pub fn interrupt_evt(&self) -> &T
         ensures { result.now ≡ self.now.trigger }
     {
-        &self.port.objects.trigger
+        &self.interrupt_evt
     }
 
     /// The trigger, mutably. Nothing else in the port changes.
@@ -214,14 +240,14 @@ impl<T: Trigger, EV: SerialEvents, W: Write> Serial<T, EV, W> {
             self.entry result (with_trigger self.old)) }
         ensures value { result.now ≡ self.old.trigger }
     {
-        &mut self.port.objects.trigger
+        &mut self.interrupt_evt
     }
 
     /// The events object.
     pub fn events(&self) -> &EV
         ensures { result.now ≡ self.now.events }
     {
-        &self.port.objects.events
+        &self.events
     }
 
     /// The events object, mutably. Nothing else in the port changes.
@@ -231,7 +257,7 @@ impl<T: Trigger, EV: SerialEvents, W: Write> Serial<T, EV, W> {
             self.entry result (with_events self.old)) }
         ensures value { result.now ≡ self.old.events }
     {
-        &mut self.port.objects.events
+        &mut self.events
     }
 
     /// Writes `value` at `offset`, as a guest does.
@@ -242,19 +268,19 @@ impl<T: Trigger, EV: SerialEvents, W: Write> Serial<T, EV, W> {
     /// if the writer fails to take the byte or to flush. The writer's failure has no effect on the registers. A refused
     /// condition stays pending: no access calls the trigger for it again until the guest has acknowledged it.
     pub fn write(&mut self, offset: u8, value: u8) -> Result<(), Error<T::E>>
-        ensures step { IsWriteStep T.link EV.link (WriterCalls W.contents) offset value result self.old self.new }
+        ensures step { IsWriteStep T.link EV.link W.contents offset value result self.old self.new }
         // While IER is 0 the trigger is not called.
         ensures quiet { self.new.state.interrupt_enable ≡ 0 → self.new.trigger ≡ self.old.trigger }
         // `Ok` of a THR write outside loopback means that the writer took the byte.
-        ensures sends { OnOk result (WriterCalls W.contents self.old.out
-            (taken_calls (sent_by (kind_in_state self.old.state (Write offset value)))) self.new.out) }
+        ensures sends { OnOk result (Appends (W.contents self.old.out) (W.contents self.new.out)
+            (sent_by (kind_in_state self.old.state (Write offset value)))) }
         // Only a THR write outside loopback reaches the writer.
         ensures silent { sends_byte self.old.state (Write offset value) ≡ false → self.new.out ≡ self.old.out }
         // What stands after an error.
         ensures fate { IfErr result (λ error. WriteFate offset value error self.old.state self.new.state) }
         ensures coherent { Coherent self.old.state → Coherent self.new.state }
     {
-        self.port.recorded_write(offset, value).reply
+        self.recorded_write(offset, value).reply
     }
 
     /// Whether a write at `offset` sends its byte, as a THR write outside loopback does. Changes nothing: an event loop
@@ -263,15 +289,15 @@ impl<T: Trigger, EV: SerialEvents, W: Write> Serial<T, EV, W> {
         ensures { (value : ℕ) → sent_by (kind_in_state self.now.state (Write offset value))
             ≡ (if result then value ∷ [] else []) }
     {
-        match self.port.registers.at(offset) {
-            Register::RbrThr => !self.port.registers.is_loopback(),
+        match self.registers.at(offset) {
+            Register::RbrThr => !self.registers.is_loopback(),
             _ => false,
         }
     }
 
     /// Reads the byte at `offset`, as a guest does. Neither calls the trigger nor uses the writer.
     pub fn read(&mut self, offset: u8) -> u8
-        ensures step { IsReadStep T.link EV.link (WriterCalls W.contents) offset result self.old self.new }
+        ensures step { IsReadStep T.link EV.link W.contents offset result self.old self.new }
         // A read of RBR gives the oldest byte and leaves the others.
         ensures data { offset ≡ 0 → is_dlab self.old.state.line_control ≡ false →
             0 < length self.old.state.in_buffer → result ∷ self.new.state.in_buffer ≡ self.old.state.in_buffer }
@@ -283,9 +309,11 @@ impl<T: Trigger, EV: SerialEvents, W: Write> Serial<T, EV, W> {
         ensures out { self.new.out ≡ self.old.out }
         ensures coherent { Coherent self.old.state → Coherent self.new.state }
     {
-        let byte = self.port.recorded_read(offset).reply;
+        let register = self.registers.at(offset);
+        let effects = self.registers.read(&mut self.in_buffer, register);
+        report_read(&mut self.events, effects);
         prove!(self.fifo_capacity() <= FIFO_SIZE);
-        byte
+        effects.byte
     }
 
     /// Calls the trigger once for each condition that is both pending and enabled, up to the first refusal. Nothing
@@ -304,10 +332,10 @@ impl<T: Trigger, EV: SerialEvents, W: Write> Serial<T, EV, W> {
         ensures refused { IfErr result (λ refusal. RefusesOwnState T.link (restore_calls self.old.state)
             (Error.Trigger refusal) self.old.trigger self.new.trigger) }
         ensures rest_unchanged { self.new ≡ with_trigger self.old self.new.trigger }
-        ensures step { IsRetryStep T.link EV.link (WriterCalls W.contents) self.old self.new }
+        ensures step { IsRetryStep T.link EV.link W.contents self.old self.new }
         ensures coherent { Coherent self.old.state → Coherent self.new.state }
     {
-        reassert(&self.port.registers, &mut self.port.objects)
+        call_again(&self.registers, &mut self.interrupt_evt)
     }
 
     /// How many interrupts are due, 0 to 2: the conditions that are both pending and enabled. A retry calls the trigger
@@ -316,14 +344,14 @@ impl<T: Trigger, EV: SerialEvents, W: Write> Serial<T, EV, W> {
         ensures calls { result ≡ length (restore_calls self.now.state) }
         ensures at_most_2 { result ≤ 2 }
     {
-        self.port.registers.interrupts_due()
+        self.registers.interrupts_due()
     }
 
     /// IER, as `state` has it. A driver that has tested the port and wants input leaves it with 0x01 and without 0x02.
     pub fn interrupt_enable(&self) -> u8
         ensures { result ≡ self.now.state.interrupt_enable }
     {
-        self.port.registers.interrupt_enable
+        self.registers.interrupt_enable
     }
 
     /// Whether the interrupt line is up: while a condition is pending and enabled. For a controller that takes levels,
@@ -332,7 +360,7 @@ impl<T: Trigger, EV: SerialEvents, W: Write> Serial<T, EV, W> {
         ensures line { result ≡ is_line_up self.now.state }
         ensures due { result ≡ not (length (restore_calls self.now.state) == 0) }
     {
-        self.port.registers.interrupt_line()
+        self.registers.interrupt_line()
     }
 
     /// How many bytes may still be enqueued: 64 minus the number of held bytes.
@@ -341,7 +369,7 @@ impl<T: Trigger, EV: SerialEvents, W: Write> Serial<T, EV, W> {
         ensures bound { length self.now.state.in_buffer ≤ 64 }
         ensures room_plus_held { result + length self.now.state.in_buffer ≡ 64 }
     {
-        self.port.fifo_capacity()
+        FIFO_SIZE - self.in_buffer.len()
     }
 
     /// Receives as many bytes for the guest as fit, first ones first. Returns how many.
@@ -353,7 +381,7 @@ impl<T: Trigger, EV: SerialEvents, W: Write> Serial<T, EV, W> {
     /// Returns [`Error::FullFifo`] if there are bytes, outside loopback, and 64 are held: nothing changes. Returns
     /// [`Error::Trigger`] if the trigger refuses: the bytes are kept, and the guest finds them when it looks.
     pub fn enqueue_raw_bytes(&mut self, input: &[u8]) -> Result<usize, Error<T::E>>
-        ensures step { IsEnqueueStep T.link EV.link (WriterCalls W.contents) input.now result self.old self.new }
+        ensures step { IsEnqueueStep T.link EV.link W.contents input.now result self.old self.new }
         ensures held { self.new.state.in_buffer ≡ self.old.state.in_buffer ++ enqueued_bytes self.old.state input.now }
         ensures settings { SameSettings self.old.state self.new.state }
         ensures full { result ≡ Err Error.FullFifo → self.new ≡ self.old }
@@ -363,7 +391,7 @@ impl<T: Trigger, EV: SerialEvents, W: Write> Serial<T, EV, W> {
         ensures out { self.new.out ≡ self.old.out }
         ensures coherent { Coherent self.old.state → Coherent self.new.state }
     {
-        self.port.recorded_enqueue(input).reply
+        self.recorded_enqueue(input).reply
     }
 
     /// Tells the port that the time of a few characters has passed without a read or a new byte: it raises RDA again if
@@ -374,7 +402,7 @@ impl<T: Trigger, EV: SerialEvents, W: Write> Serial<T, EV, W> {
     ///
     /// Returns [`Error::Trigger`] if the trigger refuses: RDA is pending nonetheless.
     pub fn character_timeout(&mut self) -> Result<(), Error<T::E>>
-        ensures step { IsTimeoutStep T.link EV.link (WriterCalls W.contents) result self.old self.new }
+        ensures step { IsTimeoutStep T.link EV.link W.contents result self.old self.new }
         // No byte waits without an interrupt.
         ensures pending { ShowsHeldBytes self.new.state }
         // What stands after an error.
@@ -384,6 +412,6 @@ impl<T: Trigger, EV: SerialEvents, W: Write> Serial<T, EV, W> {
         ensures out { self.new.out ≡ self.old.out }
         ensures coherent { Coherent self.old.state → Coherent self.new.state }
     {
-        self.port.recorded_timeout().reply
+        self.recorded_timeout().reply
     }
 }

@@ -1,7 +1,6 @@
 -- The laws by which steps and history agree: after any trace, both describe the same port.
 pub mod Consequences
 pub mod Line
-pub mod ObjectRun
 pub mod OneCall
 pub mod PortRun
 pub mod Transmit

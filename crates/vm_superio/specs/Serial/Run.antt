@@ -3,13 +3,12 @@ pub mod HistoryTheorem
 pub mod Segments
 pub mod Steps
 use Rattle.std.specs.Prelude.{◌≡◌, ⊤, List, [], ◌∷◌, Bool, true, false, not, Option, None, filter}
-use Rattle.std.specs.declared.io.Error as io
 pub use Rattle.vm_superio.specs.declared.run.Act.{Act}
 pub use Rattle.vm_superio.specs.declared.run.Reply.{Reply}
 pub use Rattle.vm_superio.specs.declared.run.Reply.TheVariants.{Byte, Wrote, Enqueued, TimedOut, Restored, NotRestored}
 pub use Rattle.vm_superio.specs.declared.run.Call.{Call}
 pub use Rattle.vm_superio.specs.declared.run.Done.{Done}
-use Rattle.vm_superio.specs.Serial.{write_response, enqueue_response, timeout_response, refusal_in_result, fault_in_result, Op, Read, Write, Enqueue, CharacterTimeout, Restore, TraceEntry, Response, ByteRead, NoResponse, Trace, State}
+use Rattle.vm_superio.specs.Serial.{write_response, enqueue_response, timeout_response, refusal_in_result, Op, Read, Write, Enqueue, CharacterTimeout, Restore, TraceEntry, Response, ByteRead, NoResponse, Trace, State}
 use Rattle.vm_superio.specs.Serial.History.{guest_read}
 
 abbrev pub op_of : (act : Act) → Op
@@ -70,11 +69,6 @@ module _ {T E EV W : Type 0} where
   refusal_in_reply (Enqueued answer) = refusal_in_result answer
   refusal_in_reply (TimedOut answer) = refusal_in_result answer
   refusal_in_reply _ = None
-
-  -- and the fault of the writer
-  abbrev pub fault_in_reply : (reply : Reply T EV W E) → Option io.Error
-  fault_in_reply (Wrote answer) = fault_in_result answer
-  fault_in_reply _ = None
 
   abbrev pub entries_of : (records : List (Done T EV W E)) → List (TraceEntry × Response)
   entries_of [] = []

@@ -1,9 +1,8 @@
 -- One call of a port, as its contract states it.
-pub mod ObjectStep
 use Rattle.std.specs.Prelude.{◌≡◌, ℕ, ◌+◌, Bool, not, ◌&&◌, length, List, IsTrue, Option, None, Result, is_some, ◌<◌, ◌≤◌, ◌-◌, ◌++◌, take}
-use Rattle.vm_superio.specs.Serial.{Error, Port, write_response, enqueue_response, timeout_response, refusal_in_result, fault_in_result, FullFifo, Trigger, IOError, Asked, Sent, Op, Read, Write, Enqueue, CharacterTimeout, Restore, Response, ByteRead, NoResponse, Event, ends_in_refusal, count_if, has_bits, State, Rda, Thre, iir_bit, step, step_response, step_events, is_admissible, sends_byte, restore_calls}
-use Rattle.vm_superio.specs.Links.{Link, TriggerAnswer, answers_of, OutCall, RefusesOwnState}
-use Rattle.vm_superio.specs.Links.Writer.{PortLinks, port_links, bytes_sent, outcome_of, OutLink, AnsweredFault}
+use Rattle.vm_superio.specs.Serial.{Error, Port, write_response, enqueue_response, timeout_response, refusal_in_result, FullFifo, Trigger, IOError, Asked, Sent, Op, Read, Write, Enqueue, CharacterTimeout, Restore, Response, ByteRead, NoResponse, Event, ends_in_refusal, count_if, has_bits, State, Rda, Thre, iir_bit, step, step_response, step_events, is_admissible, sends_byte, restore_calls}
+use Rattle.vm_superio.specs.Links.{Link, TriggerAnswer, Contents, answers_of, RefusesOwnState}
+use Rattle.vm_superio.specs.Links.Writer.{PortLinks, port_links, bytes_sent, outcome_of, WriterLink}
 
 -- a call takes a port from `old` to `new` by one step, with these answers of the trigger and this outcome of a byte. A
 -- refusal is that of the trigger's last call
@@ -16,7 +15,7 @@ pub record IsPortStep
   pub state : new.state ≡ step old.state op asked
   pub trigger : links.trigger old.trigger (answers_of asked refusal) new.trigger
   pub events : links.events old.events (step_events old.state op sent) new.events
-  pub out : OutLink links.out (outcome_of sent) (bytes_sent op sent) old.out new.out
+  pub out : WriterLink links.contents (outcome_of sent) (bytes_sent op sent) old.out new.out
 
 -- the port with another writer, and nothing else changed
 abbrev pub with_writer : {T EV W : Type 0} → (port : Port T EV W) (writer : W) → Port T EV W
@@ -44,23 +43,21 @@ turned_on_count old new =
 
 -- ---- the calls
 
-module _ {T E EV W : Type 0} (trigger : Link T (TriggerAnswer E)) (events : Link EV Event) (out : Link W OutCall) where
+module _ {T E EV W : Type 0} (trigger : Link T (TriggerAnswer E)) (events : Link EV Event) (contents : Contents W) where
   -- a read calls no trigger and sends no byte
   abbrev pub IsReadStep : (offset byte : ℕ) (old new : Port T EV W) → Type 0
   IsReadStep offset byte old new =
-      IsPortStep (port_links trigger events out) (Read offset) Asked.Nothing Sent.Nothing
+      IsPortStep (port_links trigger events contents) (Read offset) Asked.Nothing Sent.Nothing
       (ByteRead byte) None old new
 
-  -- a write. A fault that it returns is the one that the output answered. There is one answer of the trigger for each
-  -- pending bit of IIR that the write turns on
+  -- a write. There is one answer of the trigger for each pending bit of IIR that it turns on
   pub record IsWriteStep
       (offset value : ℕ) (result : Result (Unit {0}) (Error E)) (old new : Port T EV W) : Type 0 where
     pub asked : Asked
     pub sent : Sent
     pub step :
-        IsPortStep (port_links trigger events out) (Write offset value) asked sent
+        IsPortStep (port_links trigger events contents) (Write offset value) asked sent
         (write_response result) (refusal_in_result result) old new
-    pub fault : AnsweredFault (fault_in_result result) step.out.calls
     pub calls : length (answers_of asked (refusal_in_result result)) ≡ turned_on_count old.state new.state
 
   -- an enqueue, likewise
@@ -69,7 +66,7 @@ module _ {T E EV W : Type 0} (trigger : Link T (TriggerAnswer E)) (events : Link
     pub asked : Asked
     pub sent : Sent
     pub step :
-        IsPortStep (port_links trigger events out) (Enqueue bytes) asked sent
+        IsPortStep (port_links trigger events contents) (Enqueue bytes) asked sent
         (enqueue_response result) (refusal_in_result result) old new
     pub calls : length (answers_of asked (refusal_in_result result)) ≡ turned_on_count old.state new.state
 
@@ -77,14 +74,14 @@ module _ {T E EV W : Type 0} (trigger : Link T (TriggerAnswer E)) (events : Link
   pub record IsTimeoutStep (result : Result (Unit {0}) (Error E)) (old new : Port T EV W) : Type 0 where
     pub asked : Asked
     pub step :
-        IsPortStep (port_links trigger events out) CharacterTimeout asked Sent.Nothing
+        IsPortStep (port_links trigger events contents) CharacterTimeout asked Sent.Nothing
         (timeout_response result) (refusal_in_result result) old new
     pub calls : length (answers_of asked (refusal_in_result result)) ≡ turned_on_count old.state new.state
 
   -- a retry of refused interrupts: except for its trigger, the port makes the step of a restore without answers
   abbrev pub IsRetryStep : (old new : Port T EV W) → Type 0
   IsRetryStep old new =
-      IsPortStep (port_links trigger events out) Restore Asked.Nothing Sent.Nothing
+      IsPortStep (port_links trigger events contents) Restore Asked.Nothing Sent.Nothing
       NoResponse None (with_trigger old new.trigger) new
 
 -- ---- why a restore is refused

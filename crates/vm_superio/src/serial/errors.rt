@@ -1,7 +1,6 @@
 //! Why a call of a serial port failed.
 ghost use Rattle.std.specs.Prelude.{◌≡◌};
 
-use super::objects::{Three, WriterOut};
 use crate::Trigger;
 use std::alloc::{AllocError, AllocFailed};
 use std::error::Error as StdError;
@@ -81,22 +80,5 @@ impl<T: Trigger + Drop, EV: Drop, W: Drop> Refused<T, EV, W> {
         ensures { result ≡ self.error }
     {
         self.error
-    }
-}
-
-impl<T: Trigger, EV, W> Refused<T, EV, W> {
-    /// The objects of a port that was not made, one by one.
-    pub(super) fn with_objects(error: Error<T::E>, objects: Three<T, EV, WriterOut<W>>) -> Self
-        ensures error { result.error ≡ error }
-        ensures trigger { result.trigger ≡ objects.trigger }
-        ensures events { result.events ≡ objects.events }
-        ensures out { result.out ≡ objects.out.writer }
-    {
-        Refused {
-            error,
-            trigger: objects.trigger,
-            events: objects.events,
-            out: objects.out.writer,
-        }
     }
 }

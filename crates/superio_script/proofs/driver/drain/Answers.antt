@@ -1,5 +1,4 @@
 -- A read of LCR or LSR changes nothing, and a read of RBR is the next one of those that take all bytes.
-use Rattle.vm_superio.specs.Links.{WriterCalls}
 use Rattle.std.proofs.Common.{[], ◌∷◌, ◌++◌, sym, ap, ◌∙◌, subst, append_assoc, append-nil, refl, arith}
 use Rattle.vm_superio.specs.Serial.{Port, has_bits, Other, State, is_dlab}
 use Rattle.superio_script.specs.Driver.{ReadsWhileReady}
@@ -18,7 +17,7 @@ loop-bytes-init g c =
           ∙ ap (λ byte. has_bits byte 0x80) (sym value) ∙ sym c.shows_latch.ensures ∙ c.if-shows_latch.false;
       room = rw c.new-bytes.ensures (omega (arith, reads_left-few c.read.new.self.state c.read.ensures.at_most_64));
       whole = λ later end h. rw c.new-bytes.ensures
-          (subst (λ (port : Port T EV W). ReadsWhileReady g.T.Trigger.link g.EV.SerialEvents.link (WriterCalls g.W.Write.contents) later port end) same h);
+          (subst (λ (port : Port T EV W). ReadsWhileReady g.T.Trigger.link g.EV.SerialEvents.link g.W.Write.contents later port end) same h);
       trigger = c.read.ensures.trigger;
       out = c.read.ensures.out;
     }
@@ -55,7 +54,7 @@ returns-clause-stops_when_not_ready g c = λ hidden.
 
 pub returns-clause-all : goal.returns-clause-all
 returns-clause-all g c = λ is hidden.
-    takes_all g.T.Trigger.link g.EV.SerialEvents.link (WriterCalls g.W.Write.contents) g.met.EV.SerialEvents.no_event g.met.EV.SerialEvents.joined
+    takes_all g.T.Trigger.link g.EV.SerialEvents.link g.W.Write.contents g.met.EV.SerialEvents.no_event g.met.EV.SerialEvents.joined
     c.coherence.ensures c.loop-bytes.bytes.items c.args.serial.now c.read-in-loop-bytes.new.self is hidden (returns-clause-reads g c)
     (returns-clause-stops_when_not_ready g c hidden)
 
@@ -68,5 +67,5 @@ returns-clause-no_loss g c = λ is.
 
 pub returns-clause-coherent : goal.returns-clause-coherent
 returns-clause-coherent g c = λ is.
-    coherent_after g.T.Trigger.link g.EV.SerialEvents.link (WriterCalls g.W.Write.contents) g.met.EV.SerialEvents.no_event g.met.EV.SerialEvents.joined
+    coherent_after g.T.Trigger.link g.EV.SerialEvents.link g.W.Write.contents g.met.EV.SerialEvents.no_event g.met.EV.SerialEvents.joined
     c.coherence.ensures c.loop-bytes.bytes.items c.args.serial.now c.read-in-loop-bytes.new.self is (returns-clause-reads g c)

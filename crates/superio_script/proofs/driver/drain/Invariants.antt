@@ -1,5 +1,4 @@
 -- What was read so far, and that the reads that are to come make it whole.
-use Rattle.vm_superio.specs.Links.{WriterCalls}
 use Rattle.std.proofs.Common.{◌≡◌, ◌≤◌, ◌+◌, ◌++◌, length, false, List, ℕ}
 use Rattle.vm_superio.specs.Serial.{Port, is_dlab}
 use Rattle.superio_script.specs.Driver.{ReadsWhileReady}
@@ -11,7 +10,7 @@ invariant-loop-bytes g l =
     let T = g.row.T.Denot in
     let EV = g.row.EV.Denot in
     let W = g.row.W.Denot in
-    let reads = ReadsWhileReady g.T.Trigger.link g.EV.SerialEvents.link (WriterCalls g.W.Write.contents) in
+    let reads = ReadsWhileReady g.T.Trigger.link g.EV.SerialEvents.link g.W.Write.contents in
     record {
       hidden : is_dlab l.serial.state.line_control ≡ false;
       room : length l.bytes.items + reads_left l.serial.state ≤ 64;

@@ -2,7 +2,6 @@
 pub mod Consequences
 pub mod InterruptDriver
 pub mod Interrupts
-pub mod ObjectRun
 pub mod OneCall
 pub mod Reads
 pub mod StepsOfHistory

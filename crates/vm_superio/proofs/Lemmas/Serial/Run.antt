@@ -1,40 +1,36 @@
--- One call of a run.
-pub mod Output
-use Rattle.std.proofs.Common.{arith, ◌≡◌, ℕ, List, [], ◌∷◌, sym, subst, false, not, ◌++◌, refl, ap, ◌∙◌, Option, ◌↔◌, IsTrue}
+-- One call of a run, and from these the history theorem.
+use Rattle.std.proofs.Common.{arith, ◌≡◌, List, [], ◌∷◌, sym, subst, false, not, ◌++◌, refl, ap, ◌∙◌, Option, ◌↔◌, IsTrue}
 use Rattle.std.proofs.lemmas.Bool.{cond_both}
-use Rattle.vm_superio.specs.Serial.Run.{fault_in_reply, Call, Done, act_of, IsReplyTo, RecordsOf, op_of, is_restore, entry_of, response_of, entries_of, trace_of, without_restores, ReadIs, ReadsAre, Act, Reply, Byte, Wrote, Enqueued, TimedOut, Restored, NotRestored}
+use Rattle.vm_superio.specs.Serial.Run.{Call, Done, act_of, IsReplyTo, RecordsOf, op_of, is_restore, entry_of, response_of, entries_of, trace_of, without_restores, ReadIs, ReadsAre, Act, Reply, Byte, Wrote, Enqueued, TimedOut, Restored, NotRestored}
 use Rattle.vm_superio.specs.Serial.Run.Steps.{IsCallStep, IsRun}
-use Rattle.vm_superio.specs.Serial.Run.Segments.{Segment, ObjectsAtRestore, next_segment, ObjectsAre, OutputIs, KnownOutputIs}
+use Rattle.vm_superio.specs.Serial.Run.Segments.{Segment, trace_in, first_segment, extended, next_segment, IsServed, TakesOutput, AtRestore, SegmentsAre}
 use Rattle.vm_superio.specs.Serial.Run.HistoryTheorem.{HistoryTheorem}
-use Rattle.vm_superio.specs.Links.{Link, TriggerAnswer, ObjectCall, all_ok, RefusesOwnState, raised, NotSent, WriterCalls}
-use Rattle.vm_superio.specs.Links.Three.{ThreeLink, ThreeLink-nil, ThreeLink-append}
-use Rattle.vm_superio.specs.Links.Writer.{WriterLink, WriterLink-nil, WriterLink-append}
-use Rattle.vm_superio.specs.Serial.{Asked, Sent, Op, TraceEntry, Response, State, Coherent, Event, Port, Three, WriterOut, as_one, one_port, step, step_response, is_admissible, restore_calls}
-use Rattle.vm_superio.specs.Serial.History.{ResponsesAre, history_response, bytes_read, state_of_history, taken_bytes, restore_calls_due}
+use Rattle.vm_superio.specs.Links.{TriggerAnswer, answers_of, all_ok, RefusesOwnState}
+use Rattle.vm_superio.specs.Links.Writer.{PortLinks, WriterLink, outcome_of}
+use Rattle.vm_superio.specs.Serial.{Asked, Sent, Op, TraceEntry, Response, State, Coherent, Event, Port, sent_by, step, step_events, step_response, is_admissible, restore_calls}
+use Rattle.vm_superio.specs.Serial.Step.{IsPortStep}
+use Rattle.vm_superio.specs.Serial.History.{ResponsesAre, history_response, bytes_read, state_of_history, taken_bytes, restore_calls_due, kind_at, output, outcomes}
 use Rattle.vm_superio.specs.Serial.Laws.{StepsFollow}
 use Rattle.vm_superio.specs.Serial.Laws.Consequences.{op_and_asked, ops_and_asked}
-use Rattle.vm_superio.proofs.Lemmas.{known_output_law}
-use Rattle.vm_superio.proofs.Lemmas.Serial.{answers_in_order, events_in_order, out_in_order}
-use Rattle.vm_superio.proofs.Lemmas.Serial.Laws.ObjectRun.{Objects-next, own_calls}
+use Rattle.vm_superio.proofs.Lemmas.{WriterLink-append, known_output_law}
 use Rattle.vm_superio.proofs.Lemmas.Serial.Laws.StepsOfHistory.{whole_run_law, state_law, step_law, call_law}
 use Rattle.vm_superio.proofs.Lemmas.Serial.Laws.Consequences.{trigger_bound_law, waiting_bytes_law}
 use Rattle.vm_superio.proofs.Lemmas.Serial.Laws.{taken_then_held}
 use Rattle.vm_superio.proofs.Lemmas.Serial.Laws.Reads.{read_then_held, same_reads_law}
 use Rattle.vm_superio.proofs.Lemmas.Serial.Laws.InterruptDriver.{timeouts_show_law}
-use Rattle.vm_superio.proofs.Lemmas.Serial.Run.Output.{OutputsAre-objects}
 use Rattle.vm_superio.specs.declared.run.Act.TheVariants as act
 use Rattle.superio_core.specs.Serial.Operations as operation
 
 -- a call that was made continues the run
 pub IsRun-step :
-    {T E EV W : Type 0} (trigger : Link T (TriggerAnswer E)) (events : Link EV Event) (contents : W → Option (List ℕ))
+    {T E EV W : Type 0} (links : PortLinks T E EV W)
     (call : Call T EV W) (calls all_calls : List (Call T EV W)) (done : Done T EV W E)
     (later : List (Done T EV W E)) (old next end : Port T EV W) →
     all_calls ≡ call ∷ calls → done.act ≡ act_of call →
-    IsCallStep trigger events contents call done.asked done.sent done.reply old next →
-    IsRun trigger events contents next calls later end → IsRun trigger events contents old all_calls (done ∷ later) end
-IsRun-step trigger events contents call calls all_calls done later old next end same act made rest =
-    subst (λ calls. IsRun trigger events contents old calls (done ∷ later) end) (sym same) (act, (next, made, rest))
+    IsCallStep links call done.asked done.sent done.reply old next →
+    IsRun links next calls later end → IsRun links old all_calls (done ∷ later) end
+IsRun-step links call calls all_calls done later old next end same act made rest =
+    subst (λ calls. IsRun links old calls (done ∷ later) end) (sym same) (act, (next, made, rest))
 
 -- ---- the entries of a run follow each other by steps, so the laws hold for them: the history theorem
 
@@ -46,7 +42,7 @@ restore_admissible s asked sent no_call no_byte = grind arith
 op_of-restore : (call : Act) → not (is_restore call) ≡ false → op_of call ≡ operation.Restore
 op_of-restore call is = grind arith
 
-module _ {T E EV W : Type 0} (trigger : Link T (TriggerAnswer E)) (events : Link EV Event) (contents : W → Option (List ℕ)) where
+module _ {T E EV W : Type 0} (links : PortLinks T E EV W) where
   -- ---- each call is a step
 
   record EntryFollows (s : State) (made : Act) (asked : Asked) (sent : Sent) (reply : Reply T EV W E) (next : State) : Type 0 where
@@ -57,7 +53,7 @@ module _ {T E EV W : Type 0} (trigger : Link T (TriggerAnswer E)) (events : Link
 
   EntryFollows-call :
       (call : Call T EV W) (asked : Asked) (sent : Sent) (reply : Reply T EV W E) (old next : Port T EV W) →
-      IsCallStep trigger events contents call asked sent reply old next → EntryFollows old.state (act_of call) asked sent reply next.state
+      IsCallStep links call asked sent reply old next → EntryFollows old.state (act_of call) asked sent reply next.state
   EntryFollows-call (Call.Read offset) asked sent (Byte byte) old next h = record { admissible = h.admissible; response = h.response; state = h.state; of = tt }
   EntryFollows-call (Call.Write offset value) asked sent (Wrote answer) old next h = record { admissible = h.admissible; response = h.response; state = h.state; of = tt }
   EntryFollows-call (Call.Enqueue bytes) asked sent (Enqueued answer) old next h = record { admissible = h.admissible; response = h.response; state = h.state; of = tt }
@@ -69,14 +65,14 @@ module _ {T E EV W : Type 0} (trigger : Link T (TriggerAnswer E)) (events : Link
   EntryFollows-call _ asked sent _ old next h = absurd h
 
   follows : (call : Call T EV W) (done : Done T EV W E) (old next : Port T EV W) → done.act ≡ act_of call
-      → IsCallStep trigger events contents call done.asked done.sent done.reply old next → EntryFollows old.state done.act done.asked done.sent done.reply next.state
+      → IsCallStep links call done.asked done.sent done.reply old next → EntryFollows old.state done.act done.asked done.sent done.reply next.state
   follows call done old next act made =
       subst (λ act. EntryFollows old.state act done.asked done.sent done.reply next.state) (sym act)
       (EntryFollows-call call done.asked done.sent done.reply old next made)
 
   -- the records of a run follow each other by steps, one for each call
   steps_of_run :
-      (calls : List (Call T EV W)) (records : List (Done T EV W E)) (old end : Port T EV W) → IsRun trigger events contents old calls records end →
+      (calls : List (Call T EV W)) (records : List (Done T EV W E)) (old end : Port T EV W) → IsRun links old calls records end →
       StepsFollow old.state (entries_of records) end.state × RecordsOf calls records
   steps_of_run [] [] old end run = (ap (λ (port : Port T EV W). port.state) run, tt)
   steps_of_run (call ∷ calls) (done ∷ later) old end run =
@@ -130,113 +126,150 @@ module _ {T E EV W : Type 0} (trigger : Link T (TriggerAnswer E)) (events : Link
       (λ restores. ReadsAre-without_restores start (entry_of done ∷ trace) other later
       (ap (λ op. op_and_asked op done.asked ++ ops_and_asked trace) (op_of-restore done.act restores) ∙ same) are.1)
 
-  -- ---- the calls of the objects
+  -- a call adds its entry to the trace
+  trace_of_next :
+      (start : State) (segment : Segment T E EV W) (call : Call T EV W) (entry : TraceEntry) (reply : Reply T EV W E) →
+      trace_in (next_segment start segment call entry reply) ≡ entry ∷ trace_in segment
+  trace_of_next start segment (Call.Restore t ev w) entry (Restored old) = refl
+  trace_of_next start segment (Call.Restore t ev w) entry _ = refl
+  trace_of_next start segment call entry reply = refl
 
-  abbrev Object : Type 0
-  Object = Three T EV (WriterOut W)
-
-  abbrev link : Link Object (ObjectCall E)
-  link = ThreeLink trigger events (WriterLink contents)
+  -- ---- what follows at the end of each segment
 
   module _
-      (no_event : (x y : EV) → events x [] y ↔ (x ≡ y))
-      (joined : (x y z : Object) (first second : List (ObjectCall E)) → link x first y → link y second z → link x (first ++ second) z)
-      (start : State) (coherent : Coherent start) where
-    abbrev Made-by :
-        (trace : List TraceEntry) (segment : Segment Object E) (call : Call T EV W) (made : Act) (asked : Asked) (sent : Sent)
-        (reply : Reply T EV W E) (next : Port T EV W) → Type 0
-    Made-by trace segment call made asked sent reply next =
-        let entry : TraceEntry = record { op = op_of made; asked = asked; sent = sent } in
-        Objects-next link (ObjectsAtRestore trigger events contents start trace segment call reply)
-        (λ sending. next_segment trigger events contents start trace segment call entry sending reply) (op_of made) sent
-        (fault_in_reply reply) (one_port next).objects
+      (start : State) (Holds Follows : (segment : Segment T E EV W) (port : Port T EV W) → Type 0)
+      (follow : (segment : Segment T E EV W) (port : Port T EV W) → Holds segment port → Follows segment port) where
+    AtRestore-follow :
+        (segment : Segment T E EV W) (call : Call T EV W) (reply : Reply T EV W E) →
+        AtRestore links start Holds segment call reply → AtRestore links start Follows segment call reply
+    AtRestore-follow segment (Call.Restore t ev w) (Restored old) at = (at.0, follow segment old at.1, at.2)
+    AtRestore-follow segment (Call.Restore t ev w) (NotRestored refused) at = at
+    AtRestore-follow segment call reply at = tt
 
+    SegmentsAre-follow :
+        (calls : List (Call T EV W)) (records : List (Done T EV W E)) (segment : Segment T E EV W) (end : Port T EV W) →
+        SegmentsAre links start Holds segment calls records end → SegmentsAre links start Follows segment calls records end
+    SegmentsAre-follow [] [] segment end are = follow segment end are
+    SegmentsAre-follow (call ∷ calls) (done ∷ later) segment end are =
+        (AtRestore-follow segment call done.reply are.0, SegmentsAre-follow calls later _ end are.1)
+    SegmentsAre-follow [] (done ∷ later) segment end are = absurd are
+    SegmentsAre-follow (call ∷ calls) [] segment end are = absurd are
+
+  -- ---- the calls of the objects
+
+  module _
+      (no_event : (x y : EV) → links.events x [] y ↔ (x ≡ y))
+      (calls_joined : (x y z : T) (first second : List (TriggerAnswer E)) → links.trigger x first y → links.trigger y second z → links.trigger x (first ++ second) z)
+      (events_joined : (x y z : EV) (first second : List Event) → links.events x first y → links.events y second z → links.events x (first ++ second) z)
+      (start : State) (coherent : Coherent start) where
     restoring : (trace : List TraceEntry) (s : State) → s ≡ state_of_history start trace → restore_calls s ≡ restore_calls_due start trace
     restoring trace s here = ap restore_calls here ∙ (step_law start trace coherent).restoring
 
-    -- three objects of which the trigger alone was called
-    called : (t : T) (ev : EV) (w : W) (answers : List (TriggerAnswer E)) (next : Port T EV W) → trigger t answers next.trigger →
-        next.events ≡ ev → next.out ≡ w → raised link (as_one t ev w) answers (one_port next).objects
-    called t ev w answers next was same_events same_out = record {
-      trigger_linked = subst (λ made. trigger t made next.trigger) (sym (answers_in_order [] [] answers)) was;
-      events_linked = subst (λ made. events ev made next.events) (sym (events_in_order [] [] answers)) ((no_event ev next.events).1 (sym same_events));
-      out_linked = subst (λ made. WriterCalls contents w made next.out) (sym (out_in_order [] [] answers)) (sym same_out);
-    }
-
-    Objects-call :
-        (trace : List TraceEntry) (segment : Segment Object E) (call : Call T EV W) (asked : Asked) (sent : Sent)
-        (reply : Reply T EV W E) (old next : Port T EV W) →
-        old.state ≡ state_of_history start trace → link segment.initial segment.calls (one_port old).objects →
-        IsCallStep trigger events contents call asked sent reply old next → Made-by trace segment call (act_of call) asked sent reply next
-    Objects-call trace segment (Call.Read offset) asked sent (Byte byte) old next here before h =
-        own_calls link joined start coherent trace segment _ asked sent _ _ _ (one_port old) (one_port next) here before h
-    Objects-call trace segment (Call.Write offset value) asked sent (Wrote answer) old next here before h =
-        own_calls link joined start coherent trace segment _ asked sent _ _ _ (one_port old) (one_port next) here before h
-    Objects-call trace segment (Call.Enqueue bytes) asked sent (Enqueued answer) old next here before h =
-        own_calls link joined start coherent trace segment _ asked sent _ _ _ (one_port old) (one_port next) here before h
-    Objects-call trace segment Call.CharacterTimeout asked sent (TimedOut answer) old next here before h =
-        own_calls link joined start coherent trace segment _ asked sent _ _ _ (one_port old) (one_port next) here before h
-    Objects-call trace segment (Call.Restore t ev w) asked sent (Restored was) old next here before h =
-        let due = subst (λ due. trigger t (all_ok due) next.trigger) (restoring trace old.state here) h.4 in
+    -- a step adds to a segment what it calls
+    IsServed-step :
+        (segment : Segment T E EV W) (op : Op) (asked : Asked) (sent : Sent) (reply : Response) (refusal : Option E) (old next : Port T EV W) →
+        old.state ≡ state_of_history start (trace_in segment) → IsServed links start segment old →
+        IsPortStep links op asked sent reply refusal old next →
+        IsServed links start (extended start segment (record { op = op; asked = asked; sent = sent }) refusal) next
+    IsServed-step segment op asked sent reply refusal old next here served made =
+        let trace = trace_in segment in
+        let entry : TraceEntry = record { op = op; asked = asked; sent = sent } in
+        let agrees = (step_law start trace coherent).steps entry (subst (λ s. IsTrue (is_admissible s op asked sent)) here made.admissible) in
         record {
-          at_restore = (
-            ap (λ (port : Port T EV W). port.state) h.2 ∙ here,
-            subst (λ (port : Port T EV W). link segment.initial segment.calls (one_port port).objects) (sym h.2) before,
-            (next.trigger, due),
-          );
-          sending = NotSent;
-          by = record { outcome = h.1; answered = tt };
-          linked = called t ev w _ next due h.5 h.6;
+          trigger = calls_joined segment.trigger old.trigger next.trigger segment.answers (answers_of asked refusal) served.trigger made.trigger;
+          events =
+              events_joined segment.events old.events next.events segment.reported _ served.events
+              (subst (λ made. links.events old.events made next.events) (ap (λ s. step_events s op sent) here ∙ agrees.events) made.events);
+          out =
+              WriterLink-append links.contents (outcomes segment.newest) (outcome_of sent)
+              (output start segment.before segment.newest) (sent_by (kind_at start trace op)) segment.out old.out next.out served.out
+              (subst (λ bytes. WriterLink links.contents (outcome_of sent) bytes old.out next.out) agrees.output made.out);
         }
-    Objects-call trace segment (Call.Restore t ev w) asked sent (NotRestored refused) old next here before h = record {
-      at_restore = (
-        subst (λ due. RefusesOwnState trigger due refused.error t refused.trigger) (restoring trace old.state here) h.2,
+
+    abbrev Made-by :
+        (segment : Segment T E EV W) (call : Call T EV W) (made : Act) (asked : Asked) (sent : Sent) (reply : Reply T EV W E)
+        (next : Port T EV W) → Type 0
+    Made-by segment call made asked sent reply next =
+        AtRestore links start (IsServed links start) segment call reply
+        × IsServed links start (next_segment start segment call (record { op = op_of made; asked = asked; sent = sent }) reply) next
+
+    -- a restore that is refused sends nothing
+    nothing_sent :
+        (segment : Segment T E EV W) (sent : Sent) (old : Port T EV W) → sent ≡ Sent.Nothing → IsServed links start segment old →
+        WriterLink links.contents (outcomes segment.newest ++ outcome_of sent) (output start segment.before segment.newest ++ []) segment.out old.out
+    nothing_sent segment sent old none served =
+        WriterLink-append links.contents (outcomes segment.newest) (outcome_of sent) (output start segment.before segment.newest) []
+        segment.out old.out old.out served.out
+        (subst (λ sent. WriterLink links.contents (outcome_of sent) [] old.out old.out) (sym none) refl)
+
+    Made-by-call :
+        (segment : Segment T E EV W) (call : Call T EV W) (asked : Asked) (sent : Sent) (reply : Reply T EV W E) (old next : Port T EV W) →
+        old.state ≡ state_of_history start (trace_in segment) → IsServed links start segment old →
+        IsCallStep links call asked sent reply old next → Made-by segment call (act_of call) asked sent reply next
+    Made-by-call segment (Call.Read offset) asked sent (Byte byte) old next here served h =
+        (tt, IsServed-step segment _ asked sent _ _ old next here served h)
+    Made-by-call segment (Call.Write offset value) asked sent (Wrote answer) old next here served h =
+        (tt, IsServed-step segment _ asked sent _ _ old next here served h)
+    Made-by-call segment (Call.Enqueue bytes) asked sent (Enqueued answer) old next here served h =
+        (tt, IsServed-step segment _ asked sent _ _ old next here served h)
+    Made-by-call segment Call.CharacterTimeout asked sent (TimedOut answer) old next here served h =
+        (tt, IsServed-step segment _ asked sent _ _ old next here served h)
+    Made-by-call segment (Call.Restore t ev w) asked sent (Restored was) old next here served h =
+        let due = subst (λ due. links.trigger t (all_ok due) next.trigger) (restoring (trace_in segment) old.state here) h.4 in (
+          (
+            ap (λ (port : Port T EV W). port.state) h.2 ∙ here,
+            subst (IsServed links start segment) (sym h.2) served,
+            (next.trigger, due),
+          ),
+          record { trigger = due; events = (no_event ev next.events).1 (sym h.5); out = sym h.6 },
+        )
+    Made-by-call segment (Call.Restore t ev w) asked sent (NotRestored refused) old next here served h = (
+      (
+        subst (λ due. RefusesOwnState links.trigger due refused.error t refused.trigger) (restoring (trace_in segment) old.state here) h.2,
         h.3,
         h.4,
-      );
-      sending = NotSent;
-      by = record { outcome = h.1; answered = tt };
-      linked = subst (λ (port : Port T EV W). link segment.initial segment.calls (one_port port).objects) (sym h.5) before;
-    }
-    Objects-call trace segment _ asked sent _ old next here before h = absurd h
+      ),
+      subst (IsServed links start (record segment { newest = record { op = operation.Restore; asked = asked; sent = sent } ∷ segment.newest })) (sym h.5)
+          (record { trigger = served.trigger; events = served.events; out = nothing_sent segment sent old h.1 served }),
+    )
+    Made-by-call segment _ asked sent _ old next here served h = absurd h
 
-    ObjectsAre-run :
-        (trace : List TraceEntry) (segment : Segment Object E) (calls : List (Call T EV W)) (records : List (Done T EV W E)) (old end : Port T EV W) →
-        old.state ≡ state_of_history start trace → link segment.initial segment.calls (one_port old).objects →
-        IsRun trigger events contents old calls records end → ObjectsAre trigger events contents start trace segment calls records end
-    ObjectsAre-run trace segment [] [] old end here before run =
-        subst (λ (port : Port T EV W). link segment.initial segment.calls (one_port port).objects) (sym run) before
-    ObjectsAre-run trace segment (call ∷ calls) (done ∷ later) old end here before run =
+    SegmentsAre-run :
+        (calls : List (Call T EV W)) (records : List (Done T EV W E)) (segment : Segment T E EV W) (old end : Port T EV W) →
+        old.state ≡ state_of_history start (trace_in segment) → IsServed links start segment old →
+        IsRun links old calls records end → SegmentsAre links start (IsServed links start) segment calls records end
+    SegmentsAre-run [] [] segment old end here served run = subst (IsServed links start segment) (sym run) served
+    SegmentsAre-run (call ∷ calls) (done ∷ later) segment old end here served run =
         let next = run.1.0 in
         let one = follows call done old next run.0 run.1.1 in
-        let made = subst (λ act. Made-by trace segment call act done.asked done.sent done.reply next) (sym run.0)
-        (Objects-call trace segment call done.asked done.sent done.reply old next here before run.1.1) in
-        let on = (call_law start trace (entry_of done) (response_of done.reply) old.state next.state coherent here one.admissible one.response one.state).state in (
-          made.at_restore,
-          (made.sending, made.by, ObjectsAre-run (entry_of done ∷ trace) _ calls later next end on made.linked run.1.2),
+        let made = subst (λ act. Made-by segment call act done.asked done.sent done.reply next) (sym run.0)
+        (Made-by-call segment call done.asked done.sent done.reply old next here served run.1.1) in
+        let on = (call_law start (trace_in segment) (entry_of done) (response_of done.reply) old.state next.state coherent here one.admissible one.response one.state).state in (
+          made.0,
+          SegmentsAre-run calls later _ next end
+              (on ∙ ap (state_of_history start) (sym (trace_of_next start segment call (entry_of done) done.reply))) made.1 run.1.2,
         )
-    ObjectsAre-run trace segment [] (done ∷ later) old end here before run = absurd run
-    ObjectsAre-run trace segment (call ∷ calls) [] old end here before run = absurd run
+    SegmentsAre-run [] (done ∷ later) segment old end here served run = absurd run
+    SegmentsAre-run (call ∷ calls) [] segment old end here served run = absurd run
 
 -- ---- the history theorem
 
 pub HistoryTheorem-run :
-    {T E EV W : Type 0} (trigger : Link T (TriggerAnswer E)) (events : Link EV Event) (contents : W → Option (List ℕ))
-    (no_call : (x y : T) → trigger x [] y ↔ (x ≡ y)) (no_event : (x y : EV) → events x [] y ↔ (x ≡ y))
-    (calls_joined : (x y z : T) (first second : List (TriggerAnswer E)) → trigger x first y → trigger y second z → trigger x (first ++ second) z)
-    (events_joined : (x y z : EV) (first second : List Event) → events x first y → events y second z → events x (first ++ second) z)
+    {T E EV W : Type 0} (links : PortLinks T E EV W)
+    (no_call : (x y : T) → links.trigger x [] y ↔ (x ≡ y)) (no_event : (x y : EV) → links.events x [] y ↔ (x ≡ y))
+    (calls_joined : (x y z : T) (first second : List (TriggerAnswer E)) → links.trigger x first y → links.trigger y second z → links.trigger x (first ++ second) z)
+    (events_joined : (x y z : EV) (first second : List Event) → links.events x first y → links.events y second z → links.events x (first ++ second) z)
     (start : Port T EV W) (calls : List (Call T EV W)) (records : List (Done T EV W E)) (end : Port T EV W) →
-    IsRun trigger events contents start calls records end → Coherent start.state →
-    HistoryTheorem trigger events contents start calls records end
-HistoryTheorem-run trigger events contents no_call no_event calls_joined events_joined start calls records end run coherent =
+    IsRun links start calls records end → Coherent start.state → HistoryTheorem links start calls records end
+HistoryTheorem-run links no_call no_event calls_joined events_joined start calls records end run coherent =
     let s = start.state in
     let trace = trace_of records in
-    let steps = steps_of_run trigger events contents calls records start end run in
+    let steps = steps_of_run links calls records start end run in
     let agrees = whole_run_law s end.state (entries_of records) coherent steps.0 in
-    let reads = ReadsAre-run trigger events contents s [] calls records steps.1 agrees.responses in
-    let joined = ThreeLink-append trigger events (WriterLink contents) calls_joined events_joined (WriterLink-append contents) in
-    let unused = (ThreeLink-nil trigger events (WriterLink contents) no_call no_event (WriterLink-nil contents) (one_port start).objects (one_port start).objects).1 refl in
-    let objects = ObjectsAre-run trigger events contents no_event joined s coherent [] _ calls records start end (state_law s [] coherent) unused run in
+    let reads = ReadsAre-run links s [] calls records steps.1 agrees.responses in
+    let unused : IsServed links s (first_segment start) start =
+    record { trigger = (no_call start.trigger start.trigger).1 refl; events = (no_event start.events start.events).1 refl; out = refl } in
+    let objects = SegmentsAre-run links no_event calls_joined events_joined s coherent calls records (first_segment start) start end (state_law s [] coherent) unused run in
     record {
       records_of_calls = steps.1;
       reads = reads;
@@ -248,14 +281,11 @@ HistoryTheorem-run trigger events contents no_call no_event calls_joined events_
       waiting = waiting_bytes_law s trace;
       timeouts = timeouts_show_law s trace agrees.well_formed;
       objects = objects;
-      output =
-          OutputsAre-objects trigger events contents s (OutputIs (WriterCalls contents) s) (λ _ _ output. output)
-          [] [] _ calls records end tt steps.1 agrees.well_formed objects;
       known_output =
-          OutputsAre-objects trigger events contents s (KnownOutputIs contents s)
-          (λ segment now output. known_output_law contents segment.initial now _ _ output)
-          [] [] _ calls records end tt steps.1 agrees.well_formed objects;
-      reads_alone = ReadsAre-without_restores trigger events contents s [] [] records refl reads;
+          SegmentsAre-follow links s (IsServed links s) (TakesOutput links s)
+          (λ segment port served. known_output_law links.contents segment.out port.out _ _ served.out)
+          calls records (first_segment start) end objects;
+      reads_alone = ReadsAre-without_restores links s [] [] records refl reads;
       end_state = agrees.state;
       end_coherent = agrees.coherent;
     }

@@ -1,10 +1,13 @@
 -- A call that leaves IER 0 calls no trigger, and one that sends no byte leaves the writer.
-use Rattle.std.proofs.Common.{◌≡◌, ℕ, Bool, true, false, ◌&&◌, List, [], refl, ap, sym, ◌∙◌, subst, IsTrue, Option, ◌↔◌, Result, Ok, Err, OnOk, ◌-◌, ◌<◌, min, ◌||◌, ◌==◌, ◌++◌, length, take, arith, Some, IfErr, nat_le, length-append, if◌then◌else◌, leb-true}
+use Rattle.std.proofs.Common.{◌≡◌, ℕ, Bool, true, false, ◌&&◌, List, [], refl, ap, sym, ◌∙◌, subst, IsTrue, Option, ◌↔◌, Result, Ok, Err, OnOk, ◌-◌, ◌<◌, min, ◌||◌, ◌==◌, ◌++◌, length, take, arith, Some, IfErr, nat_le, not, ◌∷◌, length-append, if◌then◌else◌, leb-true}
 use Rattle.std.specs.Bool.{beq}
 use Rattle.std.proofs.lemmas.List.{length-take, take_min}
 use Rattle.vm_superio.specs.Serial.{Coherent, is_line_up, Error, Port, write_response, enqueue_response, timeout_response, failure_response, refusal_in_result, Trigger, IOError, FullFifo, Memory, Asked, Sent, Op, Response, Write, Enqueue, CharacterTimeout, is_sent, is_lost, ends_in_refusal, WriteOk, TriggerRefused, WriterFailed, sent_by, write_kind, EnqueueOk, TimeoutOk, FifoFull, OutOfMemory, is_refused_at_once, has_bits, State, not_empty, SameSettings, Register, register_at, is_dlab, is_loopback, receive_bytes, bytes_that_fit, enqueued_bytes, step_calls, kind_in_state, answers_all, sends_byte, step, write_step}
-use Rattle.vm_superio.specs.Links.{answers_of, OutCall}
-use Rattle.vm_superio.specs.Links.Writer.{PortLinks, bytes_sent, outcome_of, AreSendings, taken_calls}
+use Rattle.std.specs.Io.KnownBytes.{Appends}
+use Rattle.std.specs.List.{list_all}
+use Rattle.vm_superio.specs.Links.{Contents, answers_of}
+use Rattle.vm_superio.specs.Links.Writer.{PortLinks, bytes_sent, outcome_of, WriterLink}
+use Rattle.vm_superio.proofs.Lemmas.{known_output_law}
 use Rattle.vm_superio.specs.Serial.Step.{IsPortStep, ShowsMore, WriteFate, EnqueueFate, TimeoutFate}
 use Rattle.vm_superio.proofs.Lemmas.Serial.Laws.OneCall.{received_bytes}
 use Rattle.vm_superio.proofs.Lemmas.Serial.{length-answers_of-step}
@@ -40,41 +43,39 @@ unsent : (answered sends : Bool) (sent : Sent) → sends ≡ false → IsTrue (a
     → sent ≡ Sent.Nothing
 unsent answered sends sent none made = grind arith
 
-no_outcome : (bytes : List ℕ) (calls : List OutCall) → AreSendings [] bytes calls → calls ≡ []
-no_outcome bytes calls sends = grind arith
+unchanged : {W : Type 0} (contents : Contents W) (bytes : List ℕ) (old new : W) → WriterLink contents [] bytes old new → new ≡ old
+unchanged contents [] old new link = sym link
+unchanged contents (byte ∷ bytes) old new link = absurd link
 
 pub silent : {T E EV W : Type 0} {links : PortLinks T E EV W} {op : Op} {asked : Asked} {sent : Sent} {reply : Response}
     {refusal : Option E} {old new : Port T EV W} → IsPortStep links op asked sent reply refusal old new
-    → ((x y : W) → links.out x [] y ↔ (x ≡ y)) → sends_byte old.state op ≡ false → new.out ≡ old.out
-silent {links = links} {op = op} {asked = asked} {sent = sent} {old = old} {new = new} made no_call none =
+    → sends_byte old.state op ≡ false → new.out ≡ old.out
+silent {links = links} {op = op} {asked = asked} {sent = sent} {old = old} {new = new} made none =
     let nothing = unsent (answers_all (step_calls old.state op) asked) (sends_byte old.state op) sent none made.admissible in
-    let no_calls = no_outcome (bytes_sent op sent) made.out.calls
-    (subst (λ outcome. AreSendings (outcome_of outcome) (bytes_sent op sent) made.out.calls) nothing made.out.sends) in
-    sym ((no_call _ _).0 (subst (λ calls. links.out old.out calls new.out) no_calls made.out.linked))
+    unchanged links.contents (bytes_sent op sent) old.out new.out
+    (subst (λ outcome. WriterLink links.contents (outcome_of outcome) (bytes_sent op sent) old.out new.out) nothing made.out)
 
 -- `Ok` says that nothing was lost, and then the output took all that was sent
 kept_by_ok : (is_refused : Bool) (sent : Sent)
     → WriteOk ≡ (if is_refused then TriggerRefused else (if is_lost sent then WriterFailed else WriteOk)) → is_lost sent ≡ false
 kept_by_ok is_refused sent ok = grind arith
 
-all_taken : (offset value : ℕ) (sent : Sent) (calls : List OutCall) → is_lost sent ≡ false
-    → AreSendings (outcome_of sent) (bytes_sent (Write offset value) sent) calls
-    → calls ≡ taken_calls (bytes_sent (Write offset value) sent)
-all_taken offset value sent calls kept made = grind arith
+none_lost : (sent : Sent) → is_lost sent ≡ false → IsTrue (list_all (λ outcome. not (is_lost outcome)) (outcome_of sent))
+none_lost sent kept = grind arith
 
--- so a write that returns `Ok` means that the output took what it sends
+-- so a write that returns `Ok` means that the writer took what it sends
 pub sends : {T E EV W : Type 0} {links : PortLinks T E EV W} {offset value : ℕ} {asked : Asked} {sent : Sent}
     {refusal : Option E} {old new : Port T EV W} (result : Result (Unit {0}) (Error E))
     → IsPortStep links (Write offset value) asked sent (write_response result) refusal old new
-    → OnOk result (links.out old.out (taken_calls (sent_by (kind_in_state old.state (Write offset value)))) new.out)
+    → OnOk result (Appends (links.contents old.out) (links.contents new.out) (sent_by (kind_in_state old.state (Write offset value))))
 sends (Err error) made = tt
 sends {links = links} {offset = offset} {value = value} {asked = asked} {sent = sent} {old = old} {new = new} (Ok done) made =
     let s = old.state in
     let outcome = (and_parts (answers_all (step_calls s (Write offset value)) asked) _ made.admissible).1 in
-    subst (λ calls. links.out old.out calls new.out)
-    (all_taken offset value sent made.out.calls (kept_by_ok (ends_in_refusal asked) sent made.response) made.out.sends
-    ∙ ap taken_calls (call_written (is_dlab s.line_control) (is_loopback s.modem_control) (Write offset value) sent outcome))
-    made.out.linked
+    subst (Appends (links.contents old.out) (links.contents new.out))
+    (call_written (is_dlab s.line_control) (is_loopback s.modem_control) (Write offset value) sent outcome)
+    (known_output_law links.contents old.out new.out (outcome_of sent) (bytes_sent (Write offset value) sent) made.out
+    (none_lost sent (kept_by_ok (ends_in_refusal asked) sent made.response)))
 
 -- a step keeps a coherent state coherent
 pub keeps_coherent : {T E EV W : Type 0} {links : PortLinks T E EV W} {op : Op} {asked : Asked} {sent : Sent} {reply : Response}

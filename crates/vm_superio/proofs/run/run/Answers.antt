@@ -1,6 +1,7 @@
 -- A call that was made goes from the run that is left to the run so far. From a coherent start it is a history.
 use Rattle.std.proofs.Common.{◌∷◌, refl, append_assoc, append-nil, arith, []}
 use Rattle.std.proofs.lemmas.List.{nil_from_length}
+use Rattle.vm_superio.specs.Links.Writer.{port_links}
 use Rattle.vm_superio.proofs.Lemmas.Serial.Run.{IsRun-step, HistoryTheorem-run}
 use Rattle.vm_superio.proofs.run.run.Goals as goal
 
@@ -18,7 +19,7 @@ loop-call-preserved g c =
     record {
       room = omega (arith, before.room, c.push_reserved.ensures.len, c.push_reserved.ensures.capacity, c.in-Some.ensures.cases);
       whole = λ later end h.
-          let step = IsRun-step g.T.Trigger.link g.EV.SerialEvents.link g.W.Write.contents c.in-Some.call c.pop_front.new.self.items
+          let step = IsRun-step (port_links g.T.Trigger.link g.EV.SerialEvents.link g.W.Write.contents) c.in-Some.call c.pop_front.new.self.items
           c.loop-call.calls.items done later _ next end c.in-Some.ensures.items c.make.ensures.act c.make.ensures.made h in
           rw (c.push_reserved.ensures.items, append_assoc) (before.whole (done ∷ later) end step);
     }
@@ -31,6 +32,6 @@ returns-clause-run g c =
 
 pub returns-clause-history : goal.returns-clause-history
 returns-clause-history g c =
-    HistoryTheorem-run g.T.Trigger.link g.EV.SerialEvents.link g.W.Write.contents
+    HistoryTheorem-run (port_links g.T.Trigger.link g.EV.SerialEvents.link g.W.Write.contents)
     g.met.T.Trigger.no_call g.met.EV.SerialEvents.no_event g.met.T.Trigger.joined g.met.EV.SerialEvents.joined
     _ c.args.calls.items c.loop-call.done.items _ (returns-clause-run g c)

@@ -1,15 +1,14 @@
 -- The history theorem: what a run from a coherent start shows, by the history alone.
-use Rattle.std.specs.Prelude.{◌≡◌, ℕ, List, [], ◌++◌, Option, IsTrue}
-use Rattle.vm_superio.specs.Serial.{Port, one_port, Event, Coherent}
-use Rattle.vm_superio.specs.Links.{Link, TriggerAnswer, WriterCalls}
+use Rattle.std.specs.Prelude.{◌≡◌, List, [], ◌++◌, IsTrue}
+use Rattle.vm_superio.specs.Serial.{Port, Coherent}
+use Rattle.vm_superio.specs.Links.Writer.{PortLinks}
 use Rattle.vm_superio.specs.Serial.History.{ResponsesAre, bytes_read, state_of_history, is_well_formed, IsWithinBound, WaitingBytesShow, TimeoutsShow, taken_bytes, accepted_bytes}
 use Rattle.vm_superio.specs.Serial.Run.{Call, Done, RecordsOf, entries_of, trace_of, without_restores, ReadsAre}
-use Rattle.vm_superio.specs.Serial.Run.Segments.{ObjectsAre, OutputIs, KnownOutputIs, OutputsAre}
+use Rattle.vm_superio.specs.Serial.Run.Segments.{first_segment, IsServed, TakesOutput, SegmentsAre}
 
 -- a run of these calls with these records, from a port to a port
 pub record HistoryTheorem
-    {T E EV W : Type 0} (trigger_link : Link T (TriggerAnswer E)) (events_link : Link EV Event)
-    (contents : W → Option (List ℕ)) (start : Port T EV W) (calls : List (Call T EV W))
+    {T E EV W : Type 0} (links : PortLinks T E EV W) (start : Port T EV W) (calls : List (Call T EV W))
     (records : List (Done T EV W E)) (end : Port T EV W) : Type 0 where
   -- there is a record of each call
   pub records_of_calls : RecordsOf calls records
@@ -32,20 +31,13 @@ pub record HistoryTheorem
   pub waiting : WaitingBytesShow start.state (trace_of records)
   -- a character timeout makes RDA pending while bytes are held and enabled, and calls the trigger once for it
   pub timeouts : TimeoutsShow start.state (trace_of records)
-  -- the objects of each segment have had these calls and no other, in this order: a function of the start, the calls
-  -- and the answers. A byte is lost exactly if its put or its flush failed. A restore gives back the old port, its state
-  -- unchanged, and calls the new trigger for what is due
-  pub objects :
-      ObjectsAre trigger_link events_link contents start.state []
-      (record { initial = (one_port start).objects; calls = [] }) calls records end
-  -- so output goes to each writer byte for byte, each byte put and then flushed
-  pub output :
-      OutputsAre (OutputIs (WriterCalls contents) start.state)
-      (record { before = []; newest = []; initial = start.out }) calls records end.out
-  -- and a writer of known contents took the output, while no byte is recorded lost
+  -- each object of a segment has had its calls and no other, in order: a function of the start, the calls and the
+  -- answers. Output goes to each writer byte for byte. A restore gives back the old port, its state unchanged, and calls
+  -- the new trigger for what is due
+  pub objects : SegmentsAre links start.state (IsServed links start.state) (first_segment start) calls records end
+  -- so a writer of known contents took the output, while no byte is recorded lost
   pub known_output :
-      OutputsAre (KnownOutputIs contents start.state) (record { before = []; newest = []; initial = start.out })
-      calls records end.out
+      SegmentsAre links start.state (TakesOutput links start.state) (first_segment start) calls records end
   pub reads_alone : ReadsAre start.state [] (without_restores records)
   -- the end is the state that the trace leads to, and it is coherent
   pub end_state : end.state ≡ state_of_history start.state (trace_of records)

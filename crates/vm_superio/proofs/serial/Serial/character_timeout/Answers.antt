@@ -1,44 +1,39 @@
--- A step over three objects as one is a step of each. The other clauses follow from it.
+-- The clauses follow from the step.
 use Rattle.std.proofs.Common.{refl, sym, subst, ap, ◌∙◌}
-use Rattle.vm_superio.specs.Serial.{State, ShowsHeldBytes}
+use Rattle.vm_superio.specs.Serial.{State, ShowsHeldBytes, CharacterTimeout, timeout_response, refusal_in_result}
 use Rattle.superio_core.proofs.Lemmas.Serial.Step.{shows_held_bytes}
-use Rattle.vm_superio.specs.Links.{WriterCalls-nil}
-use Rattle.vm_superio.proofs.Lemmas.Serial.{IsPortStep-three, IsTimeoutStep-three}
+use Rattle.vm_superio.specs.Serial.Step.{IsPortStep}
+use Rattle.vm_superio.specs.Links.Writer.{port_links}
+use Rattle.vm_superio.proofs.Lemmas.Serial.{length-answers_of-step}
 use Rattle.vm_superio.proofs.Lemmas.Serial.Step.{quiet, silent, keeps_coherent, timeout_fate}
 use Rattle.vm_superio.proofs.serial.Serial.character_timeout.Goals as goal
 
 pub returns-clause-step : goal.returns-clause-step
 returns-clause-step g c =
-    let call = c.recorded_timeout.ensures in
-    rw (← c.self.view_is) (IsTimeoutStep-three g.T.Trigger.link g.EV.SerialEvents.link g.W.Write.contents call.no_byte call.step)
+    let call = c.recorded_timeout in
+    let links = port_links g.T.Trigger.link g.EV.SerialEvents.link g.W.Write.contents in
+    let made = subst (λ sent. IsPortStep links CharacterTimeout call.result.asked sent (timeout_response call.result.reply)
+    (refusal_in_result call.result.reply) c.args.self.now call.new.self) call.ensures.no_byte call.ensures.step in
+    record { asked = call.result.asked; step = made; calls = length-answers_of-step made }
 
 pub returns-clause-pending : goal.returns-clause-pending
 returns-clause-pending g c =
     let call = c.recorded_timeout in
-    subst ShowsHeldBytes (sym call.ensures.step.state) (shows_held_bytes c.self.inside.port.state call.result.asked)
+    subst ShowsHeldBytes (sym call.ensures.step.state) (shows_held_bytes c.args.self.now.state call.result.asked)
 
 pub returns-clause-fate : goal.returns-clause-fate
-returns-clause-fate g c =
-    let made = IsPortStep-three g.T.Trigger.link g.EV.SerialEvents.link g.W.Write.contents c.recorded_timeout.ensures.step in
-    rw (← c.self.view_is) (timeout_fate c.recorded_timeout.result.reply made)
+returns-clause-fate g c = timeout_fate c.recorded_timeout.result.reply c.recorded_timeout.ensures.step
 
 pub returns-clause-quiet : goal.returns-clause-quiet
 returns-clause-quiet g c =
-    let made = IsPortStep-three g.T.Trigger.link g.EV.SerialEvents.link g.W.Write.contents c.recorded_timeout.ensures.step in
-    let enable = ap (λ (s : State). s.interrupt_enable) made.state in
-    rw (← c.self.view_is) (λ off. quiet made g.met.T.Trigger.no_call (enable ∙ off))
+    let made = c.recorded_timeout.ensures.step in
+    λ off. quiet made g.met.T.Trigger.no_call (ap (λ (s : State). s.interrupt_enable) made.state ∙ off)
 
 pub returns-clause-events : goal.returns-clause-events
-returns-clause-events g c =
-    let made = IsPortStep-three g.T.Trigger.link g.EV.SerialEvents.link g.W.Write.contents c.recorded_timeout.ensures.step in
-    rw (← c.self.view_is) (sym ((g.met.EV.SerialEvents.no_event _ _).0 made.events))
+returns-clause-events g c = sym ((g.met.EV.SerialEvents.no_event _ _).0 c.recorded_timeout.ensures.step.events)
 
 pub returns-clause-out : goal.returns-clause-out
-returns-clause-out g c =
-    let made = IsPortStep-three g.T.Trigger.link g.EV.SerialEvents.link g.W.Write.contents c.recorded_timeout.ensures.step in
-    rw (← c.self.view_is) (silent made (WriterCalls-nil g.W.Write.contents) refl)
+returns-clause-out g c = silent c.recorded_timeout.ensures.step refl
 
 pub returns-clause-coherent : goal.returns-clause-coherent
-returns-clause-coherent g c =
-    let made = IsPortStep-three g.T.Trigger.link g.EV.SerialEvents.link g.W.Write.contents c.recorded_timeout.ensures.step in
-    rw (← c.self.view_is) (keeps_coherent made)
+returns-clause-coherent g c = keeps_coherent c.recorded_timeout.ensures.step

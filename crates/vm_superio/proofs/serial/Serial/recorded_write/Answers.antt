@@ -1,0 +1,26 @@
+-- The step of the registers, with THRE taken back if the first of two calls was refused.
+use Rattle.std.proofs.Common.{rules, refl, ap, ◌∙◌}
+use Rattle.vm_superio.specs.Serial.{state_with, write_step}
+use Rattle.superio_core.proofs.Lemmas.Serial.FirstRefused.{write_step-settled}
+use Rattle.vm_superio.proofs.serial.Serial.recorded_write.Goals as goal
+
+pub returns : goal.returns
+returns g c =
+    let value = c.args.value in
+    let asked = c.call_trigger-asked.result.0 in
+    let effects = c.write-effects in
+    let before = state_with c.self.inside.registers c.self.inside.in_buffer in
+    rw (← c.self.view_is) (
+    record {
+      admissible = search rules;
+      response = search rules;
+      refused = search rules;
+      state =
+          ap (λ registers. state_with registers effects.new.fifo) c.take_back.ensures.registers
+          ∙ write_step-settled c.at-register.result value effects.result.interrupts asked before effects.new.self
+          effects.new.fifo _ refl effects.ensures.interrupts effects.ensures.state
+          ∙ ap (λ register. write_step register value asked before) c.at-register.ensures;
+      trigger = search rules;
+      events = search rules;
+      out = c.send_where_due-sent.ensures.out c.args.offset;
+    })

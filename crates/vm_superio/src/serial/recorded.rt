@@ -1,0 +1,226 @@
+//! The calls of a serial port that make trigger calls, with their records: each takes a step of the registers and
+//! carries out its effects.
+ghost use Rattle.std.specs.Prelude.{◌≡◌, ◌≤◌, ℕ, List, Result, [], ◌∷◌, length, if◌then◌else◌, is_some, IsTrue, IfOk, IfErr, OnOk};
+ghost use Rattle.std.specs.Io.KnownBytes.{Appends};
+ghost use Rattle.vm_superio.specs.Links.{answers_of, all_ok, StopsAtRefusal};
+ghost use Rattle.vm_superio.specs.Links.Writer.{port_links, WriterLink, outcome_of, bytes_sent};
+ghost use Rattle.vm_superio.specs.Saved.{state_of};
+ghost use Rattle.vm_superio.specs.Serial.{state_with, restore_calls, answers_all, events_of_read, sent_events};
+ghost use Rattle.vm_superio.specs.Serial.{Write, Enqueue, CharacterTimeout, WriteOk, TriggerRefused, WriterFailed};
+ghost use Rattle.vm_superio.specs.Serial.{is_sent, is_lost, ends_in_refusal};
+ghost use Rattle.vm_superio.specs.Serial.{write_response, enqueue_response, timeout_response, refusal_in_result};
+ghost use Rattle.vm_superio.specs.Serial.Step.{RefusesRestore};
+
+use super::Serial;
+use super::errors::Error;
+use super::events::SerialEvents;
+use super::saved_form::SerialState;
+use crate::Trigger;
+use crate::fifo::Fifo;
+use std::alloc::Global;
+use std::io;
+use std::io::Write;
+use superio_core::fifo::{FIFO_SIZE, ReceiveFifo};
+use superio_core::serial::registers::Registers;
+use superio_core::serial::{Asked, ReadEffects, Sent};
+
+/// A reply, with the trigger's answers and the outcome of the byte.
+#[derive(Drop)]
+pub(crate) struct Recorded<R> {
+    pub(crate) reply: R,
+    pub(crate) asked: Asked,
+    pub(crate) sent: Sent,
+}
+
+impl<T: Trigger, EV: SerialEvents, W: Write> Serial<T, EV, W> {
+    ghost use Rattle.vm_superio.specs.Serial.Step.{IsPortStep};
+
+    /// `write`, with the trigger's answers and the outcome of its byte.
+    pub(crate) fn recorded_write(
+        &mut self,
+        offset: u8,
+        value: u8,
+    ) -> Recorded<Result<(), Error<T::E>>>
+        ensures { IsPortStep (port_links T.link EV.link W.contents) (Write offset value) result.asked result.sent
+            (write_response result.reply) (refusal_in_result result.reply) self.old self.new }
+    {
+        let register = self.registers.at(offset);
+        let effects = self.registers.write(&mut self.in_buffer, register, value);
+        let (sent, fault) = send_where_due(&mut self.events, &mut self.out, effects.sends, value);
+        let (asked, refusal) = call_trigger(&mut self.interrupt_evt, effects.interrupts);
+        self.registers.take_back(effects.interrupts, asked);
+        Recorded {
+            reply: reply(refusal, fault),
+            asked,
+            sent,
+        }
+    }
+
+    /// `enqueue_raw_bytes`, with the trigger's answers.
+    pub(crate) fn recorded_enqueue(&mut self, input: &[u8]) -> Recorded<Result<usize, Error<T::E>>>
+        ensures { IsPortStep (port_links T.link EV.link W.contents) (Enqueue input.now) result.asked result.sent
+            (enqueue_response result.reply) (refusal_in_result result.reply) self.old self.new }
+    {
+        if self.registers.is_loopback() || input.is_empty() {
+            return Recorded {
+                reply: Ok(0),
+                asked: Asked::Nothing,
+                sent: Sent::Nothing,
+            };
+        }
+        if self.fifo_capacity() == 0 {
+            return Recorded {
+                reply: Err(Error::FullFifo),
+                asked: Asked::Nothing,
+                sent: Sent::Nothing,
+            };
+        }
+        let (count, asks) = self.registers.receive(&mut self.in_buffer, input);
+        let (asked, refusal) = call_trigger(&mut self.interrupt_evt, u8::from(asks));
+        Recorded {
+            reply: match refusal {
+                Some(refusal) => Err(Error::Trigger(refusal)),
+                None => Ok(count),
+            },
+            asked,
+            sent: Sent::Nothing,
+        }
+    }
+
+    /// `character_timeout`, with the trigger's answers.
+    pub(crate) fn recorded_timeout(&mut self) -> Recorded<Result<(), Error<T::E>>>
+        ensures no_byte { result.sent ≡ Sent.Nothing }
+        ensures step { IsPortStep (port_links T.link EV.link W.contents) CharacterTimeout result.asked result.sent
+            (timeout_response result.reply) (refusal_in_result result.reply) self.old self.new }
+    {
+        let due = self.registers.character_timeout(&self.in_buffer);
+        let (asked, refusal) = call_trigger(&mut self.interrupt_evt, due);
+        Recorded {
+            reply: match refusal {
+                Some(refusal) => Err(Error::Trigger(refusal)),
+                None => Ok(()),
+            },
+            asked,
+            sent: Sent::Nothing,
+        }
+    }
+}
+
+/// The registers and bytes of a saved state, after calling the trigger for it.
+pub(super) fn restored<T: Trigger>(
+    alloc: Global,
+    state: &SerialState,
+    trigger: &mut T,
+) -> Result<(Registers, Fifo), Error<T::E>>
+    ensures state { IfOk result (λ parts. state_with parts.0 parts.1 ≡ state_of state.now) }
+    ensures called { OnOk result (T.link trigger.old (all_ok (restore_calls (state_of state.now))) trigger.new) }
+    ensures refused { IfErr result (λ error. RefusesRestore T.link (state_of state.now) error trigger.old trigger.new) }
+{
+    if state.in_buffer.len() > FIFO_SIZE {
+        return Err(Error::FullFifo);
+    }
+    let in_buffer = Fifo::from_slice(alloc, &state.in_buffer)?;
+    let registers = state.registers();
+    match call_again(&registers, trigger) {
+        Ok(()) => Ok((registers, in_buffer)),
+        Err(refusal) => Err(Error::Trigger(refusal)),
+    }
+}
+
+/// Calls the trigger once for each condition that is pending and enabled, up to the first refusal.
+pub(super) fn call_again<T: Trigger>(registers: &Registers, trigger: &mut T) -> Result<(), T::E>
+    ensures accepted { OnOk result
+        (T.link trigger.old (all_ok (restore_calls (state_with registers.now []))) trigger.new) }
+    ensures refused { IfErr result (λ refusal. (answers : List (Result (Unit {0}) T.E))
+        × StopsAtRefusal (restore_calls (state_with registers.now [])) refusal answers
+        × T.link trigger.old answers trigger.new) }
+{
+    match call_trigger(trigger, registers.interrupts_due()).1 {
+        None => Ok(()),
+        Some(refusal) => Err(refusal),
+    }
+}
+
+/// Calls the trigger `due` times, up to the first refusal. Returns its answers and the refusal.
+fn call_trigger<T: Trigger>(trigger: &mut T, due: u8) -> (Asked, Option<T::E>)
+    requires { due ≤ 2 }
+    ensures asked { IsTrue (answers_all due result.0) }
+    ensures refused { is_some result.1 ≡ ends_in_refusal result.0 }
+    ensures calls { T.link trigger.old (answers_of result.0 result.1) trigger.new }
+{
+    if due == 0 {
+        return (Asked::Nothing, None);
+    }
+    match trigger.trigger() {
+        Err(refusal) => (Asked::Refused, Some(refusal)),
+        Ok(()) if due == 1 => (Asked::Took, None),
+        Ok(()) => match trigger.trigger() {
+            Err(refusal) => (Asked::TookRefused, Some(refusal)),
+            Ok(()) => (Asked::TookTook, None),
+        },
+    }
+}
+
+/// Reports the events of a read.
+pub(super) fn report_read<EV: SerialEvents>(events: &mut EV, effects: ReadEffects)
+    ensures { EV.link events.old (events_of_read effects) events.new }
+{
+    match (effects.in_buffer_empty, effects.buffer_read) {
+        (true, true) => {
+            events.in_buffer_empty();
+            events.buffer_read();
+        }
+        (true, false) => events.in_buffer_empty(),
+        (false, true) => events.buffer_read(),
+        (false, false) => {}
+    }
+}
+
+/// Sends the byte if due, and reports its outcome. Returns that and the writer's fault.
+fn send_where_due<EV: SerialEvents, W: Write>(
+    events: &mut EV,
+    out: &mut W,
+    sends: bool,
+    byte: u8,
+) -> (Sent, Option<io::Error>)
+    ensures sent { is_sent result.0 ≡ sends }
+    ensures lost { is_some result.1 ≡ is_lost result.0 }
+    ensures events { EV.link events.old (sent_events result.0) events.new }
+    ensures out { (offset : ℕ) →
+        WriterLink W.contents (outcome_of result.0) (bytes_sent (Write offset byte) result.0) out.old out.new }
+{
+    if !sends {
+        return (Sent::Nothing, None);
+    }
+    match write_and_flush(out, byte) {
+        Ok(()) => {
+            events.out_byte();
+            (Sent::Out, None)
+        }
+        Err(fault) => {
+            events.tx_lost_byte();
+            (Sent::Lost, Some(fault))
+        }
+    }
+}
+
+/// Writes the byte and, if that succeeds, flushes.
+fn write_and_flush<W: Write>(out: &mut W, byte: u8) -> io::Result<()>
+    ensures { OnOk result (Appends (W.contents out.old) (W.contents out.new) (byte ∷ [])) }
+{
+    out.write_all(&[byte])?;
+    out.flush()
+}
+
+/// The reply to a write: the trigger's refusal before the writer's failure.
+fn reply<E>(refusal: Option<E>, fault: Option<io::Error>) -> Result<(), Error<E>>
+    ensures refusal { refusal_in_result result ≡ refusal }
+    ensures answer { write_response result
+        ≡ (if is_some refusal then TriggerRefused else (if is_some fault then WriterFailed else WriteOk)) }
+{
+    match (refusal, fault) {
+        (Some(refusal), _) => Err(Error::Trigger(refusal)),
+        (None, Some(fault)) => Err(Error::IOError(fault)),
+        (None, None) => Ok(()),
+    }
+}
