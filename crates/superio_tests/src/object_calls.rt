@@ -72,6 +72,53 @@ fn a_fault_of_the_writer_is_returned_as_it_is(rt: HostRuntime) -> Result<(), Fai
     Ok(())
 }
 
+/// These letters as `Log::order` has them.
+fn in_order(letters: &[u8]) -> u64 {
+    let mut order = 0u64;
+    for letter in letters {
+        order = order.wrapping_mul(256).wrapping_add(u64::from(*letter));
+    }
+    order
+}
+
+#[test]
+fn a_data_write_turns_to_the_writer_then_events_then_trigger(rt: HostRuntime) -> Result<(), Fail> {
+    let log = Log::new();
+    let mut serial = port(rt.alloc(), &log)?;
+    serial.write(1, 0x03)?;
+    let no_flush = Writing {
+        flush: Some(io::Error::from(io::ErrorKind::Other)),
+        ..Writing::takes()
+    };
+    let no_write = Writing::failing(io::Error::from(io::ErrorKind::Other));
+    let rows: [(Writing, &[u8]); 3] = [
+        (Writing::takes(), b"WFoT"),
+        (no_write, b"WlT"),
+        (no_flush, b"WFlT"),
+    ];
+    for (writing, letters) in rows {
+        for refused in [false, true] {
+            serial.read(2);
+            log.start(writing);
+            log.order.set(0);
+            let next = log.triggers.get().wrapping_add(1);
+            log.refused.set(if refused { next } else { 0 });
+            assert!(rt;
+                serial.write(0, b'x').is_err()
+                    == (refused || writing.flush.is_some() || letters[1] == b'l')
+            );
+            assert!(rt; log.order.get() == in_order(letters));
+        }
+    }
+    log.order.set(0);
+    log.refused.set(0);
+    assert!(rt; serial.enqueue_raw_bytes(b"ab").is_ok());
+    serial.read(0);
+    serial.read(0);
+    assert!(rt; log.order.get() == in_order(b"Trer"));
+    Ok(())
+}
+
 #[test]
 fn a_run_returns_the_fault_of_its_writer(rt: HostRuntime) -> Result<(), Fail> {
     let alloc = rt.alloc();

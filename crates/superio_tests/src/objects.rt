@@ -134,6 +134,8 @@ pub struct Log {
     /// The number of the trigger call to refuse, from 1. 0: no call.
     pub refused: Cell<u64>,
     pub writing: Cell<Writing>,
+    /// The last eight calls of a serial port, a letter each: `T`rigger, `W`rite, `F`lush, `o`ut, `l`ost, `e`mpty, `r`ead.
+    pub order: Cell<u64>,
 }
 
 impl Log {
@@ -146,7 +148,14 @@ impl Log {
             flushes: Cell::new(0),
             refused: Cell::new(0),
             writing: Cell::new(Writing::takes()),
+            order: Cell::new(0),
         }
+    }
+
+    /// Notes a call.
+    fn note(&self, letter: u8) {
+        let before = self.order.get().wrapping_mul(256);
+        self.order.set(before.wrapping_add(u64::from(letter)));
     }
 
     /// Forgets how often the writer was called, and lets it do this.
@@ -205,6 +214,7 @@ impl Trigger for Object<'_> {
     ghost joined = { Unspecified-append };
 
     fn trigger(&mut self) -> Result<(), LineRefused> {
+        self.0.note(b'T');
         if counted(&self.0.triggers) == self.0.refused.get() {
             Err(LineRefused)
         } else {
@@ -221,18 +231,22 @@ impl SerialEvents for Object<'_> {
     ghost joined = { Unspecified-append };
 
     fn buffer_read(&mut self) {
+        self.0.note(b'r');
         counted(&self.0.events);
     }
 
     fn out_byte(&mut self) {
+        self.0.note(b'o');
         counted(&self.0.events);
     }
 
     fn tx_lost_byte(&mut self) {
+        self.0.note(b'l');
         counted(&self.0.events);
     }
 
     fn in_buffer_empty(&mut self) {
+        self.0.note(b'e');
         counted(&self.0.events);
     }
 }
@@ -255,6 +269,7 @@ impl RtcEvents for Object<'_> {
 
 impl Write for Object<'_> {
     fn write(&mut self, buf: &[u8]) -> io::Result<usize> {
+        self.0.note(b'W');
         counted(&self.0.writes);
         let mut writing = self.0.writing.get();
         let answer = if writing.room > 0 {
@@ -276,6 +291,7 @@ impl Write for Object<'_> {
     }
 
     fn flush(&mut self) -> io::Result<()> {
+        self.0.note(b'F');
         counted(&self.0.flushes);
         match self.0.writing.get().flush {
             Some(fault) => Err(fault),
