@@ -84,26 +84,7 @@ impl SerialPort {
         ensures at_most_1 { result.interrupts ≤ 1 }
         ensures coherent { CoherentPort self.old → CoherentPort self.new }
     {
-        if self.registers.is_loopback() || input.is_empty() {
-            return EnqueueEffects {
-                taken: 0,
-                full: false,
-                interrupts: 0,
-            };
-        }
-        if self.fifo_capacity() == 0 {
-            return EnqueueEffects {
-                taken: 0,
-                full: true,
-                interrupts: 0,
-            };
-        }
-        let (taken, asks) = self.registers.receive(&mut self.in_buffer, input);
-        EnqueueEffects {
-            taken,
-            full: false,
-            interrupts: u8::from(asks),
-        }
+        self.registers.enqueue(&mut self.in_buffer, input)
     }
 
     /// Tells the port that the time of a few characters has passed without a read or a new byte: it raises RDA again if
@@ -306,6 +287,36 @@ impl Registers {
             return (0, false);
         }
         (count, self.note_received())
+    }
+
+    /// Receives as many of these bytes as fit, first ones first. In loopback it accepts none.
+    #[inline(always)]
+    pub fn enqueue<F: ReceiveFifo>(&mut self, fifo: &mut F, input: &[u8]) -> EnqueueEffects
+        ensures step { IsPortEnqueue input.now result
+            (state_with self.old (F.held fifo.old)) (state_with self.new (F.held fifo.new)) }
+        ensures at_most_1 { result.interrupts ≤ 1 }
+        ensures canonical { F.canonical fifo.old → F.canonical fifo.new }
+    {
+        if self.is_loopback() || input.is_empty() {
+            return EnqueueEffects {
+                taken: 0,
+                full: false,
+                interrupts: 0,
+            };
+        }
+        if fifo.len() == FIFO_SIZE {
+            return EnqueueEffects {
+                taken: 0,
+                full: true,
+                interrupts: 0,
+            };
+        }
+        let (taken, asks) = self.receive(fifo, input);
+        EnqueueEffects {
+            taken,
+            full: false,
+            interrupts: u8::from(asks),
+        }
     }
 
     /// A character timeout: raises RDA if bytes are held. Returns how often to call the trigger.

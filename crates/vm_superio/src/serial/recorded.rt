@@ -6,7 +6,7 @@ ghost use Rattle.vm_superio.specs.Links.{answers_of, all_ok, StopsAtRefusal};
 ghost use Rattle.vm_superio.specs.Links.Writer.{port_links, WriterLink, outcome_of, bytes_sent};
 ghost use Rattle.vm_superio.specs.Saved.{state_of};
 ghost use Rattle.vm_superio.specs.Serial.{state_with, restore_calls, answers_all, events_of_read, sent_events};
-ghost use Rattle.vm_superio.specs.Serial.{Write, Enqueue, CharacterTimeout, WriteOk, TriggerRefused, WriterFailed};
+ghost use Rattle.vm_superio.specs.Serial.{Write, Enqueue, CharacterTimeout, WriteOk, TriggerRefused, WriterFailed, FifoFull, EnqueueOk};
 ghost use Rattle.vm_superio.specs.Serial.{is_sent, is_lost, ends_in_refusal};
 ghost use Rattle.vm_superio.specs.Serial.{write_response, enqueue_response, timeout_response, refusal_in_result};
 ghost use Rattle.vm_superio.specs.Serial.Step.{RefusesRestore};
@@ -22,7 +22,7 @@ use std::io;
 use std::io::Write;
 use superio_core::fifo::{FIFO_SIZE, ReceiveFifo};
 use superio_core::serial::registers::Registers;
-use superio_core::serial::{Asked, ReadEffects, Sent};
+use superio_core::serial::{Asked, EnqueueEffects, ReadEffects, Sent};
 
 /// A reply, with the trigger's answers and the outcome of the byte.
 #[derive(Drop)]
@@ -61,27 +61,10 @@ impl<T: Trigger, EV: SerialEvents, W: Write> Serial<T, EV, W> {
         ensures { IsPortStep (port_links T.link EV.link W.contents) (Enqueue input.now) result.asked result.sent
             (enqueue_response result.reply) (refusal_in_result result.reply) self.old self.new }
     {
-        if self.registers.is_loopback() || input.is_empty() {
-            return Recorded {
-                reply: Ok(0),
-                asked: Asked::Nothing,
-                sent: Sent::Nothing,
-            };
-        }
-        if self.fifo_capacity() == 0 {
-            return Recorded {
-                reply: Err(Error::FullFifo),
-                asked: Asked::Nothing,
-                sent: Sent::Nothing,
-            };
-        }
-        let (count, asks) = self.registers.receive(&mut self.in_buffer, input);
-        let (asked, refusal) = call_trigger(&mut self.interrupt_evt, u8::from(asks));
+        let effects = self.registers.enqueue(&mut self.in_buffer, input);
+        let (asked, refusal) = call_trigger(&mut self.interrupt_evt, effects.interrupts);
         Recorded {
-            reply: match refusal {
-                Some(refusal) => Err(Error::Trigger(refusal)),
-                None => Ok(count),
-            },
+            reply: enqueue_reply(refusal, effects),
             asked,
             sent: Sent::Nothing,
         }
@@ -222,5 +205,18 @@ fn reply<E>(refusal: Option<E>, fault: Option<io::Error>) -> Result<(), Error<E>
         (Some(refusal), _) => Err(Error::Trigger(refusal)),
         (None, Some(fault)) => Err(Error::IOError(fault)),
         (None, None) => Ok(()),
+    }
+}
+
+/// The reply to an enqueue: the trigger's refusal before a full FIFO.
+fn enqueue_reply<E>(refusal: Option<E>, effects: EnqueueEffects) -> Result<usize, Error<E>>
+    ensures refusal { refusal_in_result result ≡ refusal }
+    ensures answer { enqueue_response result
+        ≡ (if is_some refusal then TriggerRefused else (if effects.full then FifoFull else EnqueueOk effects.taken)) }
+{
+    match refusal {
+        Some(refusal) => Err(Error::Trigger(refusal)),
+        None if effects.full => Err(Error::FullFifo),
+        None => Ok(effects.taken),
     }
 }
