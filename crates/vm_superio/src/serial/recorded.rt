@@ -1,7 +1,6 @@
 //! The calls of a serial port that make trigger calls, with their records: each takes a step of the registers and
 //! carries out its effects.
 ghost use Rattle.std.specs.Prelude.{◌≡◌, ◌≤◌, ℕ, List, Result, [], ◌∷◌, length, if◌then◌else◌, is_some, IsTrue, IfOk, IfErr, OnOk};
-ghost use Rattle.std.specs.Io.KnownBytes.{Appends};
 ghost use Rattle.vm_superio.specs.Links.{answers_of, all_ok, StopsAtRefusal};
 ghost use Rattle.vm_superio.specs.Links.Writer.{port_links, WriterLink, outcome_of, bytes_sent};
 ghost use Rattle.vm_superio.specs.Saved.{state_of};
@@ -22,7 +21,7 @@ use std::io;
 use std::io::Write;
 use superio_core::fifo::{FIFO_SIZE, ReceiveFifo};
 use superio_core::serial::registers::Registers;
-use superio_core::serial::{Asked, EnqueueEffects, ReadEffects, Sent};
+use superio_core::serial::{Asked, ReadEffects, Sent};
 
 /// A reply, with the trigger's answers and the outcome of the byte.
 #[derive(Drop)]
@@ -49,11 +48,12 @@ impl<T: Trigger, EV: SerialEvents, W: Write> Serial<T, EV, W> {
         let (sent, fault) = send_where_due(&mut self.events, &mut self.out, effects.sends, value);
         let (asked, refusal) = call_trigger(&mut self.interrupt_evt, effects.interrupts);
         self.registers.take_back(effects.interrupts, asked);
-        Recorded {
-            reply: reply(refusal, fault),
-            asked,
-            sent,
-        }
+        let reply = match (refusal, fault) {
+            (Some(refusal), _) => Err(Error::Trigger(refusal)),
+            (None, Some(fault)) => Err(Error::IOError(fault)),
+            (None, None) => Ok(()),
+        };
+        Recorded { reply, asked, sent }
     }
 
     /// `enqueue_raw_bytes`, with the trigger's answers.
@@ -63,8 +63,13 @@ impl<T: Trigger, EV: SerialEvents, W: Write> Serial<T, EV, W> {
     {
         let effects = self.registers.enqueue(&mut self.in_buffer, input);
         let (asked, refusal) = call_trigger(&mut self.interrupt_evt, effects.interrupts);
+        let reply = match refusal {
+            Some(refusal) => Err(Error::Trigger(refusal)),
+            None if effects.full => Err(Error::FullFifo),
+            None => Ok(effects.taken),
+        };
         Recorded {
-            reply: enqueue_reply(refusal, effects),
+            reply,
             asked,
             sent: Sent::Nothing,
         }
@@ -175,7 +180,11 @@ fn send_where_due<EV: SerialEvents, W: Write>(
     if !sends {
         return (Sent::Nothing, None);
     }
-    match write_and_flush(out, byte) {
+    let taken = match out.write_all(&[byte]) {
+        Ok(()) => out.flush(),
+        Err(fault) => Err(fault),
+    };
+    match taken {
         Ok(()) => {
             events.out_byte();
             (Sent::Out, None)
@@ -184,39 +193,5 @@ fn send_where_due<EV: SerialEvents, W: Write>(
             events.tx_lost_byte();
             (Sent::Lost, Some(fault))
         }
-    }
-}
-
-/// Writes the byte and, if that succeeds, flushes.
-fn write_and_flush<W: Write>(out: &mut W, byte: u8) -> io::Result<()>
-    ensures { OnOk result (Appends (W.contents out.old) (W.contents out.new) (byte ∷ [])) }
-{
-    out.write_all(&[byte])?;
-    out.flush()
-}
-
-/// The reply to a write: the trigger's refusal before the writer's failure.
-fn reply<E>(refusal: Option<E>, fault: Option<io::Error>) -> Result<(), Error<E>>
-    ensures refusal { refusal_in_result result ≡ refusal }
-    ensures answer { write_response result
-        ≡ (if is_some refusal then TriggerRefused else (if is_some fault then WriterFailed else WriteOk)) }
-{
-    match (refusal, fault) {
-        (Some(refusal), _) => Err(Error::Trigger(refusal)),
-        (None, Some(fault)) => Err(Error::IOError(fault)),
-        (None, None) => Ok(()),
-    }
-}
-
-/// The reply to an enqueue: the trigger's refusal before a full FIFO.
-fn enqueue_reply<E>(refusal: Option<E>, effects: EnqueueEffects) -> Result<usize, Error<E>>
-    ensures refusal { refusal_in_result result ≡ refusal }
-    ensures answer { enqueue_response result
-        ≡ (if is_some refusal then TriggerRefused else (if effects.full then FifoFull else EnqueueOk effects.taken)) }
-{
-    match refusal {
-        Some(refusal) => Err(Error::Trigger(refusal)),
-        None if effects.full => Err(Error::FullFifo),
-        None => Ok(effects.taken),
     }
 }
