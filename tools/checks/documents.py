@@ -1,5 +1,6 @@
 """The repository's documents, as one reader of Markdown shows them to all checks, and how a check of them ends."""
 import re
+import shutil
 import sys
 from pathlib import Path
 from typing import NamedTuple
@@ -68,6 +69,12 @@ def documents():
     paths = [path.relative_to(ROOT) for path in ROOT.rglob("*.md")]
     kept = [path for path in paths if not BUILT & set(path.parts) and not path.parts[0].startswith(".")]
     return [Document(path) for path in sorted(kept, key=lambda path: (len(path.parts), path))]
+
+
+def copy_repository(folder):
+    """Copies the repository as it is, with what is not committed yet, without what builds write."""
+    left_out = shutil.ignore_patterns(".git", "Cargo.lock", *BUILT)
+    shutil.copytree(ROOT, folder, symlinks=True, ignore=left_out, dirs_exist_ok=True)
 
 
 def run(check, said):

@@ -1,5 +1,6 @@
 """The program `superio`: how it is built, and how checks run it."""
 import os
+import re
 import shutil
 import subprocess
 import sys
@@ -7,11 +8,11 @@ import tempfile
 from concurrent.futures import ThreadPoolExecutor
 from pathlib import Path
 
-from rooms import crates_of
 from tally import NotBuilt, Skipped, report  # noqa: F401, which checks of the program use
 
 ROOT = Path(__file__).resolve().parents[2]
 CRATES = ROOT / "crates"
+PROGRAM = CRATES / "superio" / "out" / "superio"
 TIMEOUT = 60  # seconds that one run of the program may take
 
 
@@ -32,12 +33,21 @@ def build(*steps):
     os.unlink(log.name)
 
 
+def crates_below(crate):
+    """The crates of the repository that a crate uses, and those that they use, each once and lowest first."""
+    lines = dict(re.findall(r"^(\w+)[^:#\n]*:(.*)", (ROOT / "crates.txt").read_text(encoding="utf-8"), re.M))
+    found = []
+    for used in lines[crate].split():
+        if used in lines:
+            found += [it for it in [*crates_below(used), used] if it not in found]
+    return found
+
+
 def proved_program():
     """The program that was proved and built, and `None` if it is missing or older than its sources."""
-    program, of = CRATES / "superio" / "out" / "superio", crates_of(ROOT)["superio"]
-    sources = [path for it in [*of.below(), of] for path in (it.folder / "src").rglob("*.rt")]
-    is_current = program.exists() and program.stat().st_mtime >= max(path.stat().st_mtime for path in sources)
-    return program if is_current else None
+    sources = [path for it in [*crates_below("superio"), "superio"] for path in (CRATES / it / "src").rglob("*.rt")]
+    is_current = PROGRAM.exists() and PROGRAM.stat().st_mtime >= max(path.stat().st_mtime for path in sources)
+    return PROGRAM if is_current else None
 
 
 def built_program(arguments=()):
@@ -45,8 +55,8 @@ def built_program(arguments=()):
     if arguments:
         return Path(arguments[0]).resolve()
     if not proved_program():
-        build(*((it.name, "lib") for it in crates_of(ROOT)["superio"].below()), ("superio", "run"))
-    return CRATES / "superio" / "out" / "superio"
+        build(*((crate, "lib") for crate in crates_below("superio")), ("superio", "run"))
+    return PROGRAM
 
 
 def run(program, script, *arguments):

@@ -68,26 +68,7 @@ impl SerialPort {
     #[inline(always)]
     // Clauses in crates/superio_core/src/serial.rt: step, at_most_1, coherent.
     pub fn enqueue_raw_bytes(&mut self, input: &[u8]) -> EnqueueEffects {
-        if self.registers.is_loopback() || input.is_empty() {
-            return EnqueueEffects {
-                taken: 0,
-                full: false,
-                interrupts: 0,
-            };
-        }
-        if self.fifo_capacity() == 0 {
-            return EnqueueEffects {
-                taken: 0,
-                full: true,
-                interrupts: 0,
-            };
-        }
-        let (taken, asks) = self.registers.receive(&mut self.in_buffer, input);
-        EnqueueEffects {
-            taken,
-            full: false,
-            interrupts: u8::from(asks),
-        }
+        self.registers.enqueue(&mut self.in_buffer, input)
     }
 
     /// Tells the port that the time of a few characters has passed without a read or a new byte: it raises RDA again if
@@ -247,6 +228,32 @@ impl Registers {
             return (0, false);
         }
         (count, self.note_received())
+    }
+
+    /// Receives as many of these bytes as fit, first ones first. In loopback it accepts none.
+    #[inline(always)]
+    // Clauses in crates/superio_core/src/serial.rt: step, at_most_1, canonical.
+    pub fn enqueue<F: ReceiveFifo>(&mut self, fifo: &mut F, input: &[u8]) -> EnqueueEffects {
+        if self.is_loopback() || input.is_empty() {
+            return EnqueueEffects {
+                taken: 0,
+                full: false,
+                interrupts: 0,
+            };
+        }
+        if fifo.len() == FIFO_SIZE {
+            return EnqueueEffects {
+                taken: 0,
+                full: true,
+                interrupts: 0,
+            };
+        }
+        let (taken, asks) = self.receive(fifo, input);
+        EnqueueEffects {
+            taken,
+            full: false,
+            interrupts: u8::from(asks),
+        }
     }
 
     /// A character timeout: raises RDA if bytes are held. Returns how often to call the trigger.
