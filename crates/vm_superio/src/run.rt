@@ -3,7 +3,8 @@ ghost use Rattle.std.specs.Prelude.{◌≡◌, IfOk, OnErr};
 ghost use Rattle.superio_core.specs.Serial.{Coherent};
 ghost use Rattle.vm_superio.specs.Links.Writer.{port_links};
 ghost use Rattle.vm_superio.specs.Serial.Run.{act_of};
-ghost use Rattle.vm_superio.specs.Serial.Run.Steps.{IsCallStep, IsRun};
+ghost use Rattle.vm_superio.specs.Serial.Run.Steps.{IsCallStep, IsRun, by_steps};
+ghost use Rattle.vm_superio.specs.Serial.Run.Segments.{SegmentsAre};
 ghost use Rattle.vm_superio.specs.Serial.Run.HistoryTheorem.{HistoryTheorem};
 
 use crate::Trigger;
@@ -82,7 +83,7 @@ pub struct Done<T: Trigger, EV: SerialEvents, W: Write> {
 ///
 /// From a coherent start the records are a trace: the start, the earlier calls and the trigger's answers determine each
 /// byte read. They also determine the final state and, given the outcome of the byte that a call sent, every other
-/// response.
+/// response. Which objects get the calls after a restore depends on whether it succeeded, and so on memory too.
 ///
 /// # Errors
 ///
@@ -94,6 +95,9 @@ pub fn run<T: Trigger + Drop, EV: SerialEvents + Drop, W: Write + Drop>(
 ) -> Result<Vec<Done<T, EV, W>>, AllocError>
     ensures run { IfOk result (λ done.
         IsRun (port_links T.link EV.link W.contents) serial.old calls.items done.items serial.new) }
+    ensures segments { IfOk result (λ done.
+        SegmentsAre (port_links T.link EV.link W.contents) (by_steps serial.old.state)
+        serial.old calls.items done.items serial.new) }
     ensures history { IfOk result (λ done. Coherent serial.old.state →
         HistoryTheorem (port_links T.link EV.link W.contents) serial.old calls.items done.items serial.new) }
     ensures refused { OnErr result (serial.new ≡ serial.old) }

@@ -3,14 +3,16 @@ use Rattle.std.proofs.Common.{◌≡◌, ℕ, ◌≤◌, true, false, List, [], 
 use Rattle.std.proofs.lemmas.Bool.{false≢true}
 use Rattle.vm_superio.specs.Serial.{Asked, Sent, Coherent, State, fresh_state, Port, Memory, Op, Read, Write, Enqueue, Response, ByteRead, WriteOk, EnqueueOk, Trace, TraceEntry, IerWrite, ThrWrite, is_iir_read, is_rbr_read, Rda, Thre, restore_calls, is_dlab, is_loopback, has_bits, only_bits, with_bits}
 use Rattle.vm_superio.specs.Claims.{is_fresh, shows_data, is_outside, is_inside, is_masked}
-use Rattle.vm_superio.specs.Links.{Link, TriggerAnswer}
+use Rattle.vm_superio.specs.Links.{Link, TriggerAnswer, all_ok}
 use Rattle.vm_superio.specs.Serial.History.{NoneAcknowledges, acknowledges, held_bytes, taken_bytes, op_kinds, shows_waiting_bytes}
 use Rattle.vm_superio.specs.Serial.Laws.Consequences.{polls, polls_after_data_ready}
 use Rattle.vm_superio.specs.Serial.Laws.Line.{RunsAtInterrupts, TakenAfterRunsLaw, may_lower_line}
 use Rattle.vm_superio.specs.Serial.Laws.Transmit.{IsHandled}
 use Rattle.vm_superio.proofs.Lemmas.Serial.Laws.Consequences.{none_more, nowhere}
 use Rattle.vm_superio.specs.Serial.Laws.PortRun.{PortCall, PortCallsFollow, ops_of_calls, trace_with, interrupts_told, PortBoundLaw}
-use Rattle.vm_superio.specs.Serial.Run.{Act, Done, without_restores}
+use Rattle.vm_superio.specs.Serial.Run.{Act, Call, Done, Reply, Byte, Restored, NotRestored, entry_of, without_restores}
+use Rattle.vm_superio.specs.Serial.Run.Segments.{Account, Segment, segments_of}
+use Rattle.vm_superio.specs.declared.serial.errors.Refused.{Refused}
 use Rattle.vm_superio.specs.Serial.Step.{RefusesRestore}
 
 -- ---- the bound on interrupts that a caller is told
@@ -27,6 +29,36 @@ five_told_with_two_reads law start end calls coherent follow one taken =
 
 no_restore_is_left : {T E EV W : Type 0} (done : Done T EV W E) → done.act ≡ Act.Restore → without_restores (done ∷ []) ≡ []
 no_restore_is_left done restored = simp (restored)
+
+-- ---- a run, split at the restores that succeed
+
+-- a read; a restore that is refused, and one that succeeds, of the objects with an `s`; and a read
+module _
+    {T E EV W : Type 0} (account : Account) (start old end : Port T EV W) (trigger triggers : T) (event events : EV)
+    (out outs : W) (byte : ℕ) (refused : Refused T EV W E) where
+  abbrev done : (act : Act) (reply : Reply T EV W E) → Done T EV W E
+  done act reply = record { act = act; asked = Asked.Nothing; sent = Sent.Nothing; reply = reply }
+
+  two_segments :
+      let reads = done (Act.Read 0) (Byte byte) in
+      let fails = done Act.Restore (NotRestored refused) in
+      let succeeds = done Act.Restore (Restored old) in
+      let first : Segment T E EV W =
+      record { before = []; trigger = start.trigger; events = start.events; out = start.out; restoring = []; records = reads ∷ fails ∷ []; end = old } in
+      let second : Segment T E EV W =
+      record {
+        before = entry_of succeeds ∷ entry_of fails ∷ entry_of reads ∷ [];
+        trigger = triggers;
+        events = events;
+        out = outs;
+        restoring = all_ok (account.due (entry_of fails ∷ entry_of reads ∷ []));
+        records = reads ∷ [];
+        end = end;
+      } in
+      segments_of account start (Call.Read 0 ∷ Call.Restore trigger event out ∷ Call.Restore triggers events outs ∷ Call.Read 0 ∷ [])
+      (reads ∷ fails ∷ succeeds ∷ reads ∷ []) end
+      ≡ first ∷ second ∷ []
+  two_segments = refl
 
 -- ---- what waiting bytes, drivers and the line are said of
 

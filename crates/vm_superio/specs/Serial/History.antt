@@ -5,7 +5,6 @@ pub mod Registers
 use Rattle.std.specs.Prelude.{◌≡◌, ⊤, ℕ, Bool, not, ◌==◌, ◌||◌, nat_le, if◌then◌else◌, List, [], ◌∷◌, ◌++◌, length}
 use Rattle.std.specs.List.{list_all}
 use Rattle.vm_superio.specs.Serial.{with_bits, without_bits, lsr_dr_bit, State, not_empty, Rda, Thre, register_at, identification_of, register_read, Asked, Sent, Op, Read, Write, Enqueue, CharacterTimeout, Restore, TraceEntry, Response, ByteRead, EnqueueOk, TimeoutOk, TriggerRefused, FifoFull, NoResponse, is_refused_at_once, is_lost, recorded_write_response, Trace, OpKind, RbrRead, sent_by, Event, buffer_read, out_byte, tx_lost_byte, in_buffer_empty}
-use Rattle.vm_superio.specs.Links.Writer.{outcome_of}
 pub use Rattle.vm_superio.specs.Serial.History.Registers.{kind_at, dlab, loopback, with_last_writes, accepted_by, held_bytes, taken_bytes, value_written_at, last_found, taken_by, remaining_bytes, accepted_bytes, interrupt_enable}
 pub use Rattle.vm_superio.specs.Serial.History.Interrupts.{is_pending, trigger_calls, op_kinds, shows_waiting_bytes, is_well_formed_entry, restore_calls_due, is_well_formed, raises_rda, acknowledges, raises_thre, rda_raised, rda_pending, is_raised, is_call_due, has_waiting_bytes, pending_since, NoneAcknowledges, IsWithinBound, WaitingBytesShow, TimeoutsShow}
 
@@ -76,11 +75,6 @@ abbrev pub output : (start : State) (trace newest : Trace) → List ℕ
 output start trace [] = []
 output start trace (entry ∷ newest) =
     output start trace newest ++ sent_by (kind_at start (newest ++ trace) entry.op)
-
--- the outcomes of the bytes that these entries sent, in order
-abbrev pub outcomes : (newest : Trace) → List Sent
-outcomes [] = []
-outcomes (entry ∷ newest) = outcomes newest ++ outcome_of entry.sent
 
 -- no byte is lost in these entries
 abbrev pub none_lost : (newest : Trace) → Bool

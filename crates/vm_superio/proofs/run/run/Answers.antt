@@ -2,7 +2,7 @@
 use Rattle.std.proofs.Common.{◌∷◌, refl, append_assoc, append-nil, arith, []}
 use Rattle.std.proofs.lemmas.List.{nil_from_length}
 use Rattle.vm_superio.specs.Links.Writer.{port_links}
-use Rattle.vm_superio.proofs.Lemmas.Serial.Run.{IsRun-step, HistoryTheorem-run}
+use Rattle.vm_superio.proofs.Lemmas.Serial.Run.{IsRun-step, HistoryTheorem-run, SegmentsAre-steps}
 use Rattle.vm_superio.proofs.run.run.Goals as goal
 
 pub loop-call-init : goal.loop-call-init
@@ -33,5 +33,11 @@ returns-clause-run g c =
 pub returns-clause-history : goal.returns-clause-history
 returns-clause-history g c =
     HistoryTheorem-run (port_links g.T.Trigger.link g.EV.SerialEvents.link g.W.Write.contents)
+    g.met.T.Trigger.no_call g.met.EV.SerialEvents.no_event g.met.T.Trigger.joined g.met.EV.SerialEvents.joined
+    _ c.args.calls.items c.loop-call.done.items _ (returns-clause-run g c)
+
+pub returns-clause-segments : goal.returns-clause-segments
+returns-clause-segments g c =
+    SegmentsAre-steps (port_links g.T.Trigger.link g.EV.SerialEvents.link g.W.Write.contents)
     g.met.T.Trigger.no_call g.met.EV.SerialEvents.no_event g.met.T.Trigger.joined g.met.EV.SerialEvents.joined
     _ c.args.calls.items c.loop-call.done.items _ (returns-clause-run g c)

@@ -1,10 +1,22 @@
--- The history theorem: what a run from a coherent start shows, by the history alone.
+-- The history theorem: what a run from a coherent start shows, by the history alone. It says what every call responds,
+-- which bytes are read and held, when the trigger is called, which calls each object has, and the state at the end. The
+-- records say which restores succeed. One can fail for want of memory; the old objects then have the calls after it.
 use Rattle.std.specs.Prelude.{◌≡◌, List, [], ◌++◌, IsTrue}
-use Rattle.vm_superio.specs.Serial.{Port, Coherent}
+use Rattle.std.specs.List.{AllByRecursion}
+use Rattle.vm_superio.specs.Serial.{Port, State, TraceEntry, Trace, Coherent, sent_by}
 use Rattle.vm_superio.specs.Links.Writer.{PortLinks}
-use Rattle.vm_superio.specs.Serial.History.{ResponsesAre, bytes_read, state_of_history, is_well_formed, IsWithinBound, WaitingBytesShow, TimeoutsShow, taken_bytes, accepted_bytes}
+use Rattle.vm_superio.specs.Serial.History.{ResponsesAre, bytes_read, state_of_history, restore_calls_due, history_events, kind_at, is_well_formed, IsWithinBound, WaitingBytesShow, TimeoutsShow, taken_bytes, accepted_bytes}
 use Rattle.vm_superio.specs.Serial.Run.{Call, Done, RecordsOf, entries_of, trace_of, without_restores, ReadsAre}
-use Rattle.vm_superio.specs.Serial.Run.Segments.{first_segment, IsServed, TakesOutput, SegmentsAre}
+use Rattle.vm_superio.specs.Serial.Run.Segments.{Account, segments_of, TakesOutput, SegmentsAre}
+
+-- a port by the history: a search of the start and of the trace
+abbrev pub by_history : (start : State) → Account
+by_history start = record {
+  state = state_of_history start;
+  due = restore_calls_due start;
+  events = history_events start;
+  bytes = λ (trace : Trace) (entry : TraceEntry). sent_by (kind_at start trace entry.op);
+}
 
 -- a run of these calls with these records, from a port to a port
 pub record HistoryTheorem
@@ -31,13 +43,13 @@ pub record HistoryTheorem
   pub waiting : WaitingBytesShow start.state (trace_of records)
   -- a character timeout makes RDA pending while bytes are held and enabled, and calls the trigger once for it
   pub timeouts : TimeoutsShow start.state (trace_of records)
-  -- each object of a segment has had its calls and no other, in order: a function of the start, the calls and the
-  -- answers. Output goes to each writer byte for byte. A restore gives back the old port, its state unchanged, and calls
-  -- the new trigger for what is due
-  pub objects : SegmentsAre links start.state (IsServed links start.state) (first_segment start) calls records end
-  -- so a writer of known contents took the output, while no byte is recorded lost
+  -- each object of a segment had the calls that the history says, in order, and no other; the trigger of a restore
+  -- first those that are due. The old port comes back in its state. A refused restore hands back its own objects
+  pub objects : SegmentsAre links (by_history start.state) start calls records end
+  -- so a writer of known contents took the output of its segment, byte for byte, while none is recorded lost
   pub known_output :
-      SegmentsAre links start.state (TakesOutput links start.state) (first_segment start) calls records end
+      AllByRecursion (TakesOutput links start.state) (segments_of (by_history start.state) start calls records end)
+  -- restores change no read: without them the reads are the same
   pub reads_alone : ReadsAre start.state [] (without_restores records)
   -- the end is the state that the trace leads to, and it is coherent
   pub end_state : end.state ≡ state_of_history start.state (trace_of records)

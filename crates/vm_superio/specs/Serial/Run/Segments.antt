@@ -1,104 +1,154 @@
--- The segments of a run: the parts that the same three objects serve, from the run's start or from a restore that
--- succeeds. What each object shows at the end of its segment, by the history alone.
-use Rattle.std.specs.Prelude.{◌≡◌, not, List, [], ◌∷◌, ◌++◌, ⊤, IsTrue, Option}
-use Rattle.std.specs.List.{list_all}
+-- A run, split at the restores that succeed. Each part is a segment, which the same three objects serve. One line for
+-- each object says by which calls it went from its value at the start of a segment to that at its end. Whether a
+-- restore succeeds decides which objects have the later calls, and a restore needs memory. What a refused restore hands
+-- back stands here too. Nothing here names a step.
+use Rattle.std.specs.Prelude.{◌≡◌, not, ℕ, Bool, true, false, if◌then◌else◌, List, [], ◌∷◌, ◌++◌, flat_map, ⊤, IsTrue}
+use Rattle.std.specs.List.{list_all, AllByRecursion}
 use Rattle.std.specs.Io.KnownBytes.{Appends}
-use Rattle.vm_superio.specs.Serial.{Port, State, Event, TraceEntry, Trace, is_lost}
+use Rattle.vm_superio.specs.Serial.{Port, State, Condition, Event, TraceEntry, Trace, Sent, is_lost}
 use Rattle.vm_superio.specs.Links.{TriggerAnswer, answers_of, all_ok, RefusesOwnState}
-use Rattle.vm_superio.specs.Links.Writer.{PortLinks, WriterLink}
-use Rattle.vm_superio.specs.Serial.History.{history_events, output, outcomes, state_of_history, restore_calls_due}
-use Rattle.vm_superio.specs.Serial.Run.{Call, Reply, Restored, NotRestored, Done, entry_of, refusal_in_reply}
+use Rattle.vm_superio.specs.Links.Writer.{PortLinks, WriterLink, outcome_of}
+use Rattle.vm_superio.specs.Serial.History.{output}
+use Rattle.vm_superio.specs.Serial.Run.{Call, Reply, Restored, NotRestored, Done, entry_of, entries_of, trace_after, trace_of, refusal_in_reply}
 
--- the trace at its start, its entries, and the objects as they were at its start; and since then the answers of the
--- trigger and the events reported, each in order
+-- what is said of a port at each point of a trace: its state; for which conditions a restore would call the trigger
+-- there; and of an entry that is made there, which events it reports and which byte it sends
+pub record Account : Type 0 where
+  pub state : (trace : Trace) → State
+  pub due : (trace : Trace) → List Condition
+  pub events : (trace : Trace) (entry : TraceEntry) → List Event
+  pub bytes : (trace : Trace) (entry : TraceEntry) → List ℕ
+
+-- a segment: the trace at its start, the objects that it begins with, as they were handed in, the trigger's answers to
+-- the restore that began it, its records, and the port at its end
 pub record Segment (T E EV W : Type 0) : Type 0 where
   pub before : Trace
-  pub newest : Trace
   pub trigger : T
   pub events : EV
   pub out : W
-  pub answers : List (TriggerAnswer E)
-  pub reported : List Event
+  pub restoring : List (TriggerAnswer E)
+  pub records : List (Done T EV W E)
+  pub end : Port T EV W
+
+-- ---- the segments of a run
 
 module _ {T E EV W : Type 0} where
-  -- the trace up to now
-  abbrev pub trace_in : (segment : Segment T E EV W) → Trace
-  trace_in segment = segment.newest ++ segment.before
+  abbrev pub is_restored : (reply : Reply T EV W E) → Bool
+  is_restored (Restored old) = true
+  is_restored _ = false
 
-  -- a run's first segment begins with the port as it is
-  abbrev pub first_segment : (port : Port T EV W) → Segment T E EV W
-  first_segment port = record {
-    before = [];
-    newest = [];
-    trigger = port.trigger;
-    events = port.events;
-    out = port.out;
-    answers = [];
-    reported = [];
-  }
+  -- the records of a segment: those before the first restore that succeeds, or all
+  abbrev pub records_in : (records : List (Done T EV W E)) → List (Done T EV W E)
+  records_in [] = []
+  records_in (done ∷ later) = if is_restored done.reply then [] else done ∷ records_in later
 
-  -- a call that is no restore adds its entry, the answers of the trigger, and its events
-  abbrev pub extended :
-      (start : State) (segment : Segment T E EV W) (entry : TraceEntry) (refusal : Option E) → Segment T E EV W
-  extended start segment entry refusal = record segment {
-    newest = entry ∷ segment.newest;
-    answers = segment.answers ++ answers_of entry.asked refusal;
-    reported = segment.reported ++ history_events start (trace_in segment) entry;
-  }
+  -- the port at its end: the old port that this restore hands back, or the port at the end of the run
+  abbrev pub old_port_or : (reply : Reply T EV W E) (end : Port T EV W) → Port T EV W
+  old_port_or (Restored old) end = old
+  old_port_or _ end = end
 
-  -- the objects of a restore that succeeds begin a segment, the trigger with the calls that are due
-  abbrev pub next_segment :
-      (start : State) (segment : Segment T E EV W) (call : Call T EV W) (entry : TraceEntry) (reply : Reply T EV W E)
-      → Segment T E EV W
-  next_segment start segment (Call.Restore trigger events out) entry (Restored old) = record {
-    before = entry ∷ trace_in segment;
-    newest = [];
-    trigger = trigger;
-    events = events;
-    out = out;
-    answers = all_ok (restore_calls_due start (trace_in segment));
-    reported = [];
-  }
-  next_segment start segment (Call.Restore trigger events out) entry reply =
-      record segment { newest = entry ∷ segment.newest }
-  next_segment start segment call entry reply = extended start segment entry (refusal_in_reply reply)
+  abbrev pub end_of : (records : List (Done T EV W E)) (end : Port T EV W) → Port T EV W
+  end_of [] end = end
+  end_of (done ∷ later) end = old_port_or done.reply (end_of later end)
 
-module _ {T E EV W : Type 0} (links : PortLinks T E EV W) (start : State) where
-  -- a port's objects have had these calls and no other: the trigger the answers of the segment, the events object its
-  -- events, and the writer the segment's output, with the outcomes that are recorded
-  pub record IsServed (segment : Segment T E EV W) (port : Port T EV W) : Type 0 where
-    pub trigger : links.trigger segment.trigger segment.answers port.trigger
-    pub events : links.events segment.events segment.reported port.events
+  module _ (account : Account) where
+    -- a restore that succeeds begins a segment with its own objects. The trigger took a call for each condition due
+    abbrev pub segment_begun :
+        (trace : Trace) (call : Call T EV W) (reply : Reply T EV W E) (entry : TraceEntry)
+        (later : List (Done T EV W E)) (end : Port T EV W) → List (Segment T E EV W)
+    segment_begun trace (Call.Restore trigger events out) (Restored old) entry later end = record {
+      before = entry ∷ trace;
+      trigger = trigger;
+      events = events;
+      out = out;
+      restoring = all_ok (account.due trace);
+      records = records_in later;
+      end = end_of later end;
+    } ∷ []
+    segment_begun trace call reply entry later end = []
+
+    abbrev pub segments_begun :
+        (trace : Trace) (calls : List (Call T EV W)) (records : List (Done T EV W E)) (end : Port T EV W)
+        → List (Segment T E EV W)
+    segments_begun trace (call ∷ calls) (done ∷ later) end =
+        segment_begun trace call done.reply (entry_of done) later end
+        ++ segments_begun (entry_of done ∷ trace) calls later end
+    segments_begun trace _ _ end = []
+
+    -- the first segment of a run begins with the port as it is
+    abbrev pub segments_of :
+        (start : Port T EV W) (calls : List (Call T EV W)) (records : List (Done T EV W E)) (end : Port T EV W)
+        → List (Segment T E EV W)
+    segments_of start calls records end = record {
+      before = [];
+      trigger = start.trigger;
+      events = start.events;
+      out = start.out;
+      restoring = [];
+      records = records_in records;
+      end = end_of records end;
+    } ∷ segments_begun [] calls records end
+
+-- ---- the lists by which the objects of a segment are linked
+
+module _ {T E EV W : Type 0} where
+  -- the trigger's answers in some records, in order
+  abbrev pub answers_in : (records : List (Done T EV W E)) → List (TriggerAnswer E)
+  answers_in records = flat_map (λ (done : Done T EV W E). answers_of done.asked (refusal_in_reply done.reply)) records
+
+  -- the outcomes of the bytes that these sent
+  abbrev pub outcomes_in : (records : List (Done T EV W E)) → List Sent
+  outcomes_in records = flat_map (λ (done : Done T EV W E). outcome_of done.sent) records
+
+  -- what each adds at its point, after a trace
+  abbrev pub in_order :
+      {A : Type 0} (of : Trace → TraceEntry → List A) (trace : Trace) (records : List (Done T EV W E)) → List A
+  in_order of trace [] = []
+  in_order of trace (done ∷ later) = of trace (entry_of done) ++ in_order of (entry_of done ∷ trace) later
+
+module _ {T E EV W : Type 0} (links : PortLinks T E EV W) where
+  -- each object of a segment had these calls and no other, in order. `made` is the trigger after the restore that began
+  -- the segment. The port at its end has the state of its point: so has the old port that a restore hands back
+  pub record IsServed (account : Account) (segment : Segment T E EV W) : Type 0 where
+    pub made : T
+    pub restored : links.trigger segment.trigger segment.restoring made
+    pub answered : links.trigger made (answers_in segment.records) segment.end.trigger
+    pub trigger :
+        links.trigger segment.trigger (segment.restoring ++ answers_in segment.records) segment.end.trigger
+    pub events :
+        links.events segment.events (in_order account.events segment.before segment.records) segment.end.events
     pub out :
-        WriterLink links.contents (outcomes segment.newest) (output start segment.before segment.newest)
-        segment.out port.out
+        WriterLink links.contents (outcomes_in segment.records)
+        (in_order account.bytes segment.before segment.records) segment.out segment.end.out
+    pub state : segment.end.state ≡ account.state (trace_after segment.before (entries_of segment.records))
 
-  -- if no byte of the segment is lost, a writer of known contents took the segment's output
-  abbrev pub TakesOutput : (segment : Segment T E EV W) (port : Port T EV W) → Type 0
-  TakesOutput segment port =
-      IsTrue (list_all (λ outcome. not (is_lost outcome)) (outcomes segment.newest))
-      → Appends (links.contents segment.out) (links.contents port.out)
-      (output start segment.before segment.newest)
+  -- if no byte of a segment is lost, a writer of known contents took the segment's output and nothing else
+  abbrev pub TakesOutput : (start : State) (segment : Segment T E EV W) → Type 0
+  TakesOutput start segment =
+      IsTrue (list_all (λ (done : Done T EV W E). not (is_lost done.sent)) segment.records)
+      → Appends (links.contents segment.out) (links.contents segment.end.out)
+      (output start segment.before (trace_of segment.records))
 
-  -- what holds of each segment and of the port at its end
-  module _ (Holds : (segment : Segment T E EV W) (port : Port T EV W) → Type 0) where
-    -- at a restore that succeeds, the old port comes back in its state, its segment over, and the new trigger is called
-    -- for the conditions that are due. At one that fails, the trigger was called up to the refusal
-    abbrev pub AtRestore : (segment : Segment T E EV W) (call : Call T EV W) (reply : Reply T EV W E) → Type 0
-    AtRestore segment (Call.Restore trigger events out) (Restored old) =
-        (old.state ≡ state_of_history start (trace_in segment)) × Holds segment old
-        × ((now : T) × links.trigger trigger (all_ok (restore_calls_due start (trace_in segment))) now)
-    AtRestore segment (Call.Restore trigger events out) (NotRestored refused) =
-        RefusesOwnState links.trigger (restore_calls_due start (trace_in segment)) refused.error trigger refused.trigger
-        × (refused.events ≡ events) × (refused.out ≡ out)
-    AtRestore segment call reply = ⊤
+  -- ---- restores that are refused
 
-    -- over calls and their records, to the port at the end
-    abbrev pub SegmentsAre :
-        (segment : Segment T E EV W) (calls : List (Call T EV W)) (records : List (Done T EV W E))
-        (end : Port T EV W) → Type 0
-    SegmentsAre segment [] [] end = Holds segment end
-    SegmentsAre segment (call ∷ calls) (done ∷ later) end =
-        AtRestore segment call done.reply
-        × SegmentsAre (next_segment start segment call (entry_of done) done.reply) calls later end
-    SegmentsAre segment _ _ end = ⊥
+  -- why, and the three objects that come back: the trigger called up to and with the refusal, the others as handed in
+  abbrev pub IsRefusalAt :
+      (account : Account) (trace : Trace) (call : Call T EV W) (reply : Reply T EV W E) → Type 0
+  IsRefusalAt account trace (Call.Restore trigger events out) (NotRestored refused) =
+      RefusesOwnState links.trigger (account.due trace) refused.error trigger refused.trigger
+      × (refused.events ≡ events) × (refused.out ≡ out)
+  IsRefusalAt account trace call reply = ⊤
+
+  abbrev pub RefusalsAre :
+      (account : Account) (trace : Trace) (calls : List (Call T EV W)) (records : List (Done T EV W E)) → Type 0
+  RefusalsAre account trace (call ∷ calls) (done ∷ later) =
+      IsRefusalAt account trace call done.reply × RefusalsAre account (entry_of done ∷ trace) calls later
+  RefusalsAre account trace _ _ = ⊤
+
+  -- ---- a run by its segments
+
+  pub record SegmentsAre
+      (account : Account) (start : Port T EV W) (calls : List (Call T EV W)) (records : List (Done T EV W E))
+      (end : Port T EV W) : Type 0 where
+    pub served : AllByRecursion (IsServed account) (segments_of account start calls records end)
+    pub refused : RefusalsAre account [] calls records

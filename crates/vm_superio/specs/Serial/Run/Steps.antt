@@ -1,8 +1,10 @@
 -- A run of calls with a record of each, by the steps of these calls.
 use Rattle.std.specs.Prelude.{◌≡◌, List, [], ◌∷◌, None}
-use Rattle.vm_superio.specs.Serial.{Port, write_response, enqueue_response, timeout_response, refusal_in_result, Asked, Sent, Read, Write, Enqueue, CharacterTimeout, ByteRead, restore_calls}
+use Rattle.vm_superio.specs.Serial.{Port, State, TraceEntry, Trace, step_events, write_response, enqueue_response, timeout_response, refusal_in_result, Asked, Sent, Read, Write, Enqueue, CharacterTimeout, ByteRead, restore_calls}
 use Rattle.vm_superio.specs.Links.{all_ok, RefusesOwnState}
-use Rattle.vm_superio.specs.Links.Writer.{PortLinks}
+use Rattle.vm_superio.specs.Links.Writer.{PortLinks, bytes_sent}
+use Rattle.vm_superio.specs.Serial.Laws.{state_after}
+use Rattle.vm_superio.specs.Serial.Run.Segments.{Account}
 use Rattle.vm_superio.specs.Serial.Step.{IsPortStep}
 use Rattle.vm_superio.specs.Serial.Run.{Call, Reply, Byte, Wrote, Enqueued, TimedOut, Restored, NotRestored, Done, act_of}
 
@@ -39,3 +41,12 @@ module _ {T E EV W : Type 0} (links : PortLinks T E EV W) where
       × ((next : Port T EV W) × IsCallStep call done.asked done.sent done.reply old next × IsRun next calls later end)
   IsRun old [] (done ∷ later) end = ⊥
   IsRun old (call ∷ calls) [] end = ⊥
+
+-- a port by the steps of its calls, from any start
+abbrev pub by_steps : (start : State) → Account
+by_steps start = record {
+  state = state_after start;
+  due = λ (trace : Trace). restore_calls (state_after start trace);
+  events = λ (trace : Trace) (entry : TraceEntry). step_events (state_after start trace) entry.op entry.sent;
+  bytes = λ (trace : Trace) (entry : TraceEntry). bytes_sent entry.op entry.sent;
+}
