@@ -1,6 +1,7 @@
 -- Lemmas on the clock's history.
 use Rattle.std.proofs.Common.{◌≡◌, ℕ, zero, suc, ◌+◌, ◌-◌, ◌/◌, ◌^◌, ◌<◌, Bool, true, false, ap, sym, ◌∙◌, arith, ◌%◌, ◌==◌, if◌then◌else◌, not, ◌&&◌, ◌||◌, nat_le, nat_lt, bit_and, bit_or, Option, Some, None, is_some, unwrap_or, List, [], ◌∷◌, ℤ, pos, ◌+ℤ◌, ◌-ℤ◌, refl}
 use Rattle.std.specs.Int.{bit_at, w32, to_le_bytes, from_le_bytes}
+use Rattle.std.specs.List.{list_any}
 use Rattle.std.specs.Option.{option_or, option_map_or}
 use Rattle.std.specs.Int.Bits.{and_zero_r, or_zero_r}
 use Rattle.std.proofs.lemmas.Bool.Decides.{nat_tests}
@@ -11,7 +12,7 @@ use Rattle.std.proofs.lemmas.Nat.Bits.{bit_at_or, bit_at_ones_above, bit_at-lt, 
 use Rattle.superio_core.specs.declared.rtc_pl031.registers.ClockRegister.{ClockRegister}
 use Rattle.superio_core.specs.declared.rtc_pl031.registers.ClockRegister.TheVariants.{Mr, Lr, Cr, Imsc, Icr}
 use Rattle.superio_core.specs.Bits.{with_bits, without_bits}
-use Rattle.vm_superio.specs.Rtc.{ClockIsHistory, ReadsByHistory, GoesOnByHistory, is_cleared, RaisesAt, RaisesNothingAt, AlarmDueByHistory, SetTimeLaw, RtcState, Access, read, write, clock_register_at, host_time, guest_time, clock_register_read, bytes_left, moment_of, fresh_clock, guest_time_in, after_alarm, after_write, clock_step, clock_response, state_after_accesses, is_alarm_reached, Setting, load, reset, setting_of, load_by, counter_by, newest_found, value_written, clock_of_history, clock_history_response, counter, cleared_bits, cleared_by, guest_time_at, match_value, match_written, is_alarm_set, is_match_passed, is_armed, is_alarm_raised}
+use Rattle.vm_superio.specs.Rtc.{ClockIsHistory, ReadsByHistory, GoesOnByHistory, is_cleared, RaisesAt, RaisesNothingAt, AlarmDueByHistory, SetTimeLaw, RtcState, Access, read, write, clock_register_at, host_time, guest_time, clock_register_read, bytes_left, moment_of, fresh_clock, guest_time_in, after_alarm, after_write, clock_step, clock_response, state_after_accesses, is_alarm_reached, Setting, load, reset, setting_of, load_by, counter_by, newest_found, value_written, clock_of_history, clock_history_response, counter, cleared_bits, cleared_by, guest_time_at, match_value, match_written, is_alarm_set, guest_times_since_match, is_reached, is_armed, is_alarm_raised}
 use Rattle.superio_core.proofs.Lemmas.{bit_at-without, without-twice, without-of-or, or-twice}
 
 -- ---- the alarm at an access
@@ -29,19 +30,19 @@ set-again : (kept : ℕ) (raised : Bool) → with_bits (with_bits kept (if raise
 unfolding with_bits
 set-again kept raised = grind (arith, or-twice, or_zero_r)
 
--- what becomes of an alarm: whether one was set, guest time had passed the match before, and has reached it now
-checked : (set passed come raised : Bool) (lr : ℕ) (offset : ℤ) (mr imsc kept : ℕ) →
-    let old : RtcState = record { lr = lr; offset = offset; mr = mr; imsc = imsc; ris = with_bits kept (if raised then 1 else 0); armed = not passed && set } in
-    (if (not passed && set) && come then record old { ris = with_bits old.ris 1; armed = false } else old)
-    ≡ record old { ris = with_bits kept (if ((not passed && set) && come) || raised then 1 else 0); armed = not (come || passed) && set }
-checked set passed come raised lr offset mr imsc kept = grind (arith, set-again)
+-- an alarm at an access: whether one was set, an earlier access reached it, and this one does
+checked : (set before now raised : Bool) (lr : ℕ) (offset : ℤ) (mr imsc kept : ℕ) →
+    let old : RtcState = record { lr = lr; offset = offset; mr = mr; imsc = imsc; ris = with_bits kept (if raised then 1 else 0); armed = set && not before } in
+    (if (set && not before) && now then record old { ris = with_bits old.ris 1; armed = false } else old)
+    ≡ record old { ris = with_bits kept (if ((set && not before) && now) || raised then 1 else 0); armed = set && not (now || before) }
+checked set before now raised lr offset mr imsc kept = grind (arith, set-again)
 
 -- a read continues the history: it may reach the alarm
 read_goes_on : (start : RtcState) (trace : List Access) (offset now : ℕ) → after_alarm (clock_of_history start trace) (host_time now) ≡ clock_of_history start (read offset now ∷ trace)
 read_goes_on start trace offset now =
     let h = clock_of_history start trace in
     ap (λ guest. if h.armed && nat_le h.mr guest then record h { ris = with_bits h.ris 1; armed = false } else h) (guest_time-history start trace (host_time now))
-    ∙ checked (is_alarm_set start trace) (is_match_passed start trace) (nat_le h.mr (guest_time_at start trace (read offset now))) (is_alarm_raised start trace) h.lr h.offset h.mr h.imsc (without_bits start.ris (cleared_bits trace))
+    ∙ checked (is_alarm_set start trace) (is_reached start trace) (nat_le h.mr (guest_time_at start trace (read offset now))) (is_alarm_raised start trace) h.lr h.offset h.mr h.imsc (without_bits start.ris (cleared_bits trace))
 
 -- ---- what a write is to the history, by the register that it names
 
@@ -82,11 +83,16 @@ longer start trace setting matched masked clears guest = record {
       (if not (bit_at clears 0 == 1)
       && ((option_map_or (λ value. value == guest) matched false || (is_armed start trace && nat_le (match_value start trace) guest))
       || is_alarm_raised start trace) then 1 else 0);
-  armed = not (not (is_some matched) && (nat_le (match_value start trace) guest || is_match_passed start trace))
-      && option_map_or (λ value. nat_lt guest value) matched (is_alarm_set start trace);
+  armed = option_map_or (λ value. nat_lt guest value) matched (is_alarm_set start trace)
+      && not (list_any (λ guest. nat_le (unwrap_or (option_or matched (newest_found match_written trace)) start.mr) guest)
+      (if is_some matched then [] else guest ∷ guest_times_since_match start trace));
 }
 
 -- ---- a write by the register that it names
+
+-- no access reached an alarm that is set now
+and-not-false : (set : Bool) → set ≡ (set && not false)
+and-not-false set = grind arith
 
 -- a match write of guest time raises, whether or not the interrupt is raised
 raised-at-once : (at_once raised : Bool) (kept : ℕ) →
@@ -139,7 +145,9 @@ by_register start trace offset value now Mr =
     let reached = is_armed start trace && nat_le (match_value start trace) guest in
     ap (λ guest. record found { mr = value; ris = if value == guest then with_bits found.ris 1 else found.ris; armed = nat_lt guest value })
     (guest_time-history start (read offset now ∷ trace) (host_time now))
-    ∙ ap (λ ris. record found { mr = value; ris = ris; armed = nat_lt guest value })
+    ∙ ap (λ armed. record found { mr = value; ris = if value == guest then with_bits found.ris 1 else found.ris; armed = armed })
+    (and-not-false (nat_lt guest value))
+    ∙ ap (λ ris. record found { mr = value; ris = ris; armed = nat_lt guest value && not false })
     (raised-at-once (value == guest) (reached || is_alarm_raised start trace) (without_bits start.ris (cleared_bits trace))
     ∙ ap (λ (raised : Bool). with_bits (without_bits start.ris (cleared_bits trace)) (if raised then 1 else 0)) (or-assoc (value == guest) reached (is_alarm_raised start trace)))
 by_register start trace offset value now Lr =
@@ -188,6 +196,8 @@ begins start =
     let none_cleared : start.ris ≡ bit_or (without_bits start.ris 0) 0 = omega (arith, and_zero_r start.ris, or_zero_r (without_bits start.ris 0)) in
     ap (λ offset. record start { offset = offset }) no_offset
     ∙ ap (λ ris. record start { offset = pos 0 +ℤ start.offset; ris = ris }) none_cleared
+    ∙ ap (λ armed. record start { offset = pos 0 +ℤ start.offset; ris = bit_or (without_bits start.ris 0) 0; armed = armed })
+    (and-not-false start.armed)
 
 -- over any accesses the state is that of the history
 pub states : (start : RtcState) (trace : List Access) → state_after_accesses start trace ≡ clock_of_history start trace

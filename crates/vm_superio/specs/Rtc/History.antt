@@ -1,6 +1,7 @@
 -- The history of a clock: what its registers hold, by a search of its accesses alone. A trace is a list of accesses,
 -- newest first. It keeps no state.
 use Rattle.std.specs.Prelude.{ℕ, ◌+◌, ◌%◌, ℤ, pos, ◌+ℤ◌, ◌-ℤ◌, Bool, false, not, ◌==◌, ◌&&◌, ◌||◌, nat_lt, nat_le, is_some, if◌then◌else◌, List, [], ◌∷◌, Option, Some, None, unwrap_or, bit_or}
+use Rattle.std.specs.List.{list_any}
 use Rattle.std.specs.Option.{option_or, option_map_or}
 use Rattle.superio_core.specs.declared.rtc_pl031.saved_form.RtcState.{RtcState}
 use Rattle.superio_core.specs.Rtc.{Access, read, write, clock_register_at, host_time, guest_time, clock_register_read}
@@ -85,16 +86,21 @@ is_alarm_set start (access ∷ trace) =
     option_map_or (λ value. nat_lt (guest_time_at start trace access) value) (match_written access)
     (is_alarm_set start trace)
 
--- guest time had reached the match at some access since the last match write or, without one, since the start
-abbrev pub is_match_passed : (start : RtcState) (trace : List Access) → Bool
-is_match_passed start [] = false
-is_match_passed start (access ∷ trace) =
-    not (is_some (match_written access))
-    && (nat_le (match_value start trace) (guest_time_at start trace access) || is_match_passed start trace)
+-- the guest times of the accesses since the last match write or, without one, since the start
+abbrev pub guest_times_since_match : (start : RtcState) (trace : List Access) → List ℕ
+guest_times_since_match start [] = []
+guest_times_since_match start (access ∷ trace) =
+    if is_some (match_written access) then []
+    else guest_time_at start trace access ∷ guest_times_since_match start trace
+
+-- one of these is at the match or past it
+abbrev pub is_reached : (start : RtcState) (trace : List Access) → Bool
+is_reached start trace =
+    list_any (λ guest. nat_le (match_value start trace) guest) (guest_times_since_match start trace)
 
 -- an alarm is set and was not reached
 abbrev pub is_armed : (start : RtcState) (trace : List Access) → Bool
-is_armed start trace = not (is_match_passed start trace) && is_alarm_set start trace
+is_armed start trace = is_alarm_set start trace && not (is_reached start trace)
 
 -- an access raises the interrupt if it is a match write of guest time itself, or reaches the alarm
 abbrev pub raises_alarm : (start : RtcState) (trace : List Access) (access : Access) → Bool
