@@ -1,9 +1,10 @@
 -- The step of a call in any state, coherent or not: what it responds, the state that it leaves, the events that it
--- reports and the trigger calls that it makes, given the trigger's answers and the outcome of a byte. And what a call's
--- contract says of it.
-pub mod Admissible
+-- reports and the trigger calls that it makes, given the trigger's answers and the outcome of a byte. Then which answers
+-- and outcomes can come, and the step of a port without objects: the effects that a call returns for its caller to carry
+-- out.
 use Rattle.std.specs.Prelude.{ℕ, ◌+◌, ◌-◌, Bool, not, ◌==◌, ◌&&◌, ◌||◌, nat_le, if◌then◌else◌, List, [], ◌∷◌, ◌++◌, length, take, drop, ◌≡◌}
-use Rattle.superio_core.specs.Serial.Operations.{Asked, Sent, Op, Read, Write, Enqueue, CharacterTimeout, Restore, Response, ByteRead, EnqueueOk, TimeoutOk, TriggerRefused, FifoFull, NoResponse, Event, buffer_read, out_byte, tx_lost_byte, in_buffer_empty, is_refused_at_once, recorded_write_response, count_if, OpKind, IerWrite, ThrWrite, Arrival, Timeout, kind_of, sent_by, events_of_read}
+use Rattle.std.specs.Bool.{beq}
+use Rattle.superio_core.specs.Serial.Operations.{Asked, Sent, Op, Read, Write, Enqueue, CharacterTimeout, Restore, Response, ByteRead, EnqueueOk, TimeoutOk, TriggerRefused, FifoFull, NoResponse, Event, buffer_read, out_byte, tx_lost_byte, in_buffer_empty, is_refused_at_once, recorded_write_response, count_if, is_sent, OpKind, IerWrite, ThrWrite, Arrival, Timeout, kind_of, sent_by, events_of_read}
 use Rattle.superio_core.specs.Bits.{has_bits, only_bits, with_bits, without_bits}
 use Rattle.superio_core.specs.Serial.{State, not_empty, register_read}
 use Rattle.superio_core.specs.Serial.RegisterMap.{Register, Dll, Dlm, RbrThr, Ier, Iir, Lcr, Mcr, Scr, register_at, is_dlab, is_loopback, Condition, Rda, Thre, ier_bit, iir_bit, lsr_dr_bit, ier_bits}
@@ -203,6 +204,21 @@ step_calls s op = kind_calls (kind_in_state s op) s
 -- a byte goes to the writer
 abbrev pub sends_byte : (s : State) (op : Op) → Bool
 sends_byte s op = not_empty (sent_by (kind_in_state s op))
+
+-- ---- which answers of the trigger and which outcome of a byte can come
+
+-- each call is answered, and a refusal ends the operation
+abbrev pub answers_all : (calls : ℕ) (asked : Asked) → Bool
+answers_all calls Asked.Nothing = calls == 0
+answers_all calls Asked.Took = calls == 1
+answers_all calls Asked.Refused = nat_le 1 calls
+answers_all calls Asked.TookTook = calls == 2
+answers_all calls Asked.TookRefused = calls == 2
+
+-- the trigger's calls are answered, and there is an outcome exactly if a byte goes to the writer
+abbrev pub is_admissible : (s : State) (op : Op) (asked : Asked) (sent : Sent) → Bool
+is_admissible s op asked sent =
+    answers_all (step_calls s op) asked && beq (is_sent sent) (sends_byte s op)
 
 -- ---- one call of a port, as its contract states it: the effects that the caller has to carry out, and the state
 -- after it, which is that of a step without a refusal, whatever the caller finds when it does

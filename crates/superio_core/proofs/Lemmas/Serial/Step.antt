@@ -6,8 +6,7 @@ use Rattle.superio_core.specs.Serial.Operations.{Asked, Op, Read, Write, Enqueue
 use Rattle.superio_core.specs.Serial.{State, not_empty, is_asserted, is_line_up, restore_calls, ShowsHeldBytes}
 use Rattle.superio_core.specs.Bits.{only_bits, has_bits, with_bits, without_bits}
 use Rattle.superio_core.specs.Serial.RegisterMap.{Register, RbrThr, Ier, register_at, is_dlab, is_loopback, Thre, Rda, identification_of, pending_in_order}
-use Rattle.superio_core.specs.Serial.Step.{raise, enqueued_bytes, receive_bytes, bytes_that_fit, becomes_pending, rda_becomes_pending, raise_rda_while_held, kind_in_state, step, rbr_read, ier_write, read_step, write_step, character_timeout}
-use Rattle.superio_core.specs.Serial.Step.Admissible.{answers_all}
+use Rattle.superio_core.specs.Serial.Step.{raise, enqueued_bytes, receive_bytes, bytes_that_fit, becomes_pending, rda_becomes_pending, raise_rda_while_held, kind_in_state, step, rbr_read, ier_write, read_step, write_step, character_timeout, answers_all}
 use Rattle.superio_core.proofs.Lemmas.Serial.{enables_rda, enables_thre}
 
 -- ---- the state
