@@ -152,8 +152,8 @@ pub fn asks_for_more()
 /// after its last read of IIR: the interrupt is asked for again as long as it has bytes left, and the byte with i bytes
 /// before it is sent within i + 1 runs, whatever is received and whatever timeouts are made meanwhile. A handler that
 /// goes on until IIR shows nothing pending, as Linux's does, sends all its bytes in one run. It also leaves no received
-/// byte, unless its last turn took as many as it takes in one; those wait for a character timeout. Such a run is one of
-/// which [`interrupt_driver`] speaks.
+/// byte, unless its last turn took as many as it takes in one; those wait for a character timeout. Such a run is also
+/// one in the sense of [`interrupt_driver`].
 #[tactic(auto, using(crate::proofs::Lemmas::Serial::Laws::Transmit::transmit_laws))]
 pub fn sending_driver()
     ensures asked_again { AskedAgainLaw }

@@ -1,4 +1,4 @@
--- The records of a run as a trace.
+-- The calls of a run and their records: each record as an entry of a trace, and what the reads show.
 pub mod HistoryTheorem
 pub mod Segments
 pub mod Steps

@@ -86,8 +86,8 @@ module _ {T E EV W : Type 0} (trigger : Link T (TriggerAnswer E)) (events : Link
 
 -- ---- why a restore is refused
 
--- a state that was not restored: why, and what became of the trigger. Either it holds more than 64 bytes, and the
--- trigger was not called, or it holds no more, and is refused as a port's own state is
+-- why a restore failed, and which calls the trigger had. Either the state holds more than 64 bytes, and the trigger was
+-- not called, or it holds at most 64, and the reason is one for which a port's own state is refused
 abbrev pub RefusesRestore :
     {T E : Type 0} → (link : Link T (TriggerAnswer E)) (s : State) (error : Error E) (old new : T) → Type 0
 RefusesRestore link s FullFifo old new = (64 < length s.in_buffer) × (new ≡ old)

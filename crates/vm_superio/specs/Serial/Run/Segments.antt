@@ -33,6 +33,7 @@ pub record Segment (T E EV W : Type 0) : Type 0 where
 -- ---- the segments of a run
 
 module _ {T E EV W : Type 0} where
+  -- the reply to a restore that succeeds
   abbrev pub is_restored : (reply : Reply T EV W E) → Bool
   is_restored (Restored old) = true
   is_restored _ = false
@@ -52,7 +53,7 @@ module _ {T E EV W : Type 0} where
   end_of (done ∷ later) end = old_port_or done.reply (end_of later end)
 
   module _ (account : Account) where
-    -- a restore that succeeds begins a segment with its own objects. The trigger took a call for each condition due
+    -- a restore that succeeds begins a segment with its own objects. Its trigger took one call for each condition due
     abbrev pub segment_begun :
         (trace : Trace) (call : Call T EV W) (reply : Reply T EV W E) (entry : TraceEntry)
         (later : List (Done T EV W E)) (end : Port T EV W) → List (Segment T E EV W)
@@ -100,15 +101,15 @@ module _ {T E EV W : Type 0} where
   abbrev pub outcomes_in : (records : List (Done T EV W E)) → List Sent
   outcomes_in records = flat_map (λ (done : Done T EV W E). outcome_of done.sent) records
 
-  -- what each adds at its point, after a trace
+  -- what each record adds at its point, after a trace
   abbrev pub in_order :
-      {A : Type 0} (of : Trace → TraceEntry → List A) (trace : Trace) (records : List (Done T EV W E)) → List A
-  in_order of trace [] = []
-  in_order of trace (done ∷ later) = of trace (entry_of done) ++ in_order of (entry_of done ∷ trace) later
+      {A : Type 0} (adds : Trace → TraceEntry → List A) (trace : Trace) (records : List (Done T EV W E)) → List A
+  in_order adds trace [] = []
+  in_order adds trace (done ∷ later) = adds trace (entry_of done) ++ in_order adds (entry_of done ∷ trace) later
 
 module _ {T E EV W : Type 0} (links : PortLinks T E EV W) where
-  -- each object of a segment had these calls and no other, in order. `made` is the trigger after the restore that began
-  -- the segment. The port at its end has the state of its point: so has the old port that a restore hands back
+  -- each object of a segment had these calls and no other, in order: the trigger first those of the restore, after which
+  -- it is `made`. The port at the end of the segment has the state of that point, also if a restore hands it back
   pub record IsServed (account : Account) (segment : Segment T E EV W) : Type 0 where
     pub made : T
     pub restored : links.trigger segment.trigger segment.restoring made

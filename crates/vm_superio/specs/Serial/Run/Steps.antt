@@ -1,4 +1,4 @@
--- A run of calls with a record of each, by the steps of these calls.
+-- A run of calls with a record of each, by the steps of these calls; and what these steps say of a port at each point.
 use Rattle.std.specs.Prelude.{◌≡◌, List, [], ◌∷◌, None}
 use Rattle.vm_superio.specs.Serial.{Port, State, TraceEntry, Trace, step_events, write_response, enqueue_response, timeout_response, refusal_in_result, Asked, Sent, Read, Write, Enqueue, CharacterTimeout, ByteRead, restore_calls}
 use Rattle.vm_superio.specs.Links.{all_ok, RefusesOwnState}
