@@ -1,7 +1,7 @@
 -- Worked examples of words that laws and contracts only assume, or bound by, since with a wrong one they would say less.
-use Rattle.std.proofs.Common.{◌≡◌, ℕ, ◌≤◌, true, false, List, [], ◌∷◌, ◌++◌, length, map, count_by, replicate, refl, sym, ap, ◌∙◌, arith, inl}
+use Rattle.std.proofs.Common.{◌≡◌, ℕ, ◌≤◌, true, false, List, [], ◌∷◌, ◌++◌, length, map, count_by, replicate, refl, sym, subst, ap, ◌∙◌, arith, inl, Ok, append-nil}
 use Rattle.std.proofs.lemmas.Bool.{false≢true}
-use Rattle.vm_superio.specs.Serial.{Asked, Sent, Coherent, State, fresh_state, Port, Memory, Op, Read, Write, Enqueue, Response, ByteRead, WriteOk, EnqueueOk, Trace, TraceEntry, IerWrite, ThrWrite, is_iir_read, is_rbr_read, Rda, Thre, restore_calls, is_dlab, is_loopback, has_bits, only_bits, with_bits}
+use Rattle.vm_superio.specs.Serial.{Asked, Sent, Coherent, State, fresh_state, Port, Memory, Op, Read, Write, Enqueue, Response, ByteRead, WriteOk, EnqueueOk, Trace, TraceEntry, IerWrite, ThrWrite, is_iir_read, is_rbr_read, Rda, Thre, restore_calls, step, is_dlab, is_loopback, has_bits, only_bits, with_bits}
 use Rattle.vm_superio.specs.Claims.{is_fresh, shows_data, is_outside, is_inside, is_masked}
 use Rattle.vm_superio.specs.Links.{Link, TriggerAnswer, all_ok}
 use Rattle.vm_superio.specs.Serial.History.{NoneAcknowledges, acknowledges, held_bytes, taken_bytes, op_kinds, shows_waiting_bytes}
@@ -10,10 +10,13 @@ use Rattle.vm_superio.specs.Serial.Laws.Line.{RunsAtInterrupts, TakenAfterRunsLa
 use Rattle.vm_superio.specs.Serial.Laws.Transmit.{IsHandled}
 use Rattle.vm_superio.proofs.Lemmas.Serial.Laws.Consequences.{none_more, nowhere}
 use Rattle.vm_superio.specs.Serial.Laws.PortRun.{PortCall, PortCallsFollow, ops_of_calls, trace_with, interrupts_told, PortBoundLaw}
-use Rattle.vm_superio.specs.Serial.Run.{Act, Call, Done, Reply, Byte, Restored, NotRestored, entry_of, without_restores}
-use Rattle.vm_superio.specs.Serial.Run.Segments.{Account, Segment, segments_of}
+use Rattle.vm_superio.specs.Serial.Run.{Act, Call, Done, Reply, Byte, Wrote, Restored, NotRestored, entry_of, without_restores}
+use Rattle.vm_superio.specs.Serial.Run.Segments.{Account, Segment, segments_of, SegmentsAre}
+use Rattle.vm_superio.specs.Serial.Run.Steps.{by_steps}
+use Rattle.vm_superio.specs.Links.Writer.{PortLinks, WriterLink}
 use Rattle.vm_superio.specs.declared.serial.errors.Refused.{Refused}
 use Rattle.vm_superio.specs.Serial.Step.{RefusesRestore}
+use Rattle.vm_superio.specs.Rtc.{Access, read, write, fresh_clock, guest_times_since_match, is_armed}
 
 -- ---- the bound on interrupts that a caller is told
 
@@ -32,13 +35,14 @@ no_restore_is_left done restored = simp (restored)
 
 -- ---- a run, split at the restores that succeed
 
+-- a call that calls no trigger and sends no byte
+abbrev done : {T E EV W : Type 0} → (act : Act) (reply : Reply T EV W E) → Done T EV W E
+done act reply = record { act = act; asked = Asked.Nothing; sent = Sent.Nothing; reply = reply }
+
 -- a read; a restore that is refused, and one that succeeds, of the objects with an `s`; and a read
 module _
     {T E EV W : Type 0} (account : Account) (start old end : Port T EV W) (trigger triggers : T) (event events : EV)
     (out outs : W) (byte : ℕ) (refused : Refused T EV W E) where
-  abbrev done : (act : Act) (reply : Reply T EV W E) → Done T EV W E
-  done act reply = record { act = act; asked = Asked.Nothing; sent = Sent.Nothing; reply = reply }
-
   two_segments :
       let reads = done (Act.Read 0) (Byte byte) in
       let fails = done Act.Restore (NotRestored refused) in
@@ -59,6 +63,41 @@ module _
       (reads ∷ fails ∷ succeeds ∷ reads ∷ []) end
       ≡ first ∷ second ∷ []
   two_segments = refl
+
+-- the guest sends a byte, the port is restored, and the guest sends another, from any state. Each writer took the byte
+-- that was sent while it served; the new trigger had the calls due for the state of the old port, which comes back
+module _
+    {T E EV W : Type 0} (links : PortLinks T E EV W) (start old end : Port T EV W) (trigger : T) (events : EV)
+    (out : W) where
+  abbrev sent : (value : ℕ) → Done T EV W E
+  sent value = record { act = Act.Write 0 value; asked = Asked.Nothing; sent = Sent.Out; reply = Wrote (Ok tt) }
+
+  record EachServes : Type 0 where
+    first_writer : WriterLink links.contents (Sent.Out ∷ []) (0x41 ∷ []) start.out old.out
+    second_writer : WriterLink links.contents (Sent.Out ∷ []) (0x42 ∷ []) out end.out
+    first_trigger : links.trigger start.trigger [] old.trigger
+    second_trigger : links.trigger trigger (all_ok (restore_calls old.state)) end.trigger
+    old_state : old.state ≡ step start.state (Write 0 0x41) Asked.Nothing
+    end_state : end.state ≡ step old.state (Write 0 0x42) Asked.Nothing
+
+  each_serves :
+      SegmentsAre links (by_steps start.state) start
+      (Call.Write 0 0x41 ∷ Call.Restore trigger events out ∷ Call.Write 0 0x42 ∷ [])
+      (sent 0x41 ∷ done Act.Restore (Restored old) ∷ sent 0x42 ∷ []) end
+      → EachServes
+  each_serves are =
+      let first = are.served.0 in
+      let second = are.served.1.0 in
+      record {
+        first_writer = first.out;
+        second_writer = second.out;
+        first_trigger = first.trigger;
+        second_trigger =
+            subst (λ answers. links.trigger trigger answers end.trigger) (append-nil (all_ok (restore_calls old.state)))
+            (subst (λ s. links.trigger trigger (all_ok (restore_calls s) ++ []) end.trigger) (sym first.state) second.trigger);
+        old_state = first.state;
+        end_state = second.state ∙ ap (λ s. step s (Write 0 0x42) Asked.Nothing) (sym first.state);
+      }
 
 -- ---- what waiting bytes, drivers and the line are said of
 
@@ -196,8 +235,8 @@ module _ {T EV W : Type 0} (port : Port T EV W) where
 abbrev call : Op → Response → TraceEntry × Response
 call op response = (record { op = op; asked = Asked.Nothing; sent = Sent.Nothing }, response)
 
-abbrev read : (offset byte : ℕ) → TraceEntry × Response
-read offset byte = call (Read offset) (ByteRead byte)
+abbrev reads : (offset byte : ℕ) → TraceEntry × Response
+reads offset byte = call (Read offset) (ByteRead byte)
 
 abbrev enqueue : (bytes : List ℕ) → TraceEntry × Response
 enqueue bytes = call (Enqueue bytes) (EnqueueOk (length bytes))
@@ -205,8 +244,8 @@ enqueue bytes = call (Enqueue bytes) (EnqueueOk (length bytes))
 -- after data ready it reads one byte; for the second it has not looked
 looks_before_it_reads :
     map (polls_after_data_ready fresh_state [] false) (
-    (enqueue (0x61 ∷ []) ∷ read 5 0x61 ∷ call (Write 7 0x12) WriteOk ∷ read 0 0x61 ∷ read 5 0x60 ∷ [])
-    ∷ (enqueue (0x61 ∷ 0x62 ∷ []) ∷ read 5 0x61 ∷ read 0 0x61 ∷ read 0 0x62 ∷ [])
+    (enqueue (0x61 ∷ []) ∷ reads 5 0x61 ∷ call (Write 7 0x12) WriteOk ∷ reads 0 0x61 ∷ reads 5 0x60 ∷ [])
+    ∷ (enqueue (0x61 ∷ 0x62 ∷ []) ∷ reads 5 0x61 ∷ reads 0 0x61 ∷ reads 0 0x62 ∷ [])
     ∷ [])
     ≡ true ∷ false ∷ []
 unfolding has_bits only_bits with_bits
@@ -215,7 +254,28 @@ looks_before_it_reads = refl
 -- both reads were made while data ready would show, though the driver did not look; and one while it would not
 reads_while_ready :
     map (polls fresh_state []) (
-    (enqueue (0x61 ∷ 0x62 ∷ []) ∷ read 0 0x61 ∷ read 0 0x62 ∷ []) ∷ (read 0 0x00 ∷ []) ∷ [])
+    (enqueue (0x61 ∷ 0x62 ∷ []) ∷ reads 0 0x61 ∷ reads 0 0x62 ∷ []) ∷ (reads 0 0x00 ∷ []) ∷ [])
     ≡ true ∷ false ∷ []
 unfolding has_bits only_bits with_bits
 reads_while_ready = refl
+
+-- ---- the alarm of the clock
+
+-- newest first: a match write of 5 when guest time is 3, and reads at 4 and at 6
+abbrev reached_at_6 : List Access
+reached_at_6 = read 0x000 6 ∷ read 0x000 4 ∷ write 0x004 5 3 ∷ []
+
+reaches_its_match :
+    guest_times_since_match fresh_clock reached_at_6 ∷ guest_times_since_match fresh_clock (write 0x004 9 7 ∷ reached_at_6) ∷ []
+    ≡ (6 ∷ 4 ∷ []) ∷ [] ∷ []
+reaches_its_match = refl
+
+-- the read at 4 leaves it armed, that at 6 reaches it, and a match write of a time to come sets it again
+armed_until_reached :
+    is_armed fresh_clock (read 0x000 4 ∷ write 0x004 5 3 ∷ [])
+    ∷ is_armed fresh_clock reached_at_6
+    ∷ is_armed fresh_clock (write 0x004 9 7 ∷ reached_at_6)
+    ∷ is_armed fresh_clock (write 0x004 7 7 ∷ reached_at_6)
+    ∷ []
+    ≡ true ∷ false ∷ true ∷ false ∷ []
+armed_until_reached = refl
