@@ -1,5 +1,5 @@
--- The serial port: what a contract sees of it, and of what its calls return, with the words of superio_core that all
--- modules below use. These are the step of one call, the history, runs, and the laws that join them.
+-- The serial port: what a contract sees of it and of what its calls return, with the words of superio_core that the
+-- modules below use. They hold the step of one call, the history, runs, and the laws that join them.
 pub mod History
 pub mod Laws
 pub mod Run

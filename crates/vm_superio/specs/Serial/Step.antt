@@ -1,4 +1,5 @@
--- One call of a port, as its contract states it.
+-- One call of a port, as its contract states it: its step, with the calls that each object had; why a restore is
+-- refused; and what stands after a call that failed.
 use Rattle.std.specs.Prelude.{◌≡◌, ℕ, ◌+◌, Bool, not, ◌&&◌, length, List, IsTrue, Option, None, Result, is_some, ◌<◌, ◌≤◌, ◌-◌, ◌++◌, take}
 use Rattle.vm_superio.specs.Serial.{Error, Port, write_response, enqueue_response, timeout_response, refusal_in_result, FullFifo, Trigger, IOError, Asked, Sent, Op, Read, Write, Enqueue, CharacterTimeout, Restore, Response, ByteRead, NoResponse, Event, ends_in_refusal, count_if, has_bits, State, Rda, Thre, iir_bit, step, step_response, step_events, is_admissible, sends_byte, restore_calls}
 use Rattle.vm_superio.specs.Links.{Link, TriggerAnswer, Contents, answers_of, RefusesOwnState}

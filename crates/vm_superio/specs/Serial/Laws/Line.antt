@@ -1,4 +1,5 @@
--- The laws of a character timeout: after it no byte waits without an interrupt.
+-- The laws of a character timeout, after which no byte waits without an interrupt; of a driver that takes bytes at
+-- interrupts; and of the level of the interrupt line.
 use Rattle.std.specs.Prelude.{◌≡◌, false, ◌∷◌, IsTrue, ℕ, zero, suc, ◌≤◌, ◌<◌, List, ◌++◌, length, ◌⊎◌, Bool, true, not, ◌==◌, ◌&&◌, ◌||◌, IsFalse}
 use Rattle.vm_superio.specs.Serial.{Asked, Sent, CharacterTimeout, TraceEntry, Trace, IirRead, Op, answer_count, OpKind, RbrRead, IerWrite, has_bits, only_bits, State, not_empty, ier_bits, Rda, Thre, Condition, ier_bit, identification_of, step, kind_in_state, is_admissible, is_asserted, is_line_up}
 use Rattle.vm_superio.specs.Serial.History.{interrupt_enable, held_bytes, kind_at, taken_bytes, is_pending, is_call_due, is_well_formed, TimeoutsShow}
