@@ -1,6 +1,7 @@
 """The lines of scripts and of recorded calls: what they reply by the search of the past in oracle.py, and those that
 checks make up: random ones, broken ones, loads of any bytes, and every answer in every state. docs/SCRIPT.md and
-tests/README.md have their forms."""
+tests/README.md have their forms. The program has the lines of LINES; the shell, the Python package and the page have
+those of FURTHER too."""
 import lzma
 import random
 import re
@@ -13,6 +14,7 @@ from program import ROOT, commit
 
 ROOM = 256                # bytes that the output of a script's board takes
 MOST_LINES, RUN = 36, 40  # of a random script, and calls of a random run
+DIGIT = "[0-9A-Fa-f]"
 # The kinds of saved states, and the contents of a clock's.
 SERIAL, CLOCK = 1, 2
 CLOCK_CONTENTS = Struct("<" + "".join(CLOCK_FIELDS.values()))
@@ -58,9 +60,9 @@ class Board:
         self.port, self.clock = Port(self), Clock()
 
     def reply(self, line, table=None):
-        """The reply to a line by its row of LINES, or of another table. `None` if it has none."""
+        """The reply to a line by its row of ALL, or of another table. `None` if it has none."""
         name, *texts = line.split(" ")
-        form, reply, _ = (table or LINES)[name]
+        form, reply, _ = (table or ALL)[name]
         values = (bytes.fromhex(text.strip("-")) if ".." in form else int(text, 16) for text in texts)
         return reply(self, *(values if form else texts))
 
@@ -147,8 +149,8 @@ class Line(NamedTuple):
     made: Dict[str, int]
 
 
-# The lines by their names, which begin with the letter of a device: those that scripts and recorded calls share, those
-# of scripts, and those of recorded calls.
+# The lines by their names, which begin with the letter of a device: those that scripts and recorded calls share, and
+# all that a board has.
 SHARED = {
     "sr": Line("HH", lambda it, offset: it.port.read(offset), {"PLACE": 3, "00": 3, "02": 3, "BYTE": 1}),
     "sw": Line("HH HH", lambda it, *write: it.port.write(*write), {
@@ -163,7 +165,7 @@ SHARED = {
     "kw": Line("HH HH", lambda it, *write: "reset" if write == (4, 0xFE) else "ok",
                {"04 fe": 2, "04 BYTE": 1, "BYTE fe": 1}),
 }
-LINES = {
+ALL = {
     **SHARED,
     "refuse": Line("HHHHHHHHHHHHHHHH", Board.refuse, {}),
     "sd": Line("", lambda it: it.port.drain(), {"": 1}),
@@ -176,6 +178,10 @@ LINES = {
     "cb": Line("", lambda it: saved(CLOCK, CLOCK_CONTENTS.pack(*it.clock.state().values())).hex(), {"": 1}),
     "cl": Line("HH..", lambda it, data=b"": it.load(CLOCK, data), {"KEPT": 1}),
 }
+# The further lines, which the program refuses, and its own.
+FURTHER = "si", "sb", "sl", "cb", "cl"
+LINES = {name: line for name, line in ALL.items() if name not in FURTHER}
+# Those of recorded calls. Their order is part of what random calls are made of.
 CALLS = {
     **SHARED,
     "sp": Line("", lambda it: it.port.retry(), {"": 1}),
@@ -185,16 +191,20 @@ CALLS = {
     "cs": Line("", lambda it: clock_text(it.clock.state()), {"": 1}),
     "cl": Line("", Monitor.put_clock, {}),
 }
-# The lines of scripts as a document has them, and as a regular expression.
-FORMS = [f"{name} {line.form}".rstrip() for name, line in LINES.items()]
-LINE = re.compile("|".join(FORMS).replace(" HH..", "( (HH){1,128})?").replace("H", "[0-9A-Fa-f]"))
 
 
-def script_replies(script):
-    """The replies of a script, and what its run says at the end: nothing, or which line is the first bad one."""
+def forms(table):
+    """The forms of lines, as a document has them."""
+    return [f"{name} {line.form}".rstrip() for name, line in table.items()]
+
+
+def script_replies(script, table=None):
+    """The replies of a script, and what its run says at the end: nothing, or which line is the first bad one. Lines
+    are those of the program, or of another table."""
+    line_form = re.compile("|".join(forms(table or LINES)).replace(" HH..", "( (HH){1,128})?").replace("H", DIGIT))
     board, replies = Board(), []
     for place, line in enumerate(script.removesuffix("\n").split("\n") if script else [], 1):
-        if not LINE.fullmatch(line) or (line.startswith("refuse") and place > 1):
+        if not line_form.fullmatch(line) or (line.startswith("refuse") and place > 1):
             return replies, f"bad line {place}"
         reply = board.reply(line)
         replies += [] if reply is None else [reply]
@@ -235,10 +245,13 @@ def clock_state(source):
     return {it: {"I": number(source), "q": ahead, "b": source.randrange(2)}[form] for it, form in CLOCK_FIELDS.items()}
 
 
-# What is drawn for a word in capitals. A moment mostly moves a clock about the ends of 32 bits.
+# What is drawn for a word in capitals. A moment mostly moves a clock about the ends of 32 bits, and values for LCR and
+# MCR mostly leave DLAB and loopback clear.
 DRAWN = {
     "BYTE": lambda source: f"{source.randrange(256):02x}",
     "PLACE": lambda source: f"{source.randrange(10):02x}",
+    "FORMAT": lambda source: f"{source.randrange(256) & source.choice((0x7F, 0x7F, 0xFF)):02x}",
+    "MODEM": lambda source: f"{source.randrange(256) & source.choice((0xEF, 0xEF, 0xFF)):02x}",
     "BYTES": lambda source: source.randbytes(source.choice((0, 1, 2, 3, 3, source.randrange(80)))).hex() or "-",
     "REGISTER": lambda source: f"{source.choice((*CLOCK_AT, 0xFE3, 0x21, source.getrandbits(16))):04x}",
     "NUMBER": lambda source: f"{number(source):08x}",
@@ -258,11 +271,28 @@ def made(table, devices):
             for fields, often in line.made.items()}
 
 
-# How often a script has a start, what that is, and the lines after it. At its end is what all devices have become.
-SCRIPTS = [(8, [], made(LINES, "s")), (8, ["sl SAVED"], made(LINES, "s")), (1, 255 * ["sw 00 BYTE"], made(LINES, "s")),
-           (4, [], made(LINES, "c")), (4, ["cl KEPT"], made(LINES, "c")),
-           (4, ["sl SAVED", "cl KEPT"], made(LINES, "sck"))]
-ENDS = ["so", "st", "se", "sc", "sb", "cb"]
+# How a guest and a monitor bring new devices to any state that they can, and how a script shows at its end what the
+# devices are: by reads, or saved.
+PORT_USED = ["sw 03 80", "sw 00 BYTE", "sw 01 BYTE", "sw 03 03", "sw 07 BYTE", "sw 01 BYTE", "sq BYTES", "sw 03 FORMAT",
+             "sw 04 MODEM"]
+CLOCK_USED = ["cw MOMENT 0008 NUMBER", "cw MOMENT 0010 NUMBER", "cw MOMENT 0004 NUMBER"]
+SHOWN = ["so", "st", "se", "sc", "sr 03", "sw 03 03", "sr 01", "sr 04", "sr 05", "sr 06", "sr 07", "ss", "st", "sr 02",
+         "sw 03 83", "sr 00", "sr 01", "sw 03 03", "sd", "se",
+         *(f"cr MOMENT 00{offset}" for offset in ("04", "08", "10", "14", "18")), "cr 00000000ffffffff 0018",
+         "cr 0000000000000000 0000"]
+AS_BYTES = ["so", "st", "se", "sc", "sb", "cb"]
+
+
+def script_kinds(table, port_start, clock_start, end):
+    """How often a random script has a start, what that is, the lines after it, and how it ends."""
+    return [(8, [], made(table, "s"), end), (8, port_start, made(table, "s"), end),
+            (1, 255 * ["sw 00 BYTE"], made(table, "s"), end), (4, [], made(table, "c"), end),
+            (4, clock_start, made(table, "c"), end), (4, [*port_start, *clock_start], made(table, "sck"), end)]
+
+
+# The kinds of scripts of the program, and of those with further lines.
+SCRIPTS = script_kinds(LINES, PORT_USED, CLOCK_USED, SHOWN)
+FURTHER_SCRIPTS = script_kinds(ALL, ["sl SAVED"], ["cl KEPT"], AS_BYTES)
 # The same of recorded calls, which begin with a state. Those that objects can answer have words.
 RUNS = [(15, ["sl PORT"], made(CALLS, "s"), " WORDS"), (4, ["cl CLOCK"], made(CALLS, "c"), ""),
         (1, [], made(CALLS, "k"), " WORDS")]
@@ -273,23 +303,23 @@ def drawn(source, text):
     return re.sub("[A-Z]+", lambda word: DRAWN[word[0]](source), text)
 
 
-def random_script(source):
+def random_script(source, kinds):
     """A script, with a character for each byte, half of them under a mask. One of eight is cut short, or has a byte
     changed, taken out or put in."""
-    (_, start, table), = source.choices(SCRIPTS, [often for often, *_ in SCRIPTS])
+    (_, start, table, end), = source.choices(kinds, [often for often, *_ in kinds])
     lines = source.choices([*table], table.values(), k=source.randint(1, MOST_LINES))
-    script = "\n".join([*["refuse MASK"] * source.randrange(2), *start, *lines, *ENDS, ""])
+    script = "\n".join([*["refuse MASK"] * source.randrange(2), *start, *lines, *end, ""])
     script = drawn(source, script).replace(" -", "")
     place, byte = source.randrange(len(script)), chr(source.choice((source.randrange(256), *b" \n\r0f\xFF")))
     before, after = script[:place], script[place + source.randrange(2):]
     return source.choice((*[script] * 21, before, before + byte + after, before + after))
 
 
-def random_scripts(what, number):
+def random_scripts(what, number, kinds=SCRIPTS):
     """So many random scripts, each with a name. More of them leave the first as they are. Each commit has others."""
     seed = commit()
     for place in range(number):
-        yield f"{what} {place} of seed {seed}", random_script(random.Random(f"{what} {place} {seed}"))
+        yield f"{what} {place} of seed {seed}", random_script(random.Random(f"{what} {place} {seed}"), kinds)
 
 
 def random_calls(what, seed=None):
@@ -303,8 +333,9 @@ def random_calls(what, seed=None):
 
 
 def broken_lines():
-    """A line of each form up to each character, and with each lost, doubled or another one. Some are good after all."""
-    for form in FORMS:
+    """A line of each form, of the further ones too, up to each character, and with each lost, doubled or another one.
+    Some are good after all."""
+    for form in forms(ALL):
         line = form.replace("..", "HH").replace("H", "0")
         for place, good in enumerate(f"{line} "):
             others = ("", 2 * good, good.upper(), *"g \t\r\0\xFF")

@@ -1,4 +1,5 @@
-"""Scripts with their replies, in the form that tests/README.md describes."""
+"""Scripts with their replies, in the form that tests/README.md describes, and those that documents show. A board of the
+Python package and of the page has further lines, which the program refuses."""
 import json
 import lzma
 import re
@@ -8,10 +9,15 @@ from os.path import commonprefix
 from pathlib import Path
 from typing import NamedTuple
 
+from documents import documents
+from lines import ALL, FURTHER, FURTHER_SCRIPTS, LINES, SCRIPTS, every_load, random_scripts, script_replies
+
 TESTS = Path(__file__).resolve().parents[2] / "tests"
+FURTHER_TESTS = TESTS / "further"  # with further lines
 sys.path.append(str(TESTS.parent / "bindings" / "python"))
 from superio.recording import entries_of  # noqa: E402
 
+LOADS = 400  # lines of loads in a script
 END = re.compile(r"bad line \d+|input or output fault|out of memory|script too long")
 STATUS = {"": 0, "bad": 1, "input": 2, "out": 3, "script": 4}  # by the first word of the end
 
@@ -27,6 +33,17 @@ class Script(NamedTuple):
     def expected(self):
         """The status of a run, what it prints, and what it says."""
         return STATUS[self.end.partition(" ")[0]], self.replies, f"{self.end}\n".encode() if self.end else b""
+
+    @property
+    def by_program(self):
+        """The same script as the program runs it, which refuses the first of the further lines."""
+        lines = self.script.decode("latin-1").split("\n")
+        place = next((place for place, line in enumerate(lines) if line.partition(" ")[0] in FURTHER), None)
+        if place is None:
+            return self
+        count = place - lines[0].startswith("refuse")
+        printed = b"".join(self.replies.splitlines(keepends=True)[:count])
+        return self._replace(replies=printed, end=f"bad line {place + 1}")
 
     def difference(self, got):
         """What a run did otherwise, or `None`."""
@@ -70,3 +87,41 @@ def scripts_of(path):
         rows = [(number, row) for number, row in numbered if not row.startswith("#")]
         if is_block and rows:
             yield from of_block(f"{path.name}:{rows[0][0]}", [row for _, row in rows])
+
+
+def of_documents():
+    """The scripts that documents show with their replies."""
+    row = re.compile(rf"({'|'.join(ALL)})( [0-9A-Fa-f]+)*(  .*)?")
+    return [script for document in documents() for block in document.blocks
+            if block.lines and all(map(row.fullmatch, block.lines))
+            for script in of_block(f"{document}:{block.number}", block.lines)]
+
+
+class BoardScript(NamedTuple):
+    """A script for a board that has the further lines, the place where it stands, whether the board is to refuse them
+    as the program does, the replies, and what is wrong at the end."""
+    place: str
+    script: str
+    is_for_program: bool
+    replies: list
+    end: str
+
+
+def board_scripts(what, number):
+    """The scripts of tests/ and of documents, in which neither input nor memory fails; loads of any bytes; and random
+    scripts, so many with further lines. Each commit has others."""
+    def of_test(test, is_for_program):
+        replies = test.replies.decode("latin-1").split("\n")[:-1]
+        return BoardScript(test.place, test.script.decode("latin-1"), is_for_program, replies, test.end)
+
+    shared, further = ([test for path in sorted(folder.glob("*.txt")) for test in scripts_of(path)]
+                       for folder in (TESTS, FURTHER_TESTS))
+    yield from (of_test(test, True) for test in shared if not test.end.startswith(("input", "out")))
+    yield from (of_test(test, False) for test in [*further, *of_documents()])
+    yield from (of_test(test.by_program, True) for test in further)
+    loads = [f"{line}\n" for line in every_load()]
+    made = [(f"load {place}", "".join(loads[place:place + LOADS]), False) for place in range(0, len(loads), LOADS)]
+    made += ((*it, False) for it in random_scripts(what, number, FURTHER_SCRIPTS))
+    made += ((*it, True) for kinds in (SCRIPTS, FURTHER_SCRIPTS) for it in random_scripts(what, number // 10, kinds))
+    for place, script, is_for_program in made:
+        yield BoardScript(place, script, is_for_program, *script_replies(script, LINES if is_for_program else ALL))

@@ -1,6 +1,6 @@
 """The lines of a script, and the board that they drive: the devices, an interrupt line and an output of 256 bytes.
 
-It replies to each line as the program `superio` does.
+It replies to each line of a script as the program `superio` does, and knows further lines, which the program refuses.
 """
 from dataclasses import replace
 from typing import Any, Callable, Dict, List, NamedTuple, Optional, Tuple, Union
@@ -40,14 +40,14 @@ MASK = "refuse"
 
 
 class Command(NamedTuple):
-    """A line of a script: its name, and the values of its fields."""
+    """A line: its name, and the values of its fields."""
 
     name: str
     values: Tuple[Value, ...] = ()
 
 
 class Line(NamedTuple):
-    """What a line of a script is."""
+    """What a line is."""
 
     about: str                           # as `help` says it
     fields: Tuple[Field, ...]            # of which bytes may be left out
@@ -227,28 +227,20 @@ def _loaded(data: bytes, kind: Any, replace_device: Callable[[Any], str]) -> str
         return f"{error} {data[5]:02x}" if error.status is LoadStatus.UNKNOWN_VERSION else str(error)
 
 
-LINES: Dict[str, Line] = {
+PROGRAM_LINES: Dict[str, Line] = {
     "sr": Line("the guest reads at offset OO", (SERIAL_OFFSET,), lambda board, offset: f"{board._read(offset):02x}"),
     "sw": Line("the guest writes VV at offset OO", (SERIAL_OFFSET, SERIAL_VALUE), Board._serial_write),
     "sq": Line("1 to 128 bytes arrive; sq alone: none", (BYTES,), Board._enqueue),
-    "si": Line("the line is idle: raises RDA again if bytes wait", (),
-               lambda board: "ok" if board._ask(board.serial.character_timeout()) else "trigger"),
     "sc": Line("how many more bytes fit", (), lambda board: f"{board.serial.fifo_capacity():02x}"),
     "sd": Line("the guest's driver reads what is held", (), Board._drain),
     "ss": Line("saves the port and restores it", (),
                lambda board: board._replace_port(Serial.from_state(board.serial.state))),
-    "sb": Line("the port's saved state", (), lambda board: board.serial.to_bytes().hex()),
-    "sl": Line("loads the port from a saved state", (BYTES,),
-               lambda board, data=b"": _loaded(data, Serial, board._replace_port)),
     "so": Line("the bytes that the port wrote", (), lambda board: board.output.hex()),
     "st": Line("how often the interrupt line was called", (), lambda board: f"{board.calls:016x}"),
     "se": Line("reads of RBR, bytes out, lost, reads that left none", (),
                lambda board: " ".join(f"{count:016x}" for count in board.counts)),
     "cr": Line("the guest reads the clock at offset OOOO", (MOMENT, CLOCK_OFFSET), Board._clock_read),
     "cw": Line("the guest writes the clock", (MOMENT, CLOCK_OFFSET, CLOCK_VALUE), Board._clock_write),
-    "cb": Line("the clock's saved state", (), lambda board: board.clock.to_bytes().hex()),
-    "cl": Line("loads the clock from a saved state", (BYTES,),
-               lambda board, data=b"": _loaded(data, Rtc, board._replace_clock)),
     "kr": Line("the guest reads the controller", (OFFSET,),
                lambda board, offset: f"{board.controller.read(offset):02x}"),
     "kw": Line("the guest writes the controller; kw 04 fe resets", (OFFSET, VALUE),
@@ -256,3 +248,18 @@ LINES: Dict[str, Line] = {
     MASK: Line("the calls that the interrupt line refuses", (Field("mask", "MASK", 16),), Board._refuse),
 }
 """The lines of a script, by their names."""
+
+FURTHER_LINES: Dict[str, Line] = {
+    "si": Line("the line is idle: raises RDA again if bytes wait", (),
+               lambda board: "ok" if board._ask(board.serial.character_timeout()) else "trigger"),
+    "sb": Line("the port's saved state", (), lambda board: board.serial.to_bytes().hex()),
+    "sl": Line("loads the port from a saved state", (BYTES,),
+               lambda board, data=b"": _loaded(data, Serial, board._replace_port)),
+    "cb": Line("the clock's saved state", (), lambda board: board.clock.to_bytes().hex()),
+    "cl": Line("loads the clock from a saved state", (BYTES,),
+               lambda board, data=b"": _loaded(data, Rtc, board._replace_clock)),
+}
+"""The further lines, by their names: a board carries them out, and the program `superio` refuses them."""
+
+LINES: Dict[str, Line] = {**PROGRAM_LINES, **FURTHER_LINES}
+"""All lines that a board carries out, by their names."""

@@ -1,15 +1,15 @@
-"""The lines of a script, as the program `superio` takes them: docs/SCRIPT.md has their forms.
+"""The lines of a script, and the further lines that a board carries out: docs/SCRIPT.md has their forms.
 
-`parse` accepts exactly the lines that the program accepts. `BadLine` says which line of a file was not carried out.
+`BadLine` says which line of a file was not carried out.
 """
 import re
 from functools import lru_cache
 
-from .board import BYTES, LINES, MASK, MOMENT, Command, Field, Value
+from .board import BYTES, FURTHER_LINES, LINES, MASK, MOMENT, Command, Field, Value
 from .registers import byte_string
 
-__all__ = ["BYTES", "BadLine", "Command", "FORMS", "Field", "LINES", "MASK", "MOMENT", "ScriptError", "Value",
-           "form_of", "parse", "reason_of", "shown", "text_of"]
+__all__ = ["BYTES", "BadLine", "Command", "FORMS", "FURTHER_LINES", "Field", "LINES", "MASK", "MOMENT", "ScriptError",
+           "Value", "form_of", "parse", "reason_of", "shown", "text_of"]
 
 _CACHED = 4096  # lines
 
@@ -58,17 +58,21 @@ def _pattern(name: str) -> "re.Pattern[str]":
 _PATTERNS = {name: _pattern(name) for name in FORMS}
 
 
-def parse(line: bytes, is_first: bool = False) -> Command:
-    """The command of a script's line, without its LF. `is_first` says whether it is the script's first.
+def parse(line: bytes, is_first: bool = False, is_for_program: bool = False) -> Command:
+    """The command of a line, without its LF. `is_first` says whether it is the script's first, and `is_for_program`
+    whether it has to be a line that the program `superio` takes, as the further lines are not.
 
     Raises `ScriptError`, which says why, if the line has no form.
     """
-    return _parse(byte_string("line", line), bool(is_first))
+    command = _parse(byte_string("line", line), bool(is_first))
+    if is_for_program and command.name in FURTHER_LINES:
+        raise ScriptError("the program superio has no such line")
+    return command
 
 
 @lru_cache(maxsize=_CACHED)
 def _parse(line: bytes, is_first: bool) -> Command:
-    """The same. A script has most of its lines many times."""
+    """The same, also of a further line. A script has most of its lines many times."""
     text = line.decode("ascii", "replace")
     name = text.partition(" ")[0]
     if name not in FORMS:
@@ -83,7 +87,7 @@ def _parse(line: bytes, is_first: bool) -> Command:
 
 
 def text_of(command: Command) -> str:
-    """The line of a command, as a script has it."""
+    """The line of a command, as a file has it."""
     texts = [value.hex() if isinstance(value, bytes) else f"{value:0{field.digits}x}"
              for field, value in zip(FORMS[command.name], command.values)]
     return " ".join([command.name, *texts])

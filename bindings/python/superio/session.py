@@ -4,14 +4,15 @@ import shlex
 import time
 from typing import IO, Callable, Dict, Iterable, List, Optional, Tuple
 
-from .board import LINES, MASK, Board, Call, Command
+from .board import FURTHER_LINES, MASK, PROGRAM_LINES, Board, Call, Command, Line
 from .prompt import Help, Prompt, write_text
 from .registers import CLOCK, SERIAL
 from .script import FORMS, BadLine, ScriptError, form_of, parse, text_of
-from .tell import Story, changes, clock_registers, registers, told
+from .tell import Story, changes, clock_registers, registers, told, turn
 from .words import Speaker, UsageError
 
 _DEEPEST = 10
+_LONGEST_SCRIPT = 65_536  # bytes
 
 INTRO = """\
 A serial port and other devices, as a guest sees them.
@@ -25,6 +26,13 @@ _READ, _WRITTEN = (", ".join(name for name, register in SERIAL.items() if letter
 _CLOCK_NAMES = ", ".join(name for name in CLOCK if not name.startswith("ID"))
 
 _OF_MASK = "Only before every other call. The line refuses call k, from 0, if bit k of the mask is set."
+
+
+def _helps(lines: Dict[str, Line]) -> Tuple[Help, ...]:
+    """What `help` says of lines."""
+    return tuple(Help(form_of(name), line.about, _OF_MASK if name == MASK else "",
+                      tuple(field.kind for field in line.fields)) for name, line in lines.items())
+
 
 _GROUPS: Dict[str, Tuple[Help, ...]] = {
     "Serial port": (
@@ -55,13 +63,16 @@ _GROUPS: Dict[str, Tuple[Help, ...]] = {
         Help("regs [serial|clock]", "every register, the FIFO and what is pending", "", ("serial clock",)),
         Help("why", "why each interrupt is pending, or is not"),
         Help("diff", "what the last call changed"),
-        Help("trace [on|off|FILE]", "every call as a script line",
-             "trace alone lists those since the last reset, and trace FILE writes them to a file, a script for the "
-             "program superio. trace on shows each from now on.", ("on off",)),
+        Help("trace [on|off|FILE]", "every call as a line",
+             "trace alone lists those since the last reset, and trace FILE writes them to a file, for load and for the "
+             "viewer. trace on shows each from now on.", ("on off",)),
+        Help("script [FILE]", "the same calls as a script for the program superio",
+             "script FILE writes it to a file. The program has no further lines: those that changed nothing are left "
+             "out, and if one changed something, there is no such script.", ("file",)),
     ),
     "Session": (
-        Help("save FILE", "saves port and clock", "The file has the two script lines that load them, sl and cl.",
-             ("file",)),
+        Help("save FILE", "saves port and clock", "The file has the two lines that load them, sl and cl. load takes "
+             "it, and the program superio does not.", ("file",)),
         Help("load FILE", "carries out the lines of a file, such as save wrote",
              "The port goes on over the board's own line and output. If the line refuses an interrupt that is due, the "
              "port stays as it was.", ("file",)),
@@ -70,9 +81,8 @@ _GROUPS: Dict[str, Tuple[Help, ...]] = {
         Help("help [NAME]", "this list, or more about one command", "", ("command",)),
         Help("quit", "ends, as exit and Ctrl-D do"),
     ),
-    "Lines of a script, with hexadecimal fields": tuple(
-        Help(form_of(name), line.about, _OF_MASK if name == MASK else "", tuple(field.kind for field in line.fields))
-        for name, line in LINES.items()),
+    "Lines of a script, with hexadecimal fields": _helps(PROGRAM_LINES),
+    "Further lines, which the program superio does not take": _helps(FURTHER_LINES),
 }
 
 
@@ -104,6 +114,8 @@ class Session(Prompt):
         self._story = Story()
         self.last: Optional[Call] = None
         self.commands: List[Command] = []
+        self._script: List[str] = []
+        self._outside: Optional[Call] = None  # the first call that no script for the program can make
 
     def _now(self) -> int:
         """The host's time, in seconds since 1970."""
@@ -131,11 +143,20 @@ class Session(Prompt):
         """Carries out a command, and writes what it replied: what a script prints if `is_short`, otherwise in words."""
         call = self.last = self.board.run(command)
         self.commands.append(command)
+        self._note_for_script(call)
         self._story.note(call)
         if self._shows_calls:
             self.say(text_of(command))
         if call.reply is not None:
             self.say(call.reply if is_short else told(call))
+
+    def _note_for_script(self, call: Call) -> None:
+        """Keeps what a script for the program has. A further line that changed nothing, such as a load that was
+        refused, can be left out of it."""
+        if call.command.name not in FURTHER_LINES:
+            self._script.append(text_of(call.command))
+        elif call.before != call.after:
+            self._outside = self._outside or call
 
     def run_lines(self, name: str, lines: Iterable[bytes]) -> None:
         """Carries out the lines of a file of this name. `BadLine` names the first that is not carried out."""
@@ -188,13 +209,27 @@ class Session(Prompt):
         self.say("a fresh board")
 
     def do_trace(self, rest: str) -> None:
-        lines = [text_of(command) for command in self.commands]
         if rest in ("on", "off"):
             self._shows_calls = rest == "on"
             self.say(f"trace is {rest}")
-        elif rest:
+        else:
+            lines = [text_of(command) for command in self.commands]
+            self._tell_lines(rest, lines, "the calls since the last reset are")
+
+    def do_script(self, rest: str) -> None:
+        if self._outside:
+            raise ScriptError(f"the program superio has no script of this session: {turn(self._outside)}, is none of "
+                              "its lines. trace FILE writes all calls, for load and for the viewer")
+        if sum(len(line) + 1 for line in self._script) > _LONGEST_SCRIPT:
+            raise ScriptError(f"a script for the program superio has at most {_LONGEST_SCRIPT:,} bytes, and these are "
+                              "more. trace FILE writes all calls, for load and for the viewer")
+        self._tell_lines(rest, self._script, "the script is")
+
+    def _tell_lines(self, rest: str, lines: List[str], what: str) -> None:
+        """Writes lines to the file that a command names, or else to the stream."""
+        if rest:
             path = _path(rest)
             write_text(path, "".join(f"{line}\n" for line in lines))
-            self.say(f"the calls since the last reset are in {path}")
+            self.say(f"{what} in {path}")
         else:
             self.say(*lines)

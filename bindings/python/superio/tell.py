@@ -204,7 +204,8 @@ def changes(call: Call) -> List[str]:
     return rows + [f"interrupt {'taken' if taken else 'refused'}" for taken in call.answers]
 
 
-def _turn(call: Call) -> str:
+def turn(call: Call) -> str:
+    """Which call of a session it is, as a sentence names it."""
     line = text_of(call.command)
     return f"call {call.number}, {line if len(line) <= 24 else line[:22] + '..'}"
 
@@ -237,9 +238,9 @@ class Story:
             call, answer = self._raised[name]
             answered = "" if answer is None else f", and the line {'took' if answer else 'refused'} the interrupt"
             then = _ACKNOWLEDGED_BY[name] if is_enabled else "IER does not enable it now."
-            return f"{name} is pending: {_turn(call)}, raised it{answered}. {then}"
+            return f"{name} is pending: {turn(call)}, raised it{answered}. {then}"
         ended = self._acknowledged.get(name)
-        reason = f"{_turn(ended)}, acknowledged it" if ended else "no call has raised it"
+        reason = f"{turn(ended)}, acknowledged it" if ended else "no call has raised it"
         return f"{name} is not pending: {reason}. {self._next(name, is_enabled, len(state.in_buffer))}"
 
     @staticmethod

@@ -62,6 +62,20 @@ FILES = [
     ({"it": "kr 04\nkr 4 4\n"}, "source it\n", (1, "00\n"),
      '<stdin>:1: "source it": it:2: "kr 4 4": the form is: kr OO\n', {}),
     ({"it": "kr 04\nquit\n"}, "source it\nkr 04\n", (0, "00\n"), "", {}),
+    # A script for the program leaves a further line out that changed nothing. One that changed something is named.
+    ({}, "refuse 2\nkr 04\nsb\ntimeout\nread SCR\nscript\nscript new\n",
+     (0, "00\n53494f53010109000c000001036008b000\nno interrupt: no byte is held\nSCR = 0x00\n"
+         "refuse 0000000000000002\nkr 04\nsr 07\nthe script is in new\n"), "",
+     {"new": "refuse 0000000000000002\nkr 04\nsr 07\n"}),
+    ({}, "sw 01 01\nsq 6162\nsr 02\nsi\nsi\nkr 04\nscript new\n", (1, "ok\n02\nc4\nok\nok\n00\n"),
+     '"script new": the program superio has no script of this session: call 4, si, is none of its lines. trace', {}),
+    ({}, "sw 01 01\nsq 6162\nsr 02\nsi\nreset\nkr 04\nscript\n",
+     (0, "ok\n02\nc4\nok\na fresh board\n00\nkr 04\n"), "", {}),
+    ({"it": SL + CL}, "load it\nscript\n", (1, "ok\nok\n"), "of this session: call 1, sl 53494f5301014900", {}),
+    # It has at most 65,536 bytes.
+    ({}, "kr 04\n" * 10_922 + "script new\n", (0, "00\n" * 10_922 + "the script is in new\n"), "",
+     {"new": "kr 04\n" * 10_922}),
+    ({}, "kr 04\n" * 10_923 + "script new\n", (1, "00\n" * 10_923), "at most 65,536 bytes, and these are more", {}),
     ({}, "kr 04\nreset\nsr 07\ntrace on\nread SCR\ntrace off\nread SCR\ntrace\ntrace new\n",
      (0, "00\na fresh board\n00\ntrace is on\nsr 07\nSCR = 0x00\ntrace is off\nSCR = 0x00\nsr 07\nsr 07\nsr 07\n"
          "the calls since the last reset are in new\n"), "", {"new": "sr 07\nsr 07\nsr 07\n"}),

@@ -1,6 +1,7 @@
 """Scripts and recorded traces: what the package replies, and how traces are searched, listed and drawn."""
 import io
 import lzma
+import random
 import re
 import unittest
 from contextlib import redirect_stderr
@@ -8,19 +9,19 @@ from xml.etree import ElementTree
 
 from support import ROOT, FolderTest, run
 
-from lines import random_scripts, script_replies
-from script_tests import scripts_of
+from lines import FURTHER, LINES, random_scripts
+from script_tests import TESTS, board_scripts, scripts_of
 
 from superio import Board, ScriptError, parse
+from superio.board import FURTHER_LINES, PROGRAM_LINES
 from superio.recording import picture, replay
 from superio.script import BadLine, text_of
 from superio.session import Session
 from superio.view import Viewer, table
 
-# All but those that are too long.
-SCRIPTS = [test for path in sorted((ROOT / "tests").glob("*.txt")) for test in scripts_of(path)
-           if test.expected[0] in (0, 1)]
-RANDOM_SCRIPTS = 2_000
+RANDOM_SCRIPTS, RANDOM_SESSIONS = 2_000, 400
+# Further lines that mostly change nothing.
+MOSTLY_IDLE = "sb", "cb", "si", "si", "si", "sl", "sl 00", "cl 53494f5301", f"cl 53494f53020119{'00' * 26}"
 
 
 def lines_of(script):
@@ -28,37 +29,84 @@ def lines_of(script):
     return script[:-1 if script.endswith(b"\n") else None].split(b"\n") if script else []
 
 
-def run_board(script):
-    """What the package makes of a script, as the program does: the status, the replies, and what is wrong."""
+def run_board(script, is_for_program):
+    """What the package makes of a script: the replies, and what is wrong."""
     board, replies = Board(), []
     for number, line in enumerate(lines_of(script), 1):
         try:
-            reply = board.reply(parse(line, is_first=number == 1))
+            reply = board.reply(parse(line, is_first=number == 1, is_for_program=is_for_program))
         except ScriptError:
-            return 1, "".join(replies).encode(), b"bad line %d\n" % number
-        replies += [] if reply is None else [reply + "\n"]
-    return 0, "".join(replies).encode(), b""
+            return replies, f"bad line {number}"
+        replies += [] if reply is None else [reply]
+    return replies, ""
+
+
+def run_session(lines):
+    """A shell that has carried out lines, and what it replied."""
+    out = io.StringIO()
+    session = Session(out)
+    session.run_lines("script", lines)
+    return session, out.getvalue().splitlines()
 
 
 class Scripts(unittest.TestCase):
-    def test_replies_are_those_of_the_tests(self):
-        """On a board, and those of a good script in the shell too, whose trace then has the script's lines."""
-        for test in SCRIPTS:
-            self.assertEqual(test.expected, run_board(test.script), test.place)
-            if test.expected[0] == 0:
-                out = io.StringIO()
-                session = Session(out)
-                session.run_lines("script", lines_of(test.script))
-                self.assertEqual(test.expected[1].decode(), out.getvalue(), test.place)
-                made = [text_of(command).encode() for command in session.commands]
-                self.assertEqual(test.script.lower().split(), b" ".join(made).split(), test.place)
+    def test_lines(self):
+        """The program's are told from the further ones."""
+        self.assertEqual(({*LINES}, {*FURTHER}), ({*PROGRAM_LINES}, {*FURTHER_LINES}))
+        for name in FURTHER:
+            line = f"{name} 00" if name in ("sl", "cl") else name
+            self.assertEqual(name, parse(line.encode()).name)
+            with self.assertRaisesRegex(ScriptError, "^the program superio has no such line$"):
+                parse(line.encode(), is_for_program=True)
 
-    def test_random_scripts_do_what_a_search_of_the_past_says(self):
-        """One of eight is broken. Each commit has others."""
-        for name, script in random_scripts("python", RANDOM_SCRIPTS):
-            replies, end = script_replies(script)
-            expected = bool(end), "".join(f"{reply}\n" for reply in replies).encode(), f"{end}\n".lstrip().encode()
-            self.assertEqual(expected, run_board(script.encode("latin-1")), name)
+    def test_replies(self):
+        """On a board that takes the program's lines alone, or all. What is too long is left to the program."""
+        for test in board_scripts("python", RANDOM_SCRIPTS):
+            if test.end != "script too long":
+                got = run_board(test.script.encode("latin-1"), test.is_for_program)
+                self.assertEqual((test.replies, test.end), got, test.place)
+
+    def test_replies_in_the_shell(self):
+        """The trace then has the script's lines. So has the script for the program, if the program knows them."""
+        for path in sorted(TESTS.rglob("*.txt")):
+            if path.parent.name == "calls":
+                continue
+            for test in scripts_of(path):
+                if test.end:
+                    continue
+                session, replies = run_session(lines_of(test.script))
+                self.assertEqual(test.replies.decode().splitlines(), replies, test.place)
+                made = [text_of(command) for command in session.commands]
+                self.assertEqual(test.script.decode().lower().split(), " ".join(made).split(), test.place)
+                if test.by_program == test:
+                    start = session.stdout.tell()
+                    session.carry_out(b"script")
+                    self.assertEqual(made, session.stdout.getvalue()[start:].splitlines(), test.place)
+
+    def test_a_script_for_the_program(self):
+        """It has only lines of the program, and makes of a board what the session made. There is none if a further line
+        changed something."""
+        outcomes = []
+        for name, script in random_scripts("session", RANDOM_SESSIONS):
+            source, (first, *lines) = random.Random(name), script.splitlines() or [""]
+            for _ in range(source.randrange(3)):
+                lines.insert(source.randrange(len(lines) + 1), source.choice(MOSTLY_IDLE))
+            try:
+                session, _ = run_session(line.encode("latin-1") for line in [first, *lines])
+            except BadLine:
+                continue  # a broken script
+            board, start = Board(), session.stdout.tell()
+            try:
+                session.carry_out(b"script")
+            except ScriptError as error:
+                call = int(re.search("of this session: call ([0-9]+), ", str(error))[1])
+                outcomes.append(session.commands[call - 1].name)
+                continue
+            for number, line in enumerate(session.stdout.getvalue()[start:].splitlines()):
+                board.run(parse(line.encode(), is_first=number == 0, is_for_program=True))
+            self.assertEqual(session.board.snapshot(), board.snapshot(), name)
+            outcomes.append("left out" if len(session.commands) > board.number else "nothing left out")
+        self.assertLessEqual({"left out", "nothing left out", "cl"}, {*outcomes})
 
 
 RECORDING = ROOT / "examples" / "linux-boot" / "boot.recording.xz"
