@@ -31,6 +31,8 @@ const register = (offset) => all("#registers .register:not([hidden])")[offset];
 const set = (id, value, event) => { by(id).value = value; by(id).dispatchEvent(new Event(event)); };
 /** Where the playback stopped. */
 let stops = [];
+/** What was copied. */
+let copied = "";
 
 /** What a user does, by the first word of a step. */
 const STEPS = {
@@ -46,6 +48,13 @@ const STEPS = {
   choose: (id, value) => set(id, value, "change"),
   key: (key) => by("list").dispatchEvent(new KeyboardEvent("keydown", { key, cancelable: true })),
   line: (number) => by("list").children[number - 1].click(),
+  copy: async () => {
+    by("said").textContent = copied = "";
+    const clipboard = { writeText: async (text) => { copied = text; } };
+    Object.defineProperty(page.navigator, "clipboard", { value: clipboard, configurable: true });
+    by("copy").click();
+    await until(() => by("said").textContent);
+  },
   wait: (start) => until(() => SEEN.lines().includes(`${start} `)),
   play: async (times) => {
     for (by("speed").value = "60000"; stops.length < times; stops.push(by("boot-at").value)) {
@@ -74,6 +83,7 @@ const SEEN = {
   hash: () => page.location.hash,
   taking: () => String(!by("take-over").hidden),
   stops: () => stops.join(" "),
+  copied: () => copied,
 };
 
 /** Tries a feature, of a name, steps and what is seen. */
@@ -150,8 +160,8 @@ async function take([name, fragment, width, wanted]) {
 /** Tries whether the page replies to scripts as it should, and each ends so. */
 async function tryScripts() {
   await open("");
-  const different = scripts.map(([place, script, expected]) =>
-    [place, script, JSON.stringify(expected), JSON.stringify(page.superio.runScript(script))])
+  const different = scripts.map(([place, script, isForProgram, replies, end]) =>
+    [place, script, JSON.stringify({ replies, end }), JSON.stringify(page.superio.runScript(script, isForProgram))])
     .filter(([, , expected, got]) => got !== expected).slice(0, 10);
   tell("scripts", different.map((one) => one.join("\n  ")), scripts.length);
 }

@@ -1,6 +1,7 @@
 /**
  * The lines of a script, and the board that they drive: the devices, an interrupt line and an output of 256 bytes. It
- * replies to each line as the program `superio` does; docs/SCRIPT.md has the forms.
+ * replies to each line of a script as the program `superio` does, and knows further lines. Their forms are in
+ * docs/SCRIPT.md.
  */
 import { I8042, Rtc, SavedStateError, Serial } from "../superio.mjs";
 
@@ -18,43 +19,47 @@ const controller = new I8042();
 // How many digits each field of a line has, or BYTES for 0 to 128 bytes of two digits each; what a board replies to the
 // values of these; and the rule with the heading of docs/DEVICES.md where it stands, unless a register has the rule.
 const BYTES = 0;
-export const LINES = {
+const PROGRAM_LINES = {
   refuse: { fields: [16], reply: (board, mask) => { board.mask = mask; return null; } },
   sr: { fields: [2], reply: (board, offset) => hex(board.read(offset), 2) },
   sw: { fields: [2, 2], reply: (board, offset, value) => board.write(offset, value) },
   sq: { fields: [BYTES], reply: (board, bytes) => board.enqueue(bytes),
     rule: ["Bytes arrive for the guest: as many of the first as fit, and in loopback none. They raise RDA.",
       "reading-and-writing-data"] },
-  si: { fields: [], reply: (board) => board.ask(board.serial.characterTimeout()) ? "ok" : "trigger",
-    rule: ["A character timeout raises RDA again for bytes that are held, if IER enables it and it is not pending.",
-      "the-character-timeout"] },
   sc: { fields: [], reply: (board) => hex(board.serial.fifoCapacity(), 2) },
   sd: { fields: [], reply: (board) => board.drain(),
     rule: ["The guest's driver reads RBR while LSR shows data ready.", "reading-and-writing-data"] },
   ss: { fields: [], reply: (board) => board.restore(Serial.fromState(board.serial.state)),
     rule: ["A restore asks for the interrupt once for each condition that is pending and enabled. If that is " +
       "refused, the old port stays.", "saving-and-restoring"] },
-  sb: { fields: [], reply: (board) => hexOf(board.serial.toBytes()),
-    rule: ["A port is saved as its nine registers and the held bytes. No byte that the guest has read is in it.",
-      "saving-and-restoring"] },
-  sl: { fields: [BYTES], reply: (board, bytes) => loaded(Serial, bytes, (port) => board.restore(port)),
-    rule: ["A saved state is taken unchanged. The restore then asks for each condition that is pending and enabled.",
-      "saving-and-restoring"] },
   so: { fields: [], reply: (board) => hexOf(Array.from(board.output, (one) => one.charCodeAt(0))) },
   st: { fields: [], reply: (board) => hex(board.asked, 16) },
   se: { fields: [], reply: (board) => Object.values(board.counts).map((count) => hex(count, 16)).join(" ") },
   cr: { fields: [16, 4], reply: (board, now, offset) => board.readClock(now, offset) },
   cw: { fields: [16, 4, 8],
     reply: (board, now, offset, value) => board.clock.write(offset, value, now).invalidWrite ? "invalid" : "ok" },
-  cb: { fields: [], reply: (board) => hexOf(board.clock.toBytes()),
-    rule: ["A clock is saved as its registers, its offset and its alarm.", "the-clock"] },
-  cl: { fields: [BYTES], reply: (board, bytes) => loaded(Rtc, bytes, (clock) => { board.clock = clock; return "ok"; }),
-    rule: ["Any numbers may be restored, and reads show them.", "the-clock"] },
   kr: { fields: [2], reply: (_, offset) => hex(controller.read(offset), 2),
     rule: ["Every read of the controller gives 0.", "the-reset-controller"] },
   kw: { fields: [2, 2], reply: (_, offset, value) => controller.write(offset, value).resets ? "reset" : "ok",
     rule: ["0xFE at offset 4 resets the machine. Any other write has no effect.", "the-reset-controller"] },
 };
+// The program refuses these.
+const FURTHER_LINES = {
+  si: { fields: [], reply: (board) => board.ask(board.serial.characterTimeout()) ? "ok" : "trigger",
+    rule: ["A character timeout raises RDA again for bytes that are held, if IER enables it and it is not pending.",
+      "the-character-timeout"] },
+  sb: { fields: [], reply: (board) => hexOf(board.serial.toBytes()),
+    rule: ["A port is saved as its nine registers and the held bytes. No byte that the guest has read is in it.",
+      "saving-and-restoring"] },
+  sl: { fields: [BYTES], reply: (board, bytes) => loaded(Serial, bytes, (port) => board.restore(port)),
+    rule: ["A saved state is taken unchanged. The restore then asks for each condition that is pending and enabled.",
+      "saving-and-restoring"] },
+  cb: { fields: [], reply: (board) => hexOf(board.clock.toBytes()),
+    rule: ["A clock is saved as its registers, its offset and its alarm.", "the-clock"] },
+  cl: { fields: [BYTES], reply: (board, bytes) => loaded(Rtc, bytes, (clock) => { board.clock = clock; return "ok"; }),
+    rule: ["Any numbers may be restored, and reads show them.", "the-clock"] },
+};
+export const LINES = { ...PROGRAM_LINES, ...FURTHER_LINES };
 const FIELDS = new Map([[BYTES, /^([0-9A-Fa-f]{2}){1,128}$/], ...[2, 4, 8, 16].map((digits) =>
   [digits, new RegExp(`^[0-9A-Fa-f]{${digits}}$`)])]);
 
@@ -63,11 +68,15 @@ function valueOf(digits, text) {
   return digits === 16 ? BigInt(`0x${text}`) : parseInt(text, 16);
 }
 
-/** The command of a line, without its LF, or null if the line has no form. `refuse` is a form for the first line. */
-export function parse(line, isFirst = false) {
+/**
+ * The command of a line, without its LF, or null if the line has no form. `refuse` is a form for the first line, and no
+ * further line is one for the program.
+ */
+export function parse(line, isFirst = false, isForProgram = false) {
   const [name, ...texts] = line.split(" ");
-  if (!Object.hasOwn(LINES, name) || (name === "refuse" && !isFirst)) return null;
-  const { fields } = LINES[name];
+  const lines = isForProgram ? PROGRAM_LINES : LINES;
+  if (!Object.hasOwn(lines, name) || (name === "refuse" && !isFirst)) return null;
+  const { fields } = lines[name];
   if (fields[0] === BYTES && !texts.length) return { name, values: [new Uint8Array()] };
   if (texts.length !== fields.length || !texts.every((text, at) => FIELDS.get(fields[at]).test(text))) return null;
   return { name, values: texts.map((text, place) => valueOf(fields[place], text)) };
@@ -111,6 +120,13 @@ export class Board {
     board.clock = this.clock.clone();
     board.counts = { ...this.counts };
     return board;
+  }
+
+  /** Whether calls between this board and another changed nothing that a call shows. */
+  isSameAs(board) {
+    const [mine, other] = [this, board].map(({ serial, clock, asked, output, counts }) =>
+      [hexOf(serial.toBytes()), hexOf(clock.toBytes()), asked, output, ...Object.values(counts)].join());
+    return mine === other;
   }
 
   /** Carries out a command. Returns the line that a script prints for it, or null if none. */
@@ -212,13 +228,32 @@ function loaded(device, bytes, use) {
   }
 }
 
-/** What the program prints for a script of these characters, one for each byte, and how its run ends. */
-export function runScript(script) {
+/**
+ * The lines of a script that makes these calls in the program, after those that come `first`, and why there is none, or
+ * an empty text. A further line that changed nothing is left out. One that did has no other line in its place, nor has
+ * a byte that the output refused.
+ */
+export function programLines(first, calls) {
+  const isFurther = ({ command: { name } }) => Object.hasOwn(FURTHER_LINES, name);
+  const place = calls.findIndex((call) => call.line.endsWith(" f") ||
+    (isFurther(call) && !call.before.isSameAs(call.after)));
+  const lines = [...first, ...calls.filter((call) => !isFurther(call)).map(({ line }) => line)];
+  const isLong = lines.reduce((sum, line) => sum + line.length + 1, 0) > LONGEST_SCRIPT;
+  const fault = place >= 0 ? `call ${place + 1}, ${calls[place].line.slice(0, 24)}, is none of its lines` :
+    isLong ? "it takes at most 65,536 bytes" : "";
+  return { lines, fault };
+}
+
+/**
+ * What a board replies to a script of these characters, one for each byte, and how its run ends. `isForProgram` says
+ * whether the program runs it, which refuses the further lines.
+ */
+export function runScript(script, isForProgram = false) {
   if (script.length > LONGEST_SCRIPT) return { replies: [], end: "script too long" };
   const [board, replies] = [new Board(), []];
   const lines = script === "" ? [] : script.replace(/\n$/, "").split("\n");
   for (const [place, line] of lines.entries()) {
-    const command = parse(line, place === 0);
+    const command = parse(line, place === 0, isForProgram);
     if (!command) return { replies, end: `bad line ${place + 1}` };
     const reply = board.reply(command);
     if (reply !== null) replies.push(reply);

@@ -1,6 +1,6 @@
 /** The page: what it shows of a board, and which call each control makes. */
 import { CLOCK, DLAB, SERIAL, isThere, serialRegister } from "../registers.mjs";
-import { Board, formOf, hex, hexOf, parse, runScript } from "./board.mjs";
+import { Board, formOf, hex, hexOf, parse, programLines, runScript } from "./board.mjs";
 import { Boot, RECORDINGS } from "./boot.mjs";
 import {
   CONDITIONS, WITHOUT_EFFECT, dateOf, lineFormat, plural, quoted, ruleOf, short, shownRegisters, storyOf, told,
@@ -153,11 +153,8 @@ function serve() {
 /** The first line of a script whose interrupts are refused. */
 const refusing = ({ mask }) => mask ? [`refuse ${hex(mask, 16)}`] : [];
 
-/** The script of the calls up to the present one. */
-function script() {
-  const { calls, at, board } = state.list;
-  return [...refusing(board), ...calls.slice(0, at).map(({ line }) => line)];
-}
+/** The calls up to the present one. */
+const made = () => state.list.calls.slice(0, state.list.at);
 
 /** Runs a script on fresh devices. A reply after two spaces is left out. Returns why it stopped, or an empty text. */
 function load(text) {
@@ -503,10 +500,13 @@ const CLICKS = {
   },
   run() { say("said", load(id("script").value) || `${plural(state.list.calls.length, "call")} made.`); },
   copy() {
-    return toClipboard(`${script().join("\n")}\n`, "The script");
+    const { lines, fault } = programLines(refusing(state.list.board), made());
+    return fault ? say("said", `The program superio has no script of these calls: ${fault}. A link has them all.`) :
+      toClipboard(lines.map((line) => `${line}\n`).join(""), "The script for the program superio");
   },
   share() {
-    history.replaceState(null, "", `#${script().join(";").replaceAll(" ", "+")}`);
+    const lines = [...refusing(state.list.board), ...made().map(({ line }) => line)];
+    history.replaceState(null, "", `#${lines.join(";").replaceAll(" ", "+")}`);
     return toClipboard(location.href, "The link");
   },
 };
