@@ -1,7 +1,7 @@
 /**
  * Runs scripts, which come on standard input as JSON, on the board of the page and so over the JavaScript package. A
- * script has its place, its text, whether the further lines are to be refused as by the program, the replies and what is
- * wrong at the end.
+ * script has its place, its text, whether the board is to refuse the further lines as the program does, the replies and
+ * what is wrong at the end.
  *
  * Prints the first ten scripts that differ, and how many did the same. Exits 1 if one differs or there is none.
  */

@@ -69,6 +69,10 @@ FILES = [
      {"new": "refuse 0000000000000002\nkr 04\nsr 07\n"}),
     ({}, "sw 01 01\nsq 6162\nsr 02\nsi\nsi\nkr 04\nscript new\n", (1, "ok\n02\nc4\nok\nok\n00\n"),
      '"script new": the program superio has no script of this session: call 4, si, is none of its lines. trace', {}),
+    # A load of the port's own state asks again for what is pending.
+    ({}, "sw 01 01\nsq 61\nsl 53494f5301010a000c000104036108b00061\nscript\n", (1, "ok\n01\nok\n"),
+     "of this session: call 3, sl 53494f530101", {}),
+    ({}, "sq 61\nsl 53494f5301010a000c000001036108b00061\nscript\n", (0, "01\nok\nsq 61\n"), "", {}),
     ({}, "sw 01 01\nsq 6162\nsr 02\nsi\nreset\nkr 04\nscript\n",
      (0, "ok\n02\nc4\nok\na fresh board\n00\nkr 04\n"), "", {}),
     ({"it": SL + CL}, "load it\nscript\n", (1, "ok\nok\n"), "of this session: call 1, sl 53494f5301014900", {}),
