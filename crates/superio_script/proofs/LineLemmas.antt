@@ -1,53 +1,18 @@
--- Lemmas on how bytes are split into lines and fields, on the lines that load a saved state, on those of the clock, and
--- on reads.
-use Rattle.std.proofs.Common.{◌≡◌, ℕ, List, length, ◌≤◌, Option, Some, None, Result, Ok, Err, refl, ap, sym, ◌∙◌, ◌<◌, ◌^◌, Bool, true, false, [], ◌∷◌, arith, ◌+◌, ◌++◌, take, subst, append_assoc, length-append, IfErr, IfSome, ◌≢◌, if◌then◌else◌, suc, zero, ◌==◌, ◌-◌, drop, get_or, add-one}
+-- Lemmas on how bytes are split into lines and fields, on the lines of the clock, and on reads.
+use Rattle.std.proofs.Common.{◌≡◌, ℕ, List, length, ◌≤◌, Option, Some, None, refl, ap, sym, ◌∙◌, ◌<◌, ◌^◌, Bool, true, false, [], ◌∷◌, arith, ◌+◌, ◌++◌, take, subst, append_assoc, length-append, ◌≢◌, if◌then◌else◌, suc, zero, ◌==◌, ◌-◌, drop, get_or, add-one}
 use Rattle.std.specs.Int.{w32, to_le_bytes, from_le_bytes}
 use Rattle.std.proofs.lemmas.Nat.{from_le_bytes-to_le_bytes_4}
 use Rattle.std.specs.Io.KnownBytes.{Consumes}
 use Rattle.std.proofs.lemmas.List.{length-take-le, take-append-le, take_rest}
 use Rattle.std.proofs.Math.Seq.{take-append-add}
-use Rattle.superio_core.specs.declared.saved.Error.{Error as Fault}
-use Rattle.superio_core.specs.Saved.{serial_form, clock_form, IsClock, numbers_in}
-use Rattle.vm_superio.specs.declared.saved.Error.{Error}
-use Rattle.vm_superio.specs.declared.serial.saved_form.SerialState.{SerialState}
-use Rattle.vm_superio.specs.declared.saved.Error.TheVariants.{Bytes, Memory}
-use Rattle.superio_core.specs.Serial.{State}
-use Rattle.superio_core.proofs.Lemmas.Saved.{numbers_in-form, serial_form_has_no_fault, clock_form_has_no_fault}
-use Rattle.superio_script.specs.Loading.{unless_fault, port_in, loaded_port, loaded_clock, PortFormLoads, ClockFormLoads}
 use Rattle.vm_superio.specs.Links.ForAnyObject.{FoldsEvents}
-use Rattle.vm_superio.specs.Rtc.{invalid_write, GoesOnByHistory, RtcState, write, write_of, clock_of_history}
+use Rattle.vm_superio.specs.Rtc.{invalid_write, GoesOnByHistory, RtcState, Access, fresh_clock, write, write_of, clock_of_history}
 use Rattle.superio_script.specs.Objects.{no_counts, counts_after_clock_event, Counts}
-use Rattle.superio_script.specs.ClockScript.{ClockSession, clock_session_state, clock_session_after_access}
+use Rattle.superio_script.specs.ClockScript.{clock_after}
 use Rattle.std.specs.List.{position, position_from}
 use Rattle.std.proofs.lemmas.Iterator.Adapters.{position_from-zero}
 use Rattle.std.proofs.lemmas.List.Quantifiers.{position-Some}
 use Rattle.superio_script.specs.Fields.{prepend_to_first, pieces_of, lines_of}
-
--- ---- the laws
-
-pub port_form-loads : PortFormLoads
-port_form-loads state few = ap (λ (fault : Option Fault). unless_fault fault (port_in (serial_form state))) (serial_form_has_no_fault state few)
-
-pub clock_form-loads : ClockFormLoads
-clock_form-loads state numbers =
-    ap (λ (fault : Option Fault). unless_fault fault (numbers_in (clock_form state))) (clock_form_has_no_fault state)
-    ∙ ap Ok (numbers_in-form state numbers)
-
-pub ruleset saved_forms_load_laws = (port_form-loads, clock_form-loads)
-
--- ---- what is read
-
--- if a state was read, it is loaded
-pub port-loaded : (bytes : List ℕ) (state : State) → length state.in_buffer ≤ 64 → bytes ≡ serial_form state → loaded_port bytes ≡ Ok state
-port-loaded bytes state few is = ap loaded_port is ∙ port_form-loads state few
-
-pub clock-loaded : (bytes : List ℕ) (state : RtcState) → IsClock state → bytes ≡ clock_form state → loaded_clock bytes ≡ Ok state
-clock-loaded bytes state numbers is = ap loaded_clock is ∙ clock_form-loads state numbers
-
--- if a check failed, the load has its error
-pub port-refused : (fault : Option Fault) (state : State) (result : Result SerialState Error) (error : Fault) → result ≡ Err (Bytes error) →
-    IfSome fault (λ fault. result ≡ Err (Bytes fault)) → (fault ≡ None → IfErr result (λ error. error ≡ Memory)) → unless_fault fault state ≡ Err error
-port-refused fault state result error is found memory = grind arith
 
 -- ---- what a write of the clock does: the count of invalid writes shows whether the register takes it, and the
 -- bytes are the value
@@ -62,12 +27,12 @@ pub uncounted-is_valid : (writable : Bool) (old new : Counts) → old ≡ no_cou
 uncounted-is_valid writable old new none reported other = grind arith
 
 pub write-goes_on :
-    (session : ClockSession) (old new : RtcState) (offset value moment : ℕ) (bytes : List ℕ) → value < 2 ^ 32 → bytes ≡ to_le_bytes w32 value →
-    old ≡ clock_session_state session → GoesOnByHistory old (write_of offset bytes moment) new →
-    new ≡ clock_session_state (clock_session_after_access session (write offset value moment))
-write-goes_on session old new offset value moment bytes few same at history =
-    history session.start session.accesses at
-    ∙ ap (λ (n : ℕ). clock_of_history session.start (write offset n moment ∷ session.accesses))
+    (accesses : List Access) (old new : RtcState) (offset value moment : ℕ) (bytes : List ℕ) → value < 2 ^ 32 → bytes ≡ to_le_bytes w32 value →
+    old ≡ clock_after accesses → GoesOnByHistory old (write_of offset bytes moment) new →
+    new ≡ clock_after (write offset value moment ∷ accesses)
+write-goes_on accesses old new offset value moment bytes few same at history =
+    history fresh_clock accesses at
+    ∙ ap (λ (n : ℕ). clock_of_history fresh_clock (write offset n moment ∷ accesses))
     (ap (from_le_bytes w32) same ∙ from_le_bytes-to_le_bytes_4 value few)
 
 -- ---- what several reads together have consumed

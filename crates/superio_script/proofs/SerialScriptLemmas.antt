@@ -1,10 +1,8 @@
 -- A line of the serial port is a step of its session.
-use Rattle.std.proofs.Common.{◌≡◌, ℕ, zero, suc, ◌-◌, ◌≤◌, Bool, true, false, List, [], ◌∷◌, ◌++◌, length, drop, slice_index, Option, Some, None, Result, Ok, Err, refl, ap, sym, ◌∙◌, subst, arith, append_assoc, append-nil, inl, inr, ◌≢◌, IsTrue, IfSome, if◌then◌else◌, not, codes, ◌&&◌, is_some, length-drop, option_map}
+use Rattle.std.proofs.Common.{◌≡◌, ℕ, zero, suc, ◌-◌, ◌≤◌, Bool, true, false, List, [], ◌∷◌, ◌++◌, length, drop, slice_index, Option, Some, None, Result, refl, ap, sym, ◌∙◌, subst, arith, append_assoc, append-nil, inl, inr, ◌≢◌, IsTrue, IfSome, if◌then◌else◌, not, codes, ◌&&◌, is_some, length-drop, option_map}
 use Rattle.std.specs.Bool.{beq}
-use Rattle.std.proofs.lemmas.Bool.{and_parts, false≢true}
+use Rattle.std.proofs.lemmas.Bool.{and_parts}
 use Rattle.std.proofs.lemmas.Bool.Decides.{nat_tests}
-use Rattle.superio_core.specs.declared.saved.Error.{Error as Fault}
-use Rattle.superio_core.specs.Saved.{serial_form}
 use Rattle.vm_superio.specs.Serial.Step.{RefusesRestore, IsPortStep}
 use Rattle.vm_superio.specs.Serial.History.{none_lost, output, kind_at, dlab}
 use Rattle.vm_superio.specs.Serial.Laws.{state_after, StateLaw, RegisterLaw, CoherenceLaw}
@@ -17,10 +15,9 @@ use Rattle.vm_superio.specs.declared.serial.errors.Error.TheVariants.{Trigger, I
 use Rattle.vm_superio.specs.Links.ForAnyObject.{FoldsEvents}
 use Rattle.superio_script.specs.Objects.{fresh_interrupt_line, InterruptLineLink, no_counts, counts_after_event, written_bytes, Line, Counts, Output, LineRefused}
 use Rattle.superio_script.specs.Reply.{with_lf, response_reply, digits_reply, count_digits, counts_reply}
-use Rattle.superio_script.specs.Loading.{loaded_port, fault_words}
-use Rattle.superio_script.specs.SerialScript.{Session, fresh_session, Choice, trigger_answers, interrupt_line_after_calls, output_after, session_after_step, session_answers, session_outcome, call_reply, session_after_call, drained_bytes, session_after_reads, restore_answers, is_restore_refused, restore_reply, session_after_restore, load_reply, session_after_load, output_or_chosen, session_after_calls, session_trace, SessionStateLaw, DrainLaw, SessionOutputLaw}
+use Rattle.superio_script.specs.SerialScript.{Session, fresh_session, Choice, trigger_answers, interrupt_line_after_calls, output_after, session_after_step, session_answers, session_outcome, call_reply, session_after_call, drained_bytes, session_after_reads, restore_answers, is_restore_refused, output_or_chosen, session_after_calls, session_trace, SessionStateLaw, DrainLaw, SessionOutputLaw}
 use Rattle.superio_script.specs.Driver.{ReadsWhileReady, bytes_while_ready}
-use Rattle.superio_script.specs.Board.{IsAt, IsRestore, IsSerialLineStep}
+use Rattle.superio_script.specs.Board.{IsAt, IsSerialLineStep}
 use Rattle.superio_script.specs.declared.command.SerialCommand.TheVariants as line
 use Rattle.superio_script.proofs.DriverLemmas.{reads-are_stepped}
 
@@ -114,13 +111,13 @@ reads-step [] old new before at same = subst (IsAt before) (sym same) at
 reads-step (byte ∷ bytes) old new before at (ready, (middle, made, later)) =
     reads-step bytes middle new (session_after_call before (Read 0) false) (call-step made before at).1 later
 
-drained-are : (latch : Bool) (bytes stepped : List ℕ) → (latch ≡ true → bytes ≡ []) → (latch ≡ false → bytes ≡ stepped)
-    → bytes ≡ (if latch then [] else stepped)
-drained-are latch bytes stepped set clear = grind arith
-
 -- the choice if nothing is left open
 no_choice : Choice
 no_choice = record { loses = false; printed = []; short = omega arith }
+
+drained-are : (latch : Bool) (bytes stepped : List ℕ) → (latch ≡ true → bytes ≡ []) → (latch ≡ false → bytes ≡ stepped)
+    → bytes ≡ (if latch then [] else stepped)
+drained-are latch bytes stepped set clear = grind arith
 
 pub drain-step :
     (bytes : List ℕ) (old new : Port Line Counts Output)
@@ -146,10 +143,6 @@ module _ (port : Port Line Counts Output) (reply : List ℕ) where
   pub capacity-step : reply ≡ digits_reply ((64 - length port.state.in_buffer) ∷ []) → IsSerialLineStep line.Capacity reply port port
   unfolding IsSerialLineStep
   capacity-step is before at = (no_choice, is ∙ ap (λ (s : State). digits_reply ((64 - length s.in_buffer) ∷ [])) at.state, at)
-
-  pub save-step : reply ≡ digits_reply (serial_form port.state) → IsSerialLineStep line.Save reply port port
-  unfolding IsSerialLineStep
-  save-step is before at = (no_choice, is ∙ ap (λ (s : State). digits_reply (serial_form s)) at.state, at)
 
   pub calls-step : reply ≡ with_lf (count_digits port.trigger.calls) → IsSerialLineStep line.Calls reply port port
   unfolding IsSerialLineStep
@@ -202,79 +195,59 @@ refused-answers refusal (first ∷ second ∷ third ∷ due) responses few stops
 few-pending : (thre rda : Bool) → length (pending_in_order thre rda) ≤ 2
 few-pending thre rda = grind arith
 
-module _ (old new : Port Line Counts Output) (state : State) (reply : List ℕ) where
+module _ (new : Port Line Counts Output) (reply : List ℕ) (before : Session) where
   -- a restore whose calls were answered so
-  abbrev IsRestoredBy : (before : Session) (asked : Asked) (refused : Bool) → Type 0
-  IsRestoredBy before asked refused =
+  abbrev IsRestoredBy : (asked : Asked) (refused : Bool) → Type 0
+  IsRestoredBy asked refused =
       (reply ≡ with_lf (if refused then codes "trigger" else codes "ok"))
-      × IsAt (if refused then before else record before { state = state; interrupt_line = interrupt_line_after_calls (answer_count asked) before.interrupt_line }) new
-      × (IsTrue refused → new ≡ old)
+      × IsAt (if refused then before else record before { interrupt_line = interrupt_line_after_calls (answer_count asked) before.interrupt_line }) new
 
-  restored-by : (before : Session) (after : Line) (refusal : Option LineRefused) (responses : List (Result (Unit {0}) LineRefused)) (refused : Bool) →
-      AreAnswered (restore_calls state) refusal responses refused → InterruptLineLink before.interrupt_line responses after →
-      ((asked : Asked) → after ≡ interrupt_line_after_calls (answer_count asked) before.interrupt_line → IsRestoredBy before asked refused) →
-      IsRestoredBy before (restore_answers before state) (is_restore_refused before state)
-  restored-by before after refusal responses refused (asked, all, some, are, ends) link holds =
-      let answered = trigger_answers-from_link before.interrupt_line after (length (restore_calls state)) asked refusal all some
+  restored-by : (after : Line) (refusal : Option LineRefused) (responses : List (Result (Unit {0}) LineRefused)) (refused : Bool) →
+      AreAnswered (restore_calls before.state) refusal responses refused → InterruptLineLink before.interrupt_line responses after →
+      ((asked : Asked) → after ≡ interrupt_line_after_calls (answer_count asked) before.interrupt_line → IsRestoredBy asked refused) →
+      IsRestoredBy (restore_answers before) (is_restore_refused before)
+  restored-by after refusal responses refused (asked, all, some, are, ends) link holds =
+      let answered = trigger_answers-from_link before.interrupt_line after (length (restore_calls before.state)) asked refusal all some
       (subst (λ responses. InterruptLineLink before.interrupt_line responses after) are link) in
-      subst (λ asked. IsRestoredBy before asked (ends_in_refusal asked)) answered.0
-      (subst (IsRestoredBy before asked) (sym ends) (holds asked answered.1))
+      subst (λ asked. IsRestoredBy asked (ends_in_refusal asked)) answered.0
+      (subst (IsRestoredBy asked) (sym ends) (holds asked answered.1))
 
 -- a restore whose calls were accepted
-pub restore-accepts : (old new : Port Line Counts Output) (state : State) →
-    new.state ≡ state → InterruptLineLink old.trigger (all_ok (restore_calls state)) new.trigger → new.events ≡ old.events → new.out ≡ old.out →
-    IsRestore state (with_lf (codes "ok")) old new
-unfolding IsRestore
-restore-accepts old new state is link events out before at =
-    restored-by old new state (with_lf (codes "ok")) before new.trigger None _ false (accepted-answers _ _)
-    (subst (λ line. InterruptLineLink line (all_ok (restore_calls state)) new.trigger) at.interrupt_line link)
+pub restore-accepts : (old new : Port Line Counts Output) →
+    new.state ≡ old.state → InterruptLineLink old.trigger (all_ok (restore_calls old.state)) new.trigger → new.events ≡ old.events → new.out ≡ old.out →
+    IsSerialLineStep line.Restore (with_lf (codes "ok")) old new
+unfolding IsSerialLineStep
+restore-accepts old new is link events out before at =
+    let (replied, after) = restored-by new (with_lf (codes "ok")) before new.trigger None _ false (accepted-answers _ _)
+    (subst (λ state. InterruptLineLink before.interrupt_line (all_ok (restore_calls state)) new.trigger) at.state
+    (subst (λ line. InterruptLineLink line (all_ok (restore_calls old.state)) new.trigger) at.interrupt_line link))
     (λ asked after. (
       refl,
       record {
-        state = is;
+        state = is ∙ at.state;
         interrupt_line = after;
         counts = events ∙ at.counts;
         output = subst (λ (o : Output). IfSome before.output (λ all. written_bytes o ≡ all)) (sym out) at.output;
       },
-      λ impossible. absurd (false≢true impossible),
-    ))
+    )) in
+    (no_choice, replied, after)
 
 -- one of whose calls was refused
 pub restore-refuses : (old : Port Line Counts Output) (state : State) (after : Line) (error : Error LineRefused) →
-    length state.in_buffer ≤ 64 → RefusesRestore InterruptLineLink state error old.trigger after → error ≢ Memory →
-    IsRestore state (response_reply (failure_response error)) old old
-unfolding IsRestore
-restore-refuses old state after FullFifo few refuses other before at = absurd (omega (arith, refuses.0))
-restore-refuses old state after (IOError fault) few refuses other before at = absurd refuses.1
-restore-refuses old state after Memory few refuses other before at = absurd (other refl)
-restore-refuses old state after (Trigger refusal) few (none_more, (responses, stops, link)) other before at =
-    restored-by old old state (with_lf (codes "trigger")) before after (Some refusal) responses true
-    (refused-answers refusal (restore_calls state) responses (few-pending _ _) stops)
-    (subst (λ line. InterruptLineLink line responses after) at.interrupt_line link)
-    (λ asked _. (refl, at, λ _. refl))
-
--- ---- the lines that restore
-
-module _ (old new : Port Line Counts Output) (reply : List ℕ) where
-  pub restore_step : (state : State) → state ≡ old.state → IsRestore state reply old new → IsSerialLineStep line.Restore reply old new
-  unfolding IsSerialLineStep IsRestore
-  restore_step state saved restores before at =
-      let (replied, after, unchanged) = restores before at in
-      let is = saved ∙ at.state in
-      (no_choice, replied ∙ ap (restore_reply before) is, subst (λ state. IsAt (session_after_restore before state) new) is after)
-
-  pub load-step : (bytes : List ℕ) (state : State) → loaded_port bytes ≡ Ok state → IsRestore state reply old new →
-      IsSerialLineStep (line.Load bytes) reply old new
-  unfolding IsSerialLineStep IsRestore
-  load-step bytes state loads restores before at =
-      let (replied, after, unchanged) = restores before at in
-      (no_choice, replied ∙ ap (load_reply before) (sym loads), subst (λ (loaded : Result State Fault). IsAt (session_after_load before loaded) new) (sym loads) after)
-
-pub refused-load-step : (bytes : List ℕ) (port : Port Line Counts Output) (fault : Fault) → loaded_port bytes ≡ Err fault →
-    IsSerialLineStep (line.Load bytes) (with_lf (fault_words fault)) port port
+    state ≡ old.state → length old.state.in_buffer ≤ 64 → RefusesRestore InterruptLineLink state error old.trigger after → error ≢ Memory →
+    IsSerialLineStep line.Restore (response_reply (failure_response error)) old old
 unfolding IsSerialLineStep
-refused-load-step bytes port fault fails before at =
-    (no_choice, ap (load_reply before) (sym fails), subst (λ (loaded : Result State Fault). IsAt (session_after_load before loaded) port) (sym fails) at)
+restore-refuses old state after FullFifo is few refuses other before at =
+    absurd (omega (arith, few, refuses.0, ap (λ (s : State). length s.in_buffer) is))
+restore-refuses old state after (IOError fault) is few refuses other before at = absurd refuses.1
+restore-refuses old state after Memory is few refuses other before at = absurd (other refl)
+restore-refuses old state after (Trigger refusal) is few (none_more, (responses, stops, link)) other before at =
+    let (replied, kept) = restored-by old (with_lf (codes "trigger")) before after (Some refusal) responses true
+    (refused-answers refusal (restore_calls before.state) responses (few-pending _ _)
+    (subst (λ state. StopsAtRefusal (restore_calls state) refusal responses) (is ∙ at.state) stops))
+    (subst (λ line. InterruptLineLink line responses after) at.interrupt_line link)
+    (λ asked _. (refl, at)) in
+    (no_choice, replied, kept)
 
 -- ---- a session by the history of its calls
 

@@ -1,11 +1,11 @@
 -- What a contract sees of a board, and of one line on it.
-use Rattle.std.specs.Prelude.{◌≡◌, ℕ, List, IfSome, IsTrue}
-use Rattle.vm_superio.specs.Serial.{Port, State}
-use Rattle.vm_superio.specs.Rtc.{ClockDevice, RtcState, fresh_clock}
+use Rattle.std.specs.Prelude.{◌≡◌, ℕ, List, ◌∷◌, IfSome}
+use Rattle.vm_superio.specs.Serial.{Port}
+use Rattle.vm_superio.specs.Rtc.{ClockDevice, RtcState, Access, fresh_clock}
 use Rattle.superio_script.specs.Objects.{fresh_interrupt_line, no_counts, written_bytes, Line, Counts, Output}
 use Rattle.superio_script.specs.Reply.{controller_reply}
-use Rattle.superio_script.specs.SerialScript.{Session, fresh_session, Choice, is_restore_refused, restore_reply, session_after_restore, serial_reply, session_after_line}
-use Rattle.superio_script.specs.ClockScript.{ClockSession, clock_session_state, clock_reply, clock_session_after_line}
+use Rattle.superio_script.specs.SerialScript.{Session, fresh_session, Choice, serial_reply, session_after_line}
+use Rattle.superio_script.specs.ClockScript.{clock_after, access_of_line, clock_reply}
 use Rattle.superio_script.specs.Command.{Command, Serial, Clock, Controller, SerialCommand, ClockCommand}
 
 -- the devices. Of the controller, a contract sees its reset line
@@ -28,8 +28,8 @@ pub record IsBetweenLines
     Type 0 where
   pub session : Session
   pub serial : IsAt session port
-  pub clock_session : ClockSession
-  pub clock : rtc.state ≡ clock_session_state clock_session
+  pub accesses : List Access
+  pub clock : rtc.state ≡ clock_after accesses
   pub controller : reset_line ≡ fresh_interrupt_line 0
 
 -- a board of fresh devices. The mask is that of the serial port's interrupt line; the reset line refuses nothing
@@ -47,20 +47,12 @@ IsSerialLineStep line reply old new =
     (before : Session) → IsAt before old → (choice : Choice)
     × (reply ≡ serial_reply before choice line) × IsAt (session_after_line before choice line) new
 
--- a restore of the port in a state, with the old port's objects. From each session that the port is at, the reply is
--- that of a restore, and the port is then at the session after it; if the restore was refused, the port is unchanged
-unfoldable pub IsRestore : (state : State) (reply : List ℕ) (old new : Port Line Counts Output) → Type 0
-IsRestore state reply old new =
-    (before : Session) → IsAt before old
-    → (reply ≡ restore_reply before state) × IsAt (session_after_restore before state) new
-    × (IsTrue (is_restore_refused before state) → new ≡ old)
-
--- a line of the clock. From each session that the clock is at, the reply is the session's, and the clock is then at the
--- session after the line
+-- a line of the clock. After any accesses that lead to its state, the reply is theirs, and its state is then that after
+-- one more access
 abbrev pub IsClockLineStep : (line : ClockCommand) (reply : List ℕ) (old new : RtcState) → Type 0
 IsClockLineStep line reply old new =
-    (session : ClockSession) → old ≡ clock_session_state session
-    → (reply ≡ clock_reply session line) × (new ≡ clock_session_state (clock_session_after_line session line))
+    (accesses : List Access) → old ≡ clock_after accesses
+    → (reply ≡ clock_reply accesses line) × (new ≡ clock_after (access_of_line line ∷ accesses))
 
 -- a line acts on its own device, and leaves the other devices as they are
 abbrev pub IsLineStep : (command : Command) (reply : List ℕ) (old new : Devices) → Type 0

@@ -1,5 +1,5 @@
 -- The forms of a line: what a line asks for.
-use Rattle.std.specs.Prelude.{◌≡◌, ℕ, ◌==◌, Bool, true, false, List, [], ◌∷◌, if◌then◌else◌, codes, Option, Some, None, IsTrue, option_map, bytes_eq}
+use Rattle.std.specs.Prelude.{◌≡◌, ℕ, ◌==◌, List, [], ◌∷◌, if◌then◌else◌, codes, Option, Some, None, option_map, bytes_eq}
 use Rattle.std.specs.Int.{w8, w16, w32, w64}
 use Rattle.superio_script.specs.Fields.{number, bytes, end, fields_of}
 pub use Rattle.superio_script.specs.declared.command.Command.{Command}
@@ -27,12 +27,9 @@ serial_forms =
     (codes "sr", number w8 (λ offset. end (serial.Read offset)))
     ∷ (codes "sw", number w8 (λ offset. number w8 (λ value. end (serial.Write offset value))))
     ∷ (codes "sq", bytes (λ value. end (serial.Enqueue value)))
-    ∷ (codes "si", end serial.CharacterTimeout)
     ∷ (codes "sc", end serial.Capacity)
     ∷ (codes "sd", end serial.Drain)
     ∷ (codes "ss", end serial.Restore)
-    ∷ (codes "sb", end serial.Save)
-    ∷ (codes "sl", bytes (λ value. end (serial.Load value)))
     ∷ (codes "so", end serial.Output)
     ∷ (codes "st", end serial.Calls)
     ∷ (codes "se", end serial.Events)
@@ -46,8 +43,6 @@ clock_forms =
       number w64 (λ moment. number w16 (λ offset. number w32 (λ value.
           end (clock.Write moment offset value)))),
     )
-    ∷ (codes "cb", end clock.Save)
-    ∷ (codes "cl", bytes (λ value. end (clock.Load value)))
     ∷ []
 
 abbrev pub controller_forms : List (Form ControllerCommand)
@@ -75,17 +70,11 @@ command_of_fields (name ∷ fields) = command_of_name name fields
 abbrev pub command_of : (line : List ℕ) → Option Command
 command_of line = command_of_fields (fields_of line)
 
--- ---- memory
+-- ---- the line that takes memory
 
--- `ss`, `sb` and `sl` take memory, and no other line does
-abbrev pub takes_memory : (line : SerialCommand) → Bool
-takes_memory serial.Restore = true
-takes_memory serial.Save = true
-takes_memory (serial.Load bytes) = true
-takes_memory _ = false
-
-abbrev pub TakesMemory : (line : List ℕ) → Type 0
-TakesMemory line = (command : SerialCommand) × (command_of line ≡ Some (Serial command)) × IsTrue (takes_memory command)
+-- the line `ss` takes memory, and no other does
+abbrev pub IsRestoreLine : (line : List ℕ) → Type 0
+IsRestoreLine line = command_of line ≡ Some (Serial serial.Restore)
 
 -- ---- the first line
 

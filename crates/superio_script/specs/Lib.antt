@@ -3,7 +3,6 @@ pub mod ClockScript
 pub mod Command
 pub mod Driver
 pub mod Fields
-pub mod Loading
 pub mod Objects
 pub mod Reply
 pub mod Script

@@ -31,11 +31,11 @@ abbrev pub response_reply : (response : Response) → List ℕ
 response_reply (ByteRead byte) = digits_reply (byte ∷ [])
 response_reply WriteOk = with_lf (codes "ok")
 response_reply (EnqueueOk count) = digits_reply (count ∷ [])
-response_reply TimeoutOk = with_lf (codes "ok")
 response_reply TriggerRefused = with_lf (codes "trigger")
 response_reply WriterFailed = with_lf (codes "io")
 response_reply FifoFull = with_lf (codes "full")
 -- no call of a line responds with these
+response_reply TimeoutOk = []
 response_reply OutOfMemory = []
 response_reply NoResponse = []
 

@@ -3,10 +3,11 @@ use Rattle.std.specs.Prelude.{◌≡◌, ℕ, ◌+◌, ◌≤◌, List, [], ◌�
 use Rattle.std.specs.List.{list_all}
 use Rattle.std.specs.Io.KnownBytes.{Appends, Consumes, IsAtEnd}
 use Rattle.superio_script.specs.Fields.{lines_of}
-use Rattle.superio_script.specs.Command.{command_of, mask_of, TakesMemory, Command, Serial, Clock, Controller, SerialCommand, ClockCommand, ControllerCommand}
+use Rattle.superio_script.specs.Command.{command_of, mask_of, IsRestoreLine, Command, Serial, Clock, Controller, SerialCommand, ClockCommand, ControllerCommand}
 use Rattle.superio_script.specs.Reply.{controller_reply}
+use Rattle.vm_superio.specs.Rtc.{Access}
 use Rattle.superio_script.specs.SerialScript.{Session, fresh_session, AreSerialReplies}
-use Rattle.superio_script.specs.ClockScript.{ClockSession, fresh_clock_session, clock_replies}
+use Rattle.superio_script.specs.ClockScript.{clock_replies}
 
 -- ---- the lines
 
@@ -79,19 +80,19 @@ replies_in_order (Controller line ∷ commands) serial clock (reply ∷ controll
     reply ++ replies_in_order commands serial clock controller
 replies_in_order _ serial clock controller = []
 
--- these are the replies to these commands, from a session of the serial port and one of the clock on. The replies of
+-- these are the replies to these commands, from a session of the serial port and these accesses of the clock on. The replies of
 -- each device come from its own lines alone
 abbrev pub IsTextFrom :
-    (session : Session) (clock_session : ClockSession) (commands : List Command) (text : List ℕ) → Type 0
-IsTextFrom session clock_session commands text =
+    (session : Session) (accesses : List Access) (commands : List Command) (text : List ℕ) → Type 0
+IsTextFrom session accesses commands text =
     (replies : List (List ℕ)) × AreSerialReplies session (serial_lines commands) replies
-    × (text ≡ replies_in_order commands replies (clock_replies clock_session (clock_lines commands))
+    × (text ≡ replies_in_order commands replies (clock_replies accesses (clock_lines commands))
     (controller_replies (controller_lines commands)))
 
 -- these are the replies to the good ones of these lines, from fresh devices, given the mask of the serial port's
 -- interrupt line
 abbrev pub IsText : (mask : ℕ) (lines : List (List ℕ)) (text : List ℕ) → Type 0
-IsText mask lines text = IsTextFrom (fresh_session mask) fresh_clock_session (good_commands lines) text
+IsText mask lines text = IsTextFrom (fresh_session mask) [] (good_commands lines) text
 
 -- the number of a script's first bad line, counted from 1, or `None` if every line is good
 abbrev pub first_bad_line_of : (script : List ℕ) → Option ℕ
@@ -135,15 +136,15 @@ WritesPartOf script before after = WritesPart (body_of script).mask (body_of scr
 abbrev pub ReadsBytes : (count : ℕ) (before after : Option (List ℕ)) → Type 0
 ReadsBytes count before after = (bytes : List ℕ) × Consumes before after bytes × (length bytes ≡ count)
 
--- a run of these lines ended at a line for which memory was refused: it is one that takes memory, all lines before it
--- are good, and their text was written
+-- a run of these lines ended at a line for which memory was refused: it is an `ss`, all lines before it are
+-- good, and their text was written
 pub record StopsWithoutMemory (mask : ℕ) (lines : List (List ℕ)) (before after : Option (List ℕ)) : Type 0 where
   pub earlier : List (List ℕ)
   pub line : List ℕ
   pub later : List (List ℕ)
   pub split : lines ≡ earlier ++ line ∷ later
   pub all_good : IsTrue (list_all has_form earlier)
-  pub takes_memory : TakesMemory line
+  pub restores : IsRestoreLine line
   pub text : PrintsLines mask earlier before after
 
 -- the same of a run of this script

@@ -1,13 +1,10 @@
 -- The serial port's part of a script: the replies to its lines. They depend on these lines alone, and on what a script
 -- leaves open.
-use Rattle.std.specs.Prelude.{◌≡◌, ℕ, zero, suc, ◌-◌, ◌≤◌, Bool, false, if◌then◌else◌, List, [], ◌∷◌, ◌++◌, length, fold, codes, Option, Some, None, IfSome, Result, Ok, Err, ⊤, option_map}
-use Rattle.superio_core.specs.declared.saved.Error.{Error}
-use Rattle.superio_core.specs.Saved.{serial_form}
-use Rattle.vm_superio.specs.Serial.{Asked, Sent, Op, Read, Write, Enqueue, CharacterTimeout, Trace, is_lost, answer_count, ends_in_refusal, sent_by, State, fresh_state, Coherent, is_dlab, step, step_response, step_events, kind_in_state, step_calls, sends_byte, restore_calls}
+use Rattle.std.specs.Prelude.{◌≡◌, ℕ, zero, suc, ◌-◌, ◌≤◌, Bool, false, if◌then◌else◌, List, [], ◌∷◌, ◌++◌, length, fold, codes, Option, Some, None, IfSome, ⊤, option_map}
+use Rattle.vm_superio.specs.Serial.{Asked, Sent, Op, Read, Write, Enqueue, Trace, is_lost, answer_count, ends_in_refusal, sent_by, State, fresh_state, Coherent, is_dlab, step, step_response, step_events, kind_in_state, step_calls, sends_byte, restore_calls}
 use Rattle.vm_superio.specs.Serial.History.{none_lost, output, state_of_history}
 use Rattle.superio_script.specs.Objects.{fresh_interrupt_line, is_call_refused, interrupt_line_after_call, no_counts, counts_after_event, Line, Counts}
 use Rattle.superio_script.specs.Driver.{bytes_while_ready}
-use Rattle.superio_script.specs.Loading.{loaded_port, fault_words}
 use Rattle.superio_script.specs.Reply.{with_lf, response_reply, digits_reply, count_digits, counts_reply}
 use Rattle.superio_script.specs.declared.command.SerialCommand.{SerialCommand}
 use Rattle.superio_script.specs.declared.command.SerialCommand.TheVariants as serial
@@ -96,36 +93,25 @@ abbrev pub session_after_reads : (count : ℕ) (session : Session) → Session
 session_after_reads zero session = session
 session_after_reads (suc count) session = session_after_reads count (session_after_call session (Read 0) false)
 
--- ---- a restore in a state
+-- ---- a restore
 
 -- the interrupt line's answers to the calls of the restore, and whether they end it with a refusal
-abbrev pub restore_answers : (session : Session) (state : State) → Asked
-restore_answers session state = trigger_answers session.interrupt_line (length (restore_calls state))
+abbrev pub restore_answers : (session : Session) → Asked
+restore_answers session = trigger_answers session.interrupt_line (length (restore_calls session.state))
 
-abbrev pub is_restore_refused : (session : Session) (state : State) → Bool
-is_restore_refused session state = ends_in_refusal (restore_answers session state)
+abbrev pub is_restore_refused : (session : Session) → Bool
+is_restore_refused session = ends_in_refusal (restore_answers session)
 
-abbrev pub restore_reply : (session : Session) (state : State) → List ℕ
-restore_reply session state = with_lf (if is_restore_refused session state then codes "trigger" else codes "ok")
+abbrev pub restore_reply : (session : Session) → List ℕ
+restore_reply session = with_lf (if is_restore_refused session then codes "trigger" else codes "ok")
 
--- an accepted restore keeps the output and the counts, and its trigger calls count. A refused one changes nothing
-abbrev pub session_after_restore : (session : Session) (state : State) → Session
-session_after_restore session state =
-    if is_restore_refused session state then session
+-- the trigger calls of an accepted restore count, and nothing else changes. A refused one changes nothing
+abbrev pub session_after_restore : (session : Session) → Session
+session_after_restore session =
+    if is_restore_refused session then session
     else record session {
-      state = state;
-      interrupt_line =
-          interrupt_line_after_calls (answer_count (restore_answers session state)) session.interrupt_line;
+      interrupt_line = interrupt_line_after_calls (answer_count (restore_answers session)) session.interrupt_line;
     }
-
--- a load restores the port from the state that the bytes are. Bytes that are none change nothing
-abbrev pub load_reply : (session : Session) (loaded : Result State Error) → List ℕ
-load_reply session (Ok state) = restore_reply session state
-load_reply session (Err fault) = with_lf (fault_words fault)
-
-abbrev pub session_after_load : (session : Session) (loaded : Result State Error) → Session
-session_after_load session (Ok state) = session_after_restore session state
-session_after_load session (Err fault) = session
 
 -- ---- the lines
 
@@ -139,12 +125,9 @@ abbrev pub serial_reply : (session : Session) (choice : Choice) (line : SerialCo
 serial_reply session choice (serial.Read offset) = call_reply session (Read offset) choice.loses
 serial_reply session choice (serial.Write offset value) = call_reply session (Write offset value) choice.loses
 serial_reply session choice (serial.Enqueue bytes) = call_reply session (Enqueue bytes) choice.loses
-serial_reply session choice serial.CharacterTimeout = call_reply session CharacterTimeout choice.loses
 serial_reply session choice serial.Capacity = digits_reply ((64 - length session.state.in_buffer) ∷ [])
 serial_reply session choice serial.Drain = digits_reply (drained_bytes session.state)
-serial_reply session choice serial.Restore = restore_reply session session.state
-serial_reply session choice serial.Save = digits_reply (serial_form session.state)
-serial_reply session choice (serial.Load bytes) = load_reply session (loaded_port bytes)
+serial_reply session choice serial.Restore = restore_reply session
 serial_reply session choice serial.Output = digits_reply (output_or_chosen session.output choice.printed)
 serial_reply session choice serial.Calls = with_lf (count_digits session.interrupt_line.calls)
 serial_reply session choice serial.Events = counts_reply session.counts
@@ -154,10 +137,8 @@ session_after_line session choice (serial.Read offset) = session_after_call sess
 session_after_line session choice (serial.Write offset value) =
     session_after_call session (Write offset value) choice.loses
 session_after_line session choice (serial.Enqueue bytes) = session_after_call session (Enqueue bytes) choice.loses
-session_after_line session choice serial.CharacterTimeout = session_after_call session CharacterTimeout choice.loses
 session_after_line session choice serial.Drain = session_after_reads (length (drained_bytes session.state)) session
-session_after_line session choice serial.Restore = session_after_restore session session.state
-session_after_line session choice (serial.Load bytes) = session_after_load session (loaded_port bytes)
+session_after_line session choice serial.Restore = session_after_restore session
 session_after_line session choice _ = session
 
 -- these are the replies to lines, in order, for some choices. No more than 256 bytes go out before a loss, since the

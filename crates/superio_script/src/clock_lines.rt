@@ -2,12 +2,12 @@
 ghost use Rattle.std.specs.Prelude.{◌≡◌};
 ghost use Rattle.superio_script.specs.Board.{IsClockLineStep};
 ghost use Rattle.superio_script.specs.Objects.{no_counts};
-ghost use Rattle.superio_script.specs.declared.command.ClockCommand.TheVariants.{Read, Write, Save, Load};
+ghost use Rattle.superio_script.specs.declared.command.ClockCommand.TheVariants.{Read, Write};
 
 use crate::command::ClockCommand;
 use crate::objects::Counts;
-use crate::replies::{Reply, reply_digits, reply_fault, reply_text};
-use vm_superio::{Rtc, RtcState, laws};
+use crate::replies::{Reply, reply_digits, reply_text};
+use vm_superio::Rtc;
 
 /// Executes a line on the clock and returns the reply.
 pub(crate) fn clock_line(clock: &mut Rtc<Counts>, line: ClockCommand) -> Reply
@@ -20,8 +20,6 @@ pub(crate) fn clock_line(clock: &mut Rtc<Counts>, line: ClockCommand) -> Reply
             offset,
             value,
         } => write(clock, moment, offset, value),
-        ClockCommand::Save => save(clock),
-        ClockCommand::Load { bytes } => load(clock, bytes.as_slice()),
     }
 }
 
@@ -49,27 +47,6 @@ fn write(clock: &mut Rtc<Counts>, moment: u64, offset: u16, value: u32) -> Reply
         return reply_text(b"invalid");
     }
     reply_text(b"ok")
-}
-
-/// The clock's saved form.
-fn save(clock: &Rtc<Counts>) -> Reply
-    ensures step { IsClockLineStep Save result.items clock.now.state clock.now.state }
-{
-    reply_digits(&clock.state().to_bytes())
-}
-
-/// Restores the clock from the state that these bytes are. Other bytes change nothing.
-fn load(clock: &mut Rtc<Counts>, bytes: &[u8]) -> Reply
-    ensures step { IsClockLineStep (Load bytes.now) result.items clock.old.state clock.new.state }
-{
-    laws::clock_is_history();
-    match RtcState::from_bytes(bytes) {
-        Ok(state) => {
-            *clock = Rtc::from_state(&state, Counts::new());
-            reply_text(b"ok")
-        }
-        Err(error) => reply_fault(error),
-    }
 }
 
 /// Sets the counts to 0, so that after an access they show its own event only.

@@ -25,18 +25,12 @@ pub(crate) enum SerialCommand {
     Write { offset: u8, value: u8 },
     /// Bytes come in for the guest.
     Enqueue { bytes: FieldBytes },
-    /// The line is idle: a character timeout.
-    CharacterTimeout,
     /// How many more bytes the FIFO has room for.
     Capacity,
     /// A driver reads the bytes that the port holds.
     Drain,
     /// A save and a restore of the port.
     Restore,
-    /// The port's saved form.
-    Save,
-    /// A restore of the port from a saved form.
-    Load { bytes: FieldBytes },
     /// The bytes that the port wrote.
     Output,
     /// How often the interrupt line was called.
@@ -46,7 +40,7 @@ pub(crate) enum SerialCommand {
 }
 
 /// A line of the clock.
-#[derive(Drop)]
+#[derive(Clone, Copy)]
 pub(crate) enum ClockCommand {
     /// The guest reads at a moment, in seconds since 1970.
     Read {
@@ -58,12 +52,6 @@ pub(crate) enum ClockCommand {
         moment: u64,
         offset: u16,
         value: u32,
-    },
-    /// The clock's saved form.
-    Save,
-    /// A restore of the clock from a saved form.
-    Load {
-        bytes: FieldBytes,
     },
 }
 
@@ -91,14 +79,9 @@ fn serial_form(name: &[u8], fields: &mut Fields) -> Option<SerialCommand>
         b"sq" => SerialCommand::Enqueue {
             bytes: fields.bytes()?,
         },
-        b"si" => SerialCommand::CharacterTimeout,
         b"sc" => SerialCommand::Capacity,
         b"sd" => SerialCommand::Drain,
         b"ss" => SerialCommand::Restore,
-        b"sb" => SerialCommand::Save,
-        b"sl" => SerialCommand::Load {
-            bytes: fields.bytes()?,
-        },
         b"so" => SerialCommand::Output,
         b"st" => SerialCommand::Calls,
         b"se" => SerialCommand::Events,
@@ -120,10 +103,6 @@ fn clock_form(name: &[u8], fields: &mut Fields) -> Option<ClockCommand>
             moment: fields.u64()?,
             offset: fields.u16()?,
             value: fields.u32()?,
-        },
-        b"cb" => ClockCommand::Save,
-        b"cl" => ClockCommand::Load {
-            bytes: fields.bytes()?,
         },
         _ => return None,
     };

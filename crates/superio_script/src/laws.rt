@@ -1,5 +1,4 @@
 //! The laws over the definitions of a script. Each function does nothing: its contract is the law.
-ghost use Rattle.superio_script.specs.Loading.{PortFormLoads, ClockFormLoads};
 ghost use Rattle.superio_script.specs.SerialScript.{SessionStateLaw, DrainLaw, SessionOutputLaw};
 
 use vm_superio::laws;
@@ -17,11 +16,3 @@ pub fn sessions_by_history()
     laws::coherence();
     laws::registers();
 }
-
-/// The saved form of a state loads this state: an `sl` or `cl` with the digits of an `sb` or `cb` starts where that was
-/// made.
-#[tactic(auto, using(crate::proofs::LineLemmas::saved_forms_load_laws))]
-pub fn saved_forms_load()
-    ensures port { PortFormLoads }
-    ensures clock { ClockFormLoads }
-{}

@@ -1,14 +1,11 @@
 //! The reply to a line, with its LF, and the faults: why a line has none, and why a run of a script ended early.
 ghost use Rattle.std.specs.Prelude.{◌≡◌, ◌+◌, ◌*◌, ◌<◌, ◌≤◌, [], ◌∷◌, ◌++◌, length};
 ghost use Rattle.hex.specs.Hex.{encode_lower};
-ghost use Rattle.superio_core.specs.declared.saved.Error.TheVariants.{UnknownVersion};
-ghost use Rattle.superio_script.specs.Loading.{fault_words};
 ghost use Rattle.superio_script.specs.Reply.{with_lf, digits_reply, count_digits};
 
 use arrayvec::ArrayVec;
 use std::error::Error;
 use std::fmt;
-use vm_superio::saved::Fault;
 
 /// A reply with its LF. The longest has 512 digits, for the 256 bytes that the serial port's output can hold.
 pub type Reply = ArrayVec<u8, 513>;
@@ -55,32 +52,6 @@ pub(crate) fn reply_byte(value: u8) -> Reply
     reply_digits(&[value])
 }
 
-/// The name of a saved state's error in words, and LF.
-pub(crate) fn reply_fault(error: Fault) -> Reply
-    ensures { result.items ≡ with_lf (fault_words error) }
-{
-    match error {
-        Fault::TooShort => reply_text(b"too short"),
-        Fault::NotASavedState => reply_text(b"not a saved state"),
-        Fault::OtherDevice => reply_text(b"other device"),
-        Fault::UnknownVersion(version) => reply_unknown_version(version),
-        Fault::WrongLength => reply_text(b"wrong length"),
-        Fault::TooManyBytes => reply_text(b"too many bytes"),
-        Fault::InvalidArmed => reply_text(b"invalid armed"),
-    }
-}
-
-/// The error's name with the version as two digits, and LF.
-fn reply_unknown_version(version: u8) -> Reply
-    ensures { result.items ≡ with_lf (fault_words (UnknownVersion version)) }
-{
-    let mut reply = Reply::new();
-    reply.try_extend_from_slice(b"unknown version ").unwrap();
-    push_digits(&mut reply, &[version]);
-    reply.push(b'\n');
-    reply
-}
-
 /// The count as sixteen digits, and LF.
 pub(crate) fn reply_count(count: u64) -> Reply
     ensures { result.items ≡ with_lf (count_digits count) }
@@ -95,7 +66,7 @@ pub(crate) fn reply_count(count: u64) -> Reply
 pub enum LineFault {
     /// The line has no form. `refuse` is a form only of a script's first line.
     Bad,
-    /// The allocator refused memory for an `ss`, `sb` or `sl`.
+    /// The allocator refused memory for the line `ss`.
     Memory,
 }
 

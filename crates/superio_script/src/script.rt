@@ -140,8 +140,8 @@ fn write_replies<W: Write>(
 ///   lines before it were written, but the writer was not flushed.
 /// - [`ScriptFault::TooLong`] if the reader gave more than 65,536 bytes. Nothing was written, and no byte after the
 ///   65,537th was read.
-/// - [`ScriptFault::Memory`] if memory is refused. For the script or the board: nothing was written. For an `ss`, `sb`
-///   or `sl`: the replies to the lines before it were written.
+/// - [`ScriptFault::Memory`] if memory is refused. For the script or the board: nothing was written. For a line
+///   `ss`: the replies to the lines before it were written.
 /// - [`ScriptFault::Io`] if a read, a write or the flush failed. After a failed read, nothing was written. After a
 ///   failed write or flush, what was written is a first part of the replies.
 pub fn run_script<R: Read, W: Write>(

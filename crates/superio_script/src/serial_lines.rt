@@ -1,28 +1,26 @@
 //! The lines of the serial port.
-ghost use Rattle.std.specs.Prelude.{◌≡◌, ◌<◌, ◌≤◌, length, IfOk, IfErr, OnErr, IsTrue};
-ghost use Rattle.vm_superio.specs.Serial.{write_response, enqueue_response, timeout_response, failure_response};
-ghost use Rattle.vm_superio.specs.Saved.{state_of};
+ghost use Rattle.std.specs.Prelude.{◌≡◌, ◌<◌, IfOk, IfErr, OnErr};
+ghost use Rattle.vm_superio.specs.Serial.{write_response, enqueue_response, failure_response};
 ghost use Rattle.superio_script.specs.Reply.{response_reply, counts_reply};
-ghost use Rattle.superio_script.specs.Board.{IsSerialLineStep, IsRestore};
-ghost use Rattle.superio_script.specs.Command.{takes_memory};
-ghost use Rattle.superio_script.specs.declared.command.SerialCommand.TheVariants.{Restore, Save, Load};
+ghost use Rattle.superio_script.specs.Board.{IsSerialLineStep};
+ghost use Rattle.superio_script.specs.declared.command.SerialCommand.TheVariants.{Restore};
 
 use crate::command::SerialCommand;
 use crate::driver::drain;
 use crate::objects::{Counts, Line, LineRefused, Output};
 use crate::replies::{
-    LineFault, Reply, push_digits, reply_byte, reply_count, reply_digits, reply_fault, reply_text,
+    LineFault, Reply, push_digits, reply_byte, reply_count, reply_digits, reply_text,
 };
 use std::alloc::Global;
 use std::mem;
+use vm_superio::Serial;
 use vm_superio::serial::Error;
-use vm_superio::{Serial, SerialState, saved};
 
 /// The serial port of a board.
 pub(crate) type Port = Serial<Line, Counts, Output>;
 
-/// Executes a line on the serial port and returns the reply. Only a line that takes memory can fail, for lack of it.
-/// The port is then unchanged.
+/// Executes a line on the serial port and returns the reply. Only `ss` can fail, for lack of memory. The port is then
+/// unchanged.
 #[tactic(auto, using(crate::proofs::SerialScriptLemmas::unchanged_lines))]
 pub(crate) fn serial_line(
     alloc: Global,
@@ -32,20 +30,19 @@ pub(crate) fn serial_line(
     ensures step { IfOk result (λ reply. IsSerialLineStep line reply.items serial.old serial.new) }
     ensures unchanged { OnErr result (serial.new ≡ serial.old) }
     ensures only_memory { IfErr result (λ fault. fault ≡ LineFault.Memory) }
-    ensures takes_memory { OnErr result (IsTrue (takes_memory line)) }
+    ensures restores { OnErr result (line ≡ Restore) }
 {
     match line {
         SerialCommand::Read { offset } => Ok(reply_byte(serial.read(offset))),
-        SerialCommand::Write { offset, value } => Ok(result_reply(serial.write(offset, value))),
+        SerialCommand::Write { offset, value } => Ok(write_result_reply(serial.write(
+            offset, value,
+        ))),
         SerialCommand::Enqueue { bytes } => {
             Ok(enqueue_result_reply(serial.enqueue_raw_bytes(bytes.as_slice())))
         }
-        SerialCommand::CharacterTimeout => Ok(result_reply(serial.character_timeout())),
         SerialCommand::Capacity => Ok(reply_byte(serial.fifo_capacity() as u8)),
         SerialCommand::Drain => Ok(reply_digits(&drain(serial))),
         SerialCommand::Restore => restore(alloc, serial),
-        SerialCommand::Save => save(alloc, serial),
-        SerialCommand::Load { bytes } => load(alloc, serial, bytes.as_slice()),
         SerialCommand::Output => Ok(reply_digits(serial.writer().bytes())),
         SerialCommand::Calls => Ok(reply_count(serial.interrupt_evt().calls())),
         SerialCommand::Events => Ok(reply_events(serial.events())),
@@ -68,8 +65,8 @@ fn reply_events(counts: &Counts) -> Reply
     reply
 }
 
-/// Restores the port from its own state.
-#[tactic(auto, using(crate::proofs::SerialScriptLemmas::restore_step))]
+/// Makes the port again from its own state, with copies of its interrupt line and counts, and with its output. If the
+/// copy of the interrupt line refuses a call, the old port stays.
 fn restore(alloc: Global, serial: &mut Port) -> Result<Reply, LineFault>
     ensures step { IfOk result (λ reply. IsSerialLineStep Restore reply.items serial.old serial.new) }
     ensures unchanged { OnErr result (serial.new ≡ serial.old) }
@@ -78,43 +75,9 @@ fn restore(alloc: Global, serial: &mut Port) -> Result<Reply, LineFault>
     let Ok(state) = serial.state(alloc) else {
         return Err(LineFault::Memory);
     };
-    restore_from(alloc, serial, &state)
-}
-
-/// The port's saved form.
-fn save(alloc: Global, serial: &Port) -> Result<Reply, LineFault>
-    ensures step { IfOk result (λ reply. IsSerialLineStep Save reply.items serial.now serial.now) }
-    ensures only_memory { IfErr result (λ fault. fault ≡ LineFault.Memory) }
-{
-    let Ok(state) = serial.state(alloc) else {
-        return Err(LineFault::Memory);
-    };
-    Ok(reply_digits(state.to_bytes().unwrap().as_bytes()))
-}
-
-/// Restores the port from the state that these bytes are. Other bytes change nothing.
-fn load(alloc: Global, serial: &mut Port, bytes: &[u8]) -> Result<Reply, LineFault>
-    ensures step { IfOk result (λ reply. IsSerialLineStep (Load bytes.now) reply.items serial.old serial.new) }
-    ensures unchanged { OnErr result (serial.new ≡ serial.old) }
-    ensures only_memory { IfErr result (λ fault. fault ≡ LineFault.Memory) }
-{
-    match SerialState::from_bytes(alloc, bytes) {
-        Ok(state) => restore_from(alloc, serial, &state),
-        Err(saved::Error::Memory) => Err(LineFault::Memory),
-        Err(saved::Error::Bytes(fault)) => Ok(reply_fault(fault)),
-    }
-}
-
-/// Restores the port from a state, with copies of its interrupt line and counts, and with its output.
-fn restore_from(alloc: Global, serial: &mut Port, state: &SerialState) -> Result<Reply, LineFault>
-    requires { length state.now.in_buffer.items ≤ 64 }
-    ensures restore { IfOk result (λ reply. IsRestore (state_of state.now) reply.items serial.old serial.new) }
-    ensures unchanged { OnErr result (serial.new ≡ serial.old) }
-    ensures only_memory { IfErr result (λ fault. fault ≡ LineFault.Memory) }
-{
     let line = *serial.interrupt_evt();
     let counts = *serial.events();
-    match Serial::from_state(alloc, state, line, counts, Output::new()) {
+    match Serial::from_state(alloc, &state, line, counts, Output::new()) {
         Ok(restored) => {
             let old = mem::replace(serial, restored);
             *serial.writer_mut() = old.into_writer();
@@ -127,10 +90,9 @@ fn restore_from(alloc: Global, serial: &mut Port, state: &SerialState) -> Result
     }
 }
 
-/// The reply to a write or a character timeout with this result.
-fn result_reply(answer: Result<(), Error<LineRefused>>) -> Reply
-    ensures write { result.items ≡ response_reply (write_response answer) }
-    ensures timeout { result.items ≡ response_reply (timeout_response answer) }
+/// The reply to a write with this result.
+fn write_result_reply(answer: Result<(), Error<LineRefused>>) -> Reply
+    ensures { result.items ≡ response_reply (write_response answer) }
 {
     match answer {
         Ok(()) => reply_text(b"ok"),

@@ -35,7 +35,7 @@ StopsWithoutMemory-kept {mask = mask} {before = before} {middle = middle} after 
   later = stops.later;
   split = stops.split;
   all_good = stops.all_good;
-  takes_memory = stops.takes_memory;
+  restores = stops.restores;
   text = PrintsLines-kept mask stops.earlier before middle after kept stops.text;
 }
 

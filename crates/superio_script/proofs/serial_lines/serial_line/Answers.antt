@@ -9,18 +9,13 @@ returns-in-Read-clause-step c = rw (c.in-Read.is, c.reply_byte.ensures) (call_li
 
 pub returns-in-Write-clause-step : goal.returns-in-Write-clause-step
 unfolding IsSerialLineStep
-returns-in-Write-clause-step c = rw (c.in-Write.is, c.result_reply.ensures.write) (call_line-step c.write.ensures.step.step)
+returns-in-Write-clause-step c = rw (c.in-Write.is, c.write_result_reply.ensures) (call_line-step c.write.ensures.step.step)
 
 pub returns-in-Enqueue-clause-step : goal.returns-in-Enqueue-clause-step
 unfolding IsSerialLineStep
 returns-in-Enqueue-clause-step c =
     let step = rw c.as_slice.ensures at c.enqueue_raw_bytes.ensures.step in
     rw (c.in-Enqueue.is, c.enqueue_result_reply.ensures) (call_line-step step.step)
-
-pub returns-in-CharacterTimeout-clause-step : goal.returns-in-CharacterTimeout-clause-step
-unfolding IsSerialLineStep
-returns-in-CharacterTimeout-clause-step c =
-    rw (c.in-CharacterTimeout.is, c.result_reply-in-CharacterTimeout.ensures.timeout) (call_line-step c.character_timeout.ensures.step.step)
 
 pub returns-in-Drain-clause-step : goal.returns-in-Drain-clause-step
 returns-in-Drain-clause-step c =

@@ -1,9 +1,9 @@
--- After a line of the serial port or of the clock, its session goes on.
-use Rattle.std.proofs.Common.{◌≡◌, ℕ, List, Result, Ok, Err, sym, subst, IfOk, OnErr}
+-- After a line of the serial port its session goes on, and after one of the clock its accesses.
+use Rattle.std.proofs.Common.{◌≡◌, ℕ, List, ◌∷◌, Result, Ok, Err, sym, subst, IfOk, OnErr}
 use Rattle.vm_superio.specs.Rtc.{ClockDevice}
 use Rattle.vm_superio.specs.Serial.{Port}
 use Rattle.superio_script.specs.Board.{IsBetweenLines, IsSerialLineStep}
-use Rattle.superio_script.specs.ClockScript.{clock_session_after_line}
+use Rattle.superio_script.specs.ClockScript.{access_of_line}
 use Rattle.superio_script.specs.Objects.{Line, Counts, Output}
 use Rattle.superio_script.specs.SerialScript.{session_after_line}
 use Rattle.superio_script.specs.declared.command.SerialCommand.{SerialCommand}
@@ -17,7 +17,7 @@ after-serial_line items line (Ok reply) old new rtc reset_line step unchanged be
     let taken = step before.session before.serial in record {
       session = session_after_line before.session taken.0 line;
       serial = taken.2;
-      clock_session = before.clock_session;
+      accesses = before.accesses;
       clock = before.clock;
       controller = before.controller;
     }
@@ -34,7 +34,7 @@ invariant_of-self-in-Clock c =
     let before = c.self-in-Clock.invariant in record {
       session = before.session;
       serial = before.serial;
-      clock_session = clock_session_after_line before.clock_session c.in-Clock.line;
-      clock = (c.clock_line.ensures.step before.clock_session before.clock).1;
+      accesses = access_of_line c.in-Clock.line ∷ before.accesses;
+      clock = (c.clock_line.ensures.step before.accesses before.clock).1;
       controller = before.controller;
     }

@@ -1,8 +1,7 @@
 -- No call and no access led to fresh devices.
-use Rattle.std.proofs.Common.{rules, ◌≡◌, ◌∙◌}
+use Rattle.std.proofs.Common.{rules, ◌≡◌, ◌∙◌, []}
 use Rattle.superio_core.specs.Rtc.{fresh_clock}
 use Rattle.vm_superio.proofs.Lemmas.Rtc.{fresh_clock-history}
-use Rattle.superio_script.specs.ClockScript.{fresh_clock_session}
 use Rattle.superio_script.specs.SerialScript.{fresh_session}
 use Rattle.superio_script.proofs.SerialScriptLemmas.{at-start}
 use Rattle.superio_script.proofs.devices.Board.new.Goals as goal
@@ -13,7 +12,7 @@ invariant_of-result c =
     record {
       session = fresh_session c.args.mask;
       serial = at-start c.args.mask _ (search rules) (search rules) (search rules) (search rules);
-      clock_session = fresh_clock_session;
+      accesses = [];
       clock = fresh ∙ fresh_clock-history;
       controller = search rules;
     }
