@@ -4,7 +4,7 @@
 ghost use Rattle.std.specs.Prelude.{◌≡◌, ◌⊎◌, ◌<◌, ℕ, length, IfErr, IfSome, OnOk, Some, None};
 ghost use Rattle.std.specs.Io.KnownBytes.{Keeps};
 ghost use Rattle.std.specs.Io.Buffered.{writer_inner, writer_contents};
-ghost use Rattle.superio_script.specs.Script.{RunsUpTo, EndsWithoutMemory, WritesPartOf, ReadsBytes};
+ghost use Rattle.superio_script.specs.Script.{RunsUpTo, EndsWithoutMemory, ReadsBytes};
 ghost use Rattle.superio_script.specs.Reply.{status_of};
 
 use std::alloc::Global;
@@ -34,9 +34,6 @@ fn run_buffered<R: Read, W: Write + Drop>(
         → Keeps (writer_contents W.contents output.old) (W.contents (writer_inner output.new))
         ⊎ IfSome (R.remaining reader.old) (λ script.
         EndsWithoutMemory script (writer_contents W.contents output.old) (W.contents (writer_inner output.new))) }
-    // Whatever the result is, the output and what its buffer still holds grew by a first part of the text.
-    ensures part { IfSome (R.remaining reader.old) (λ script.
-        WritesPartOf script (writer_contents W.contents output.old) (writer_contents W.contents output.new)) }
     ensures too_long { result ≡ Err ScriptFault.TooLong
         → IfSome (R.remaining reader.old) (λ script. 65536 < length script) }
     ensures too_long_unwritten { result ≡ Err ScriptFault.TooLong

@@ -1,5 +1,5 @@
 -- What the lines so far add to what was written, whatever is still to come, and what was written when a run ends.
-use Rattle.std.proofs.Common.{arith, ◌≡◌, ℕ, ◌+◌, ◌≤◌, List, [], ◌∷◌, ◌++◌, length, Option, Some, None, refl, ap, sym, ◌∙◌, subst, append_assoc, append-nil, length-append, take, drop, take-append-drop, IsTrue, IsSomeAnd, IfSome, is_some, if◌then◌else◌}
+use Rattle.std.proofs.Common.{arith, ◌≡◌, ℕ, ◌+◌, ◌≤◌, List, [], ◌∷◌, ◌++◌, length, Option, Some, None, refl, ap, sym, ◌∙◌, subst, append_assoc, append-nil, length-append, IsTrue, IsSomeAnd, IfSome, is_some, if◌then◌else◌}
 use Rattle.std.specs.Cmp.Derive.{both_true}
 use Rattle.std.proofs.lemmas.Bool.{and_parts}
 use Rattle.std.specs.Io.KnownBytes.{Appends, Keeps}
@@ -14,7 +14,7 @@ use Rattle.superio_script.specs.Reply.{controller_reply}
 use Rattle.superio_script.specs.SerialScript.{Session, fresh_session, session_after_line}
 use Rattle.superio_script.specs.ClockScript.{clock_after, access_of_line, clock_reply}
 use Rattle.superio_script.specs.Board.{Devices, IsAt, IsFresh, IsSerialLineStep, IsLineStep}
-use Rattle.superio_script.specs.Script.{has_form, until_bad, good_commands, first_bad_line, IsTextFrom, IsText, PrintsLines, WritesFirst, WritesPart, StopsWithoutMemory}
+use Rattle.superio_script.specs.Script.{has_form, until_bad, good_commands, first_bad_line, IsTextFrom, IsText, PrintsLines, StopsWithoutMemory}
 
 -- ---- a line of the board
 
@@ -163,23 +163,6 @@ module _ {mask : ℕ} {start before : Option (List ℕ)} {all rest : List (List 
             text = text-after;
           }
 
-      -- or was written in part
-      pub WritesPart-in_reply : {after : Option (List ℕ)} → WritesFirst reply before after → WritesPart mask all start after
-      WritesPart-in_reply {after} part = record {
-        earlier = carried.earlier ++ line ∷ [];
-        later = more;
-        split = split-here ∙ sym (append_assoc carried.earlier (line ∷ []) more);
-        text = carried.so_far ++ reply;
-        is_text = subst (λ lines. IsText mask lines (carried.so_far ++ reply)) (append-nil (carried.earlier ++ line ∷ []))
-            (subst (IsText mask ((carried.earlier ++ line ∷ []) ++ [])) (append-nil (carried.so_far ++ reply)) (text-after [] [] ([], tt, refl)));
-        part = record {
-          written = carried.so_far ++ part.written;
-          unwritten = part.unwritten;
-          whole = ap (λ reply. carried.so_far ++ reply) part.whole ∙ sym (append_assoc carried.so_far part.written part.unwritten);
-          appended = Appends-append start before after carried.so_far part.written carried.written part.appended;
-        };
-      }
-
     -- the next line has no form
     pub first_bad_line-here : (number : ℕ) → command_of line ≡ None → first_bad_line number all ≡ Some (number + length carried.earlier)
     first_bad_line-here number none =
@@ -206,72 +189,9 @@ module _ {mask : ℕ} {start before : Option (List ℕ)} {all rest : List (List 
       );
     }
 
--- ---- a first part of the text
+-- ---- the end of a run
 
+-- nothing more was written after it
 pub Appends-then_kept :
     (before middle after : Option (List ℕ)) (bytes : List ℕ) → Appends before middle bytes → Keeps middle after → Appends before after bytes
 Appends-then_kept before middle after bytes first kept = grind arith
-
-module _ {bytes : List ℕ} {start before : Option (List ℕ)} (part : WritesFirst bytes start before) (after : Option (List ℕ)) where
-  -- nothing more was written after it
-  abbrev pub WritesFirst-kept : Keeps before after → WritesFirst bytes start after
-  WritesFirst-kept kept = record {
-    written = part.written;
-    unwritten = part.unwritten;
-    whole = part.whole;
-    appended = Appends-then_kept start before after part.written part.appended kept;
-  }
-
-  -- or more of the rest
-  abbrev pub WritesFirst-more : (rest : List ℕ) → part.unwritten ≡ rest → (count : ℕ) → Appends before after (take count rest) → WritesFirst bytes start after
-  WritesFirst-more rest left count wrote = record {
-    written = part.written ++ take count rest;
-    unwritten = drop count rest;
-    whole = part.whole ∙ ap (λ rest. part.written ++ rest) (left ∙ sym (take-append-drop count rest))
-        ∙ sym (append_assoc part.written (take count rest) (drop count rest));
-    appended = Appends-append start before after part.written (take count rest) part.appended wrote;
-  }
-
-module _ {mask : ℕ} {lines : List (List ℕ)} {before : Option (List ℕ)} where
-  pub WritesPart-nothing : (after : Option (List ℕ)) → Keeps before after → WritesPart mask lines before after
-  WritesPart-nothing after kept = record {
-    earlier = [];
-    later = lines;
-    split = refl;
-    text = [];
-    is_text = ([], tt, refl);
-    part = record { written = []; unwritten = []; whole = refl; appended = Appends-then_kept before before after [] (Appends-nothing before) kept };
-  }
-
-  -- all of the text of the first lines
-  WritesPart-of : (earlier later : List (List ℕ)) {after : Option (List ℕ)} → lines ≡ earlier ++ later → PrintsLines mask earlier before after → WritesPart mask lines before after
-  WritesPart-of earlier later split (text, is, appended) = record {
-    earlier = earlier;
-    later = later;
-    split = split;
-    text = text;
-    is_text = is;
-    part = record { written = text; unwritten = []; whole = sym (append-nil text); appended = appended };
-  }
-
-  pub WritesPart-all : {after : Option (List ℕ)} → PrintsLines mask lines before after → WritesPart mask lines before after
-  WritesPart-all printed = WritesPart-of lines [] (sym (append-nil lines)) printed
-
-  pub WritesPart-stopped : {after : Option (List ℕ)} → StopsWithoutMemory mask lines before after → WritesPart mask lines before after
-  WritesPart-stopped stops = WritesPart-of stops.earlier (stops.line ∷ stops.later) stops.split stops.text
-
-  -- nothing more was written after it
-  pub WritesPart-kept :
-      {middle : Option (List ℕ)} (after : Option (List ℕ)) → WritesPart mask lines before middle → Keeps middle after → WritesPart mask lines before after
-  WritesPart-kept {middle} after part kept = record {
-    earlier = part.earlier;
-    later = part.later;
-    split = part.split;
-    text = part.text;
-    is_text = part.is_text;
-    part = WritesFirst-kept part.part after kept;
-  }
-
-pub IfSome-always : {T : Type 0} {P : T → Type 0} (known : Option T) → ((value : T) → P value) → IfSome known P
-IfSome-always None holds = tt
-IfSome-always (Some value) holds = holds value

@@ -112,26 +112,6 @@ pub record RunsUpTo (bad : Option ℕ) (script : List ℕ) (left before after : 
   pub first_bad : first_bad_line_of script ≡ bad
   pub text : PrintsLines (body_of script).mask (body_of script).lines before after
 
--- a first part of these bytes was written
-pub record WritesFirst (bytes : List ℕ) (before after : Option (List ℕ)) : Type 0 where
-  pub written : List ℕ
-  pub unwritten : List ℕ
-  pub whole : bytes ≡ written ++ unwritten
-  pub appended : Appends before after written
-
--- a first part of the text of the first of these lines was written, whatever ended the run
-pub record WritesPart (mask : ℕ) (lines : List (List ℕ)) (before after : Option (List ℕ)) : Type 0 where
-  pub earlier : List (List ℕ)
-  pub later : List (List ℕ)
-  pub split : lines ≡ earlier ++ later
-  pub text : List ℕ
-  pub is_text : IsText mask earlier text
-  pub part : WritesFirst text before after
-
--- the same of a run of this script
-abbrev pub WritesPartOf : (script : List ℕ) (before after : Option (List ℕ)) → Type 0
-WritesPartOf script before after = WritesPart (body_of script).mask (body_of script).lines before after
-
 -- so many bytes were read, and no more
 abbrev pub ReadsBytes : (count : ℕ) (before after : Option (List ℕ)) → Type 0
 ReadsBytes count before after = (bytes : List ℕ) × Consumes before after bytes × (length bytes ≡ count)

@@ -1,16 +1,16 @@
 //! A whole script, from a reader to a writer.
-ghost use Rattle.std.specs.Prelude.{◌≡◌, ◌≢◌, ◌⊎◌, ℕ, ◌+◌, ◌^◌, ◌<◌, ◌≤◌, length, IfOk, IfErr, IfSome, OnOk, OnErr, vec_len, take, Some, None};
-ghost use Rattle.std.specs.Io.KnownBytes.{Appends, Consumes, IsAtEnd};
+ghost use Rattle.std.specs.Prelude.{◌≡◌, ◌≢◌, ◌⊎◌, ℕ, ◌+◌, ◌^◌, ◌<◌, ◌≤◌, length, IfOk, IfErr, IfSome, OnOk, vec_len, take, Some, None};
+ghost use Rattle.std.specs.Io.KnownBytes.{Consumes, IsAtEnd};
 ghost use Rattle.superio_script.specs.Fields.{lines_of};
-ghost use Rattle.superio_script.specs.Script.{body_of, first_bad_line, PrintsLines, StopsWithoutMemory, RunsUpTo, EndsWithoutMemory, WritesFirst, WritesPart, WritesPartOf, ReadsBytes};
+ghost use Rattle.superio_script.specs.Script.{body_of, first_bad_line, PrintsLines, StopsWithoutMemory, RunsUpTo, EndsWithoutMemory, ReadsBytes};
 
 use crate::command::refused_mask;
 use crate::devices::Board;
 use crate::fields::Lines;
-use crate::replies::{LineFault, Reply, ScriptFault};
+use crate::replies::{LineFault, ScriptFault};
 use std::alloc::Global;
 use std::io;
-use std::io::{ErrorKind, Read, Write};
+use std::io::{Read, Write};
 
 /// The most bytes that a script may have.
 const SCRIPT_LIMIT: usize = 65_536;
@@ -61,27 +61,6 @@ fn read_script<R: Read>(alloc: Global, reader: &mut R) -> Result<Vec<u8>, Script
     Ok(script)
 }
 
-/// Writes a reply. `write_all` would not say what was written of it before a fault.
-fn print<W: Write>(writer: &mut W, reply: &Reply) -> Result<(), ScriptFault>
-    ensures written { OnOk result (Appends (W.contents writer.old) (W.contents writer.new) reply.now.items) }
-    ensures part { OnErr result (WritesFirst reply.now.items (W.contents writer.old) (W.contents writer.new)) }
-    ensures only_io { IfErr result (λ fault. fault ≡ ScriptFault.Io) }
-{
-    let mut rest = reply.as_slice();
-    for _ in 0..u64::MAX {
-        if rest.is_empty() {
-            return Ok(());
-        }
-        match writer.write(rest) {
-            Ok(0) => return Err(ScriptFault::Io),
-            Ok(count) => rest = rest.split_at(count).1,
-            Err(fault) if fault.kind() == ErrorKind::Interrupted => {}
-            Err(_) => return Err(ScriptFault::Io),
-        }
-    }
-    Err(ScriptFault::Io)
-}
-
 /// The head of a script: the mask of a first line `refuse`, or 0; the number of such lines, 1 or 0; and the lines after
 /// it.
 fn head(script: &[u8]) -> (u64, usize, Lines<'_>)
@@ -113,7 +92,6 @@ fn write_replies<W: Write>(
         × PrintsLines mask (lines_of lines.entry.rest.now) (W.contents writer.old) (W.contents writer.new) }
     ensures memory { result ≡ Err ScriptFault.Memory → (writer.new ≡ writer.old)
         ⊎ StopsWithoutMemory mask (lines_of lines.entry.rest.now) (W.contents writer.old) (W.contents writer.new) }
-    ensures part { WritesPart mask (lines_of lines.entry.rest.now) (W.contents writer.old) (W.contents writer.new) }
     ensures never_long { result ≢ Err ScriptFault.TooLong }
 {
     let mut board = Board::new(alloc, mask)?;
@@ -125,7 +103,7 @@ fn write_replies<W: Write>(
             Err(LineFault::Bad) => return Err(ScriptFault::Bad(number)),
             Err(LineFault::Memory) => return Err(ScriptFault::Memory),
         };
-        print(writer, &reply)?;
+        writer.write_all(&reply).map_err(|_| ScriptFault::Io)?;
     }
     Ok(())
 }
@@ -142,8 +120,8 @@ fn write_replies<W: Write>(
 ///   65,537th was read.
 /// - [`ScriptFault::Memory`] if memory is refused. For the script or the board: nothing was written. For a line
 ///   `ss`: the replies to the lines before it were written.
-/// - [`ScriptFault::Io`] if a read, a write or the flush failed. After a failed read, nothing was written. After a
-///   failed write or flush, what was written is a first part of the replies.
+/// - [`ScriptFault::Io`] if a read, a write or the flush failed. After a failed read, nothing was written. Nothing is said
+///   of what was written before a failed write or flush.
 pub fn run_script<R: Read, W: Write>(
     alloc: Global,
     reader: &mut R,
@@ -156,9 +134,6 @@ pub fn run_script<R: Read, W: Write>(
     ensures memory { result ≡ Err ScriptFault.Memory → (writer.new ≡ writer.old)
         ⊎ IfSome (R.remaining reader.old) (λ script.
         EndsWithoutMemory script (W.contents writer.old) (W.contents writer.new)) }
-    // Whatever the result is, after a fault of the writer too.
-    ensures part { IfSome (R.remaining reader.old) (λ script.
-        WritesPartOf script (W.contents writer.old) (W.contents writer.new)) }
     ensures too_long { result ≡ Err ScriptFault.TooLong
         → IfSome (R.remaining reader.old) (λ script. 65536 < length script) }
     ensures too_long_unwritten { result ≡ Err ScriptFault.TooLong → writer.new ≡ writer.old }

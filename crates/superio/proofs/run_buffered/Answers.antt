@@ -5,7 +5,7 @@ use Rattle.std.proofs.lemmas.Result.{on_ok_weaker}
 use Rattle.std.specs.Io.KnownBytes.{Keeps, append_known}
 use Rattle.std.specs.Io.Buffered.{writer_inner, writer_contents}
 use Rattle.superio_script.specs.Script.{body_of, PrintsLines, RunsUpTo, StopsWithoutMemory}
-use Rattle.superio_script.proofs.ScriptLemmas.{Appends-then_kept, WritesPart-kept}
+use Rattle.superio_script.proofs.ScriptLemmas.{Appends-then_kept}
 use Rattle.superio.proofs.run_buffered.Goals as goal
 
 -- a buffer that holds nothing adds nothing
@@ -67,8 +67,3 @@ returns-in-Ok-clause-too_long_unwritten g c = λ e.
     let end = g.W.Write.contents (writer_inner c.flush.new.self) in
     let kept = Keeps-behind _ end c.in-Ok.ensures.ok c.in-Ok.ensures.bytes in
     subst (λ output. Keeps (writer_contents g.W.Write.contents output) end) (c.run_script-end.ensures.too_long_unwritten e) kept
-
-pub returns-in-Err-clause-part : goal.returns-in-Err-clause-part
-returns-in-Err-clause-part g c =
-    IfSome_then (g.R.Read.remaining c.args.reader.now) c.run_script-end.ensures.part
-    (λ script part. WritesPart-kept (writer_contents g.W.Write.contents c.flush.new.self) part c.in-Err.ensures.bytes)

@@ -1,9 +1,8 @@
 -- There are no more lines than bytes, and these are few. A bad line of the text that was read is one of the script.
 use Rattle.std.proofs.Common.{rules, arith, ◌≡◌, Some, None, IfSome, List, ℕ}
 use Rattle.std.proofs.lemmas.Option.{IfSome_then}
-use Rattle.std.proofs.KnownBytes.{Keeps-refl}
-use Rattle.superio_script.specs.Script.{body_of, PrintsLines, RunsUpTo, WritesPartOf}
-use Rattle.superio_script.proofs.ScriptLemmas.{Appends-then_kept, IfSome-always, WritesPart-nothing, WritesPart-kept}
+use Rattle.superio_script.specs.Script.{body_of, PrintsLines, RunsUpTo}
+use Rattle.superio_script.proofs.ScriptLemmas.{Appends-then_kept}
 use Rattle.superio_script.proofs.LineLemmas.{length-lines_of-le}
 use Rattle.superio_script.proofs.script.run_script.Goals as goal
 
@@ -39,22 +38,3 @@ returns-clause-ok g c =
       text = (printed.0, printed.1, Appends-then_kept start middle end printed.0 printed.2 c.flush.ensures.bytes);
     }) in
     search (rules, runs)
-
-pub returns-in_err-script-clause-part : goal.returns-in_err-script-clause-part
-returns-in_err-script-clause-part g c =
-    let start = g.W.Write.contents c.args.writer.now in
-    IfSome-always (g.R.Read.remaining c.args.reader.now)
-    (λ script. WritesPart-nothing start (Keeps-refl start))
-
-pub returns-clause-part : goal.returns-clause-part
-returns-clause-part g c =
-    let start = g.W.Write.contents c.args.writer.now in
-    let middle = g.W.Write.contents c.write_replies.new.writer in
-    let end = g.W.Write.contents c.flush.new.self in
-    IfSome_then (g.R.Read.remaining c.args.reader.now)
-    {P = λ (script : List ℕ). c.in_ok-script.script.items ≡ script}
-    {Q = λ (script : List ℕ). WritesPartOf script start end}
-    c.in_ok-script.ensures.whole
-    (λ script same.
-    let part : WritesPartOf script start middle = search rules in
-    WritesPart-kept end part c.flush.ensures.bytes)

@@ -1,9 +1,9 @@
 -- Each reply that is written goes from what is still to come to what was carried out.
-use Rattle.std.proofs.Common.{◌≡◌, ap, ◌∙◌, Err, Some, inr, arith, length, length-append, ◌++◌, ◌+◌, [], ◌∷◌}
-use Rattle.std.proofs.KnownBytes.{Keeps-refl}
+use Rattle.std.proofs.Common.{rules, ◌≡◌, ap, ◌∙◌, Err, Some, inr, arith, length, length-append, ◌++◌, ◌+◌, [], ◌∷◌}
+use Rattle.std.specs.Io.KnownBytes.{Appends}
 use Rattle.superio_script.specs.Fields.{lines_of}
 use Rattle.superio_script.specs.Script.{good_commands}
-use Rattle.superio_script.proofs.ScriptLemmas.{HasCarriedOut-at_start, HasCarriedOut-after_line, first_bad_line-here, Prints-before_bad, Stops-here, none-bad, Prints-so_far, WritesPart-nothing, WritesPart-all, WritesPart-stopped, WritesPart-in_reply}
+use Rattle.superio_script.proofs.ScriptLemmas.{HasCarriedOut-at_start, HasCarriedOut-after_line, first_bad_line-here, Prints-before_bad, Stops-here, none-bad, Prints-so_far}
 use Rattle.superio_script.proofs.script.write_replies.Goals as goal
 
 pub loop-line-init : goal.loop-line-init
@@ -34,8 +34,9 @@ returns-in-Err-Memory-clause-memory g c = λ _.
 pub loop-line-preserved : goal.loop-line-preserved
 loop-line-preserved g c =
     let now = c.loop-line.invariant in
+    let written : Appends (g.W.Write.contents c.loop-line.writer) (g.W.Write.contents c.write_all.new.self) c.in-Ok.reply.items = search rules in
     record {
-      carried = HasCarriedOut-after_line now.carried c.in-Some.ensures c.in-Ok.reply.items c.line.new.self c.in-Ok.ensures.step (g.W.Write.contents c.print.new.writer) c.in_ok-print.ensures.written;
+      carried = HasCarriedOut-after_line now.carried c.in-Some.ensures c.in-Ok.reply.items c.line.new.self c.in-Ok.ensures.step (g.W.Write.contents c.write_all.new.self) written;
       number = omega (arith, now.number, length-append now.carried.earlier (c.in-Some.line.now ∷ []));
     }
 
@@ -44,28 +45,3 @@ returns-clause-ok g c =
     let now = c.loop-line.invariant in
     let done = c.in_default.ensures in
     (none-bad now.carried (c.args.skipped + 1) done, Prints-so_far now.carried (ap good_commands done))
-
-pub returns-in_err-board-clause-part : goal.returns-in_err-board-clause-part
-returns-in_err-board-clause-part g c =
-    let start = g.W.Write.contents c.args.writer.now in
-    WritesPart-nothing start (Keeps-refl start)
-
-pub returns-in-Err-Bad-clause-part : goal.returns-in-Err-Bad-clause-part
-returns-in-Err-Bad-clause-part g c =
-    let now = c.loop-line.invariant in
-    WritesPart-all (Prints-before_bad now.carried c.in-Some.ensures (c.in-Err-Bad.ensures.bad.0 (ap Err c.in-Err-Bad.field-0-is)))
-
-pub returns-in-Err-Memory-clause-part : goal.returns-in-Err-Memory-clause-part
-returns-in-Err-Memory-clause-part g c =
-    let now = c.loop-line.invariant in
-    WritesPart-stopped (Stops-here now.carried c.in-Some.ensures (c.in-Err-Memory.ensures.memory (ap Err c.in-Err-Memory.field-0-is)))
-
-pub returns-in_err-print-clause-part : goal.returns-in_err-print-clause-part
-returns-in_err-print-clause-part g c =
-    let now = c.loop-line.invariant in
-    WritesPart-in_reply now.carried c.in-Some.ensures c.in-Ok.reply.items c.line.new.self c.in-Ok.ensures.step c.in_err-print.ensures.part
-
-pub returns-clause-part : goal.returns-clause-part
-returns-clause-part g c =
-    let now = c.loop-line.invariant in
-    WritesPart-all (Prints-so_far now.carried (ap good_commands c.in_default.ensures))
