@@ -3,13 +3,21 @@
 #![tactic(auto)]
 
 #[cfg(test)]
+mod clock;
+#[cfg(test)]
+mod controller;
+#[cfg(test)]
 mod object_calls;
 #[cfg(test)]
 mod objects;
 #[cfg(test)]
 mod printed;
 #[cfg(test)]
+mod refused_memory;
+#[cfg(test)]
 mod runs;
+#[cfg(test)]
+mod scripts;
 #[cfg(test)]
 mod sessions;
 #[cfg(test)]

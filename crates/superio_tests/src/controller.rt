@@ -1,0 +1,50 @@
+//! The i8042 controller: it resets at one command, and reads 0. Tests that vm-superio has too name those.
+use superio_script::{Line, LineRefused};
+use vm_superio::I8042Device;
+
+/// A controller whose reset line refuses the calls of this mask.
+fn controller(mask: u64) -> I8042Device<Line> {
+    I8042Device::new(Line::new(mask))
+}
+
+/// `test_i8042_valid_ops`
+#[test]
+fn the_reset_command_calls_the_reset_line_once(rt: HostRuntime) {
+    let mut device = controller(0);
+    assert!(rt; device.reset_evt().calls() == 0);
+    assert!(rt; device.read(0) == 0 && device.reset_evt().calls() == 0);
+    assert!(rt; device.write(4, 0xFE).is_ok());
+    assert!(rt; device.reset_evt().calls() == 1);
+}
+
+/// `test_i8042_invalid_reset`
+#[test]
+fn another_value_or_offset_resets_nothing(rt: HostRuntime) {
+    let mut device = controller(u64::MAX);
+    assert!(rt; device.write(4, 0xFF).is_ok());
+    assert!(rt; device.write(5, 0xFE).is_ok());
+    assert!(rt; device.reset_evt().calls() == 0);
+}
+
+#[test]
+fn a_refusal_of_the_reset_line_is_returned(rt: HostRuntime) {
+    let mut device = controller(0b01);
+    assert!(rt; device.write(4, 0xFE) == Err(LineRefused));
+    assert!(rt; device.write(4, 0xFE) == Ok(()));
+    assert!(rt; device.reset_evt().calls() == 2);
+}
+
+#[test]
+fn of_all_writes_one_resets_and_all_reads_are_0(rt: HostRuntime) {
+    let mut device = controller(0);
+    for offset in 0..=255u8 {
+        for value in 0..=255u8 {
+            assert!(rt; device.write(offset, value).is_ok());
+        }
+    }
+    assert!(rt; device.reset_evt().calls() == 1);
+    for offset in 0..=255u8 {
+        assert!(rt; device.read(offset) == 0, "{offset}");
+    }
+    assert!(rt; device.reset_evt().calls() == 1);
+}

@@ -1,0 +1,283 @@
+//! What is left if memory is refused. `tools/checks/refused_memory` runs each of these tests without its first
+//! allocation, without its second, and so on, until a run has them all. As a run goes without one at most, a call that
+//! was refused memory has to succeed when it is made again.
+use std::alloc::{AllocError, Global};
+use std::io::Write;
+use std::test::Fail;
+use superio_script::{
+    Board, Counts, Line, LineFault, LineRefused, Output, ScriptFault, drain, run_script,
+};
+use vm_superio::run::{Call, Reply, run};
+use vm_superio::serial::{Error, NoEvents, Refused, SerialEvents};
+use vm_superio::{Serial, SerialState};
+
+type Port = Serial<Line, Counts, Output>;
+
+type PortCall = Call<Line, Counts, Output>;
+
+// ---- objects that differ from fresh ones, and ports
+
+/// A line that was not called. Its mask is 8.
+fn line() -> Line {
+    Line::new(8)
+}
+
+/// Counts of one lost byte.
+fn counts() -> Counts {
+    let mut counts = Counts::new();
+    counts.tx_lost_byte();
+    counts
+}
+
+/// An output that took three bytes.
+fn output() -> Output {
+    let mut output = Output::new();
+    let _ = output.write(b"old");
+    output
+}
+
+/// Whether memory was refused, and the objects came back as they were passed.
+fn is_as_passed(refused: &Refused<Line, Counts, Output>) -> bool {
+    matches!(refused.error, Error::Memory)
+        && refused.trigger.mask() == 8
+        && refused.trigger.calls() == 0
+        && refused.events.tx_lost_byte_count() == 1
+        && refused.out.bytes() == b"old".as_slice()
+}
+
+/// A state in which a byte is held, and both conditions are pending and enabled.
+fn state(alloc: Global) -> Result<SerialState, AllocError> {
+    let mut state = SerialState::default(alloc);
+    state.interrupt_enable = 0x03;
+    state.interrupt_identification = 0x06;
+    state.line_status = 0x61;
+    state.in_buffer = match b"a".to_vec(alloc) {
+        Ok(bytes) => bytes,
+        Err(_) => b"a".to_vec(alloc)?,
+    };
+    Ok(state)
+}
+
+/// A port of this state over a line with mask 0.
+fn port(alloc: Global, state: &SerialState) -> Result<Port, Error<LineRefused>> {
+    match Serial::from_state(alloc, state, Line::new(0), Counts::new(), Output::new()) {
+        Ok(serial) => Ok(serial),
+        Err(_) => Serial::from_state(
+            alloc,
+            state,
+            Line::new(0),
+            Counts::new(),
+            Output::new(),
+        ).map_err(Refused::into_error),
+    }
+}
+
+// ---- ports and states
+
+#[test]
+fn a_port_without_events_is_made_or_its_objects_come_back(rt: HostRuntime) {
+    let alloc = rt.alloc();
+    if let Err(refused) = Serial::new(alloc, line(), output()) {
+        let NoEvents = refused.events;
+        assert!(rt; matches!(refused.error, Error::Memory));
+        assert!(rt; refused.trigger.mask() == 8 && refused.trigger.calls() == 0);
+        assert!(rt; refused.out.bytes() == b"old".as_slice());
+        assert!(rt; Serial::new(alloc, line(), output()).is_ok());
+    }
+}
+
+#[test]
+fn a_port_is_made_or_its_objects_come_back(rt: HostRuntime) {
+    let alloc = rt.alloc();
+    if let Err(refused) = Serial::with_events(alloc, line(), counts(), output()) {
+        assert!(rt; is_as_passed(&refused));
+        assert!(rt; Serial::with_events(alloc, line(), counts(), output()).is_ok());
+    }
+}
+
+#[test]
+fn a_port_is_restored_or_its_objects_come_back(rt: HostRuntime) -> Result<(), Fail> {
+    let alloc = rt.alloc();
+    let state = state(alloc)?;
+    if let Err(refused) = Serial::from_state(alloc, &state, line(), counts(), output()) {
+        assert!(rt; is_as_passed(&refused));
+        assert!(rt; Serial::from_state(alloc, &state, line(), counts(), output()).is_ok());
+    }
+    Ok(())
+}
+
+#[test]
+fn a_state_is_taken_and_copied_or_nothing_changes(rt: HostRuntime) -> Result<(), Fail> {
+    let alloc = rt.alloc();
+    let state = state(alloc)?;
+    let serial = port(alloc, &state)?;
+    let taken = match serial.state(alloc) {
+        Ok(taken) => taken,
+        Err(AllocError) => serial.state(alloc)?,
+    };
+    let copy = match taken.clone(alloc) {
+        Ok(copy) => copy,
+        Err(AllocError) => taken.clone(alloc)?,
+    };
+    assert!(rt; taken == state && copy == state);
+    assert!(rt; serial.interrupt_evt().calls() == 2 && serial.fifo_capacity() == 63);
+    Ok(())
+}
+
+#[test]
+fn calls_of_a_port_take_no_memory(rt: HostRuntime) -> Result<(), Fail> {
+    let alloc = rt.alloc();
+    let mut serial = port(alloc, &state(alloc)?)?;
+    assert!(rt; serial.enqueue_raw_bytes(&[b'b'; 100]).ok() == Some(63));
+    assert!(rt; drain(&mut serial).len() == 64);
+    assert!(rt; serial.write(0, b'c').is_ok());
+    assert!(rt; serial.write(4, 0x10).is_ok());
+    for value in 0..64u8 {
+        assert!(rt; serial.write(0, value).is_ok());
+    }
+    for value in 0..64u8 {
+        assert!(rt; serial.read(0) == value);
+    }
+    assert!(rt; serial.into_writer().bytes() == b"c".as_slice());
+    Ok(())
+}
+
+// ---- runs
+
+/// Calls with a restore among them.
+fn calls(alloc: Global) -> Result<Vec<PortCall>, AllocError> {
+    let bytes = b"a".to_vec(alloc)?;
+    Ok(vec![in alloc;
+        Call::Write(1, 0x01),
+        Call::Enqueue(bytes),
+        Call::Read(2),
+        Call::Restore(line(), counts(), output()),
+        Call::Read(0),
+        Call::Read(5),
+    ]?)
+}
+
+#[test]
+fn a_run_makes_no_call_or_records_a_refused_restore(rt: HostRuntime) -> Result<(), Fail> {
+    let alloc = rt.alloc();
+    let fresh = SerialState::default(alloc);
+    let mut serial = port(alloc, &fresh)?;
+    let first = match calls(alloc) {
+        Ok(calls) => calls,
+        Err(AllocError) => calls(alloc)?,
+    };
+    let done = match run(alloc, &mut serial, first) {
+        Ok(done) => done,
+        Err(AllocError) => {
+            assert!(rt; serial.state(alloc)? == fresh);
+            assert!(rt; serial.interrupt_evt().calls() == 0);
+            run(alloc, &mut serial, calls(alloc)?)?
+        }
+    };
+    assert!(rt; done.len() == 6);
+    assert!(rt; matches!(done[0].reply, Reply::Wrote(Ok(()))));
+    assert!(rt; matches!(done[1].reply, Reply::Enqueued(Ok(1))));
+    assert!(rt; matches!(done[2].reply, Reply::Byte(0xC4)));
+    assert!(rt; matches!(done[4].reply, Reply::Byte(b'a')));
+    assert!(rt; matches!(done[5].reply, Reply::Byte(0x60)));
+    match &done[3].reply {
+        Reply::Restored(old) => {
+            assert!(rt; old.fifo_capacity() == 63 && old.interrupt_evt().calls() == 1);
+            assert!(rt; serial.interrupt_evt().mask() == 8);
+        }
+        Reply::NotRestored(refused) => {
+            assert!(rt; is_as_passed(refused));
+            assert!(rt; serial.interrupt_evt().mask() == 0);
+            assert!(rt; serial.interrupt_evt().calls() == 1);
+            let again = run(alloc, &mut serial, calls(alloc)?)?;
+            assert!(rt; again.len() == 6);
+            assert!(rt; matches!(again[3].reply, Reply::Restored(_)));
+        }
+        _ => return Err(Fail::from("no restore")),
+    }
+    Ok(())
+}
+
+// ---- scripts
+
+/// Whether these lines have these replies.
+fn replies(alloc: Global, board: &mut Board, lines: &[(&[u8], &[u8])]) -> bool {
+    for (line, reply) in lines {
+        match board.line(alloc, line) {
+            Ok(found) if found.as_slice() == *reply => {}
+            _ => return false,
+        }
+    }
+    true
+}
+
+#[test]
+fn a_board_is_made_and_restores_its_port_or_stays(rt: HostRuntime) -> Result<(), Fail> {
+    let alloc = rt.alloc();
+    let mut board = match Board::new(alloc, 0) {
+        Ok(board) => board,
+        Err(fault) => {
+            assert!(rt; fault == ScriptFault::Memory);
+            Board::new(alloc, 0)?
+        }
+    };
+    assert!(rt;
+        replies(
+            alloc,
+            &mut board,
+            &[
+                (b"sw 01 03", b"ok\n"),
+                (b"sq 61", b"01\n"),
+                (b"sw 00 42", b"ok\n"),
+            ]
+        )
+    );
+    if let Err(fault) = board.line(alloc, b"ss") {
+        assert!(rt; fault == LineFault::Memory);
+        assert!(rt;
+            replies(
+                alloc,
+                &mut board,
+                &[
+                    (b"st", b"0000000000000002\n"),
+                    (b"so", b"42\n"),
+                    (b"sc", b"3f\n"),
+                    (b"ss", b"ok\n"),
+                ]
+            )
+        );
+    }
+    assert!(rt;
+        replies(
+            alloc,
+            &mut board,
+            &[
+                (b"st", b"0000000000000004\n"),
+                (b"so", b"42\n"),
+                (b"sr 02", b"c6\n"),
+                (b"sr 00", b"61\n"),
+            ]
+        )
+    );
+    Ok(())
+}
+
+/// Runs a script over an output, which takes no memory.
+fn run_over(alloc: Global, script: &[u8]) -> (Result<(), ScriptFault>, Output) {
+    let mut reader = script;
+    let mut writer = Output::new();
+    let end = run_script(alloc, &mut reader, &mut writer);
+    (end, writer)
+}
+
+#[test]
+fn a_script_prints_the_replies_before_its_restore_or_nothing(rt: HostRuntime) {
+    let script = b"sw 01 01\nsq 616263\nss\nst\nsr 02\nsr 00\nsc\n";
+    let (mut end, mut printed) = run_over(rt.alloc(), script);
+    if end == Err(ScriptFault::Memory) {
+        assert!(rt; printed.bytes().is_empty() || printed.bytes() == b"ok\n03\n".as_slice());
+        (end, printed) = run_over(rt.alloc(), script);
+    }
+    assert!(rt; end == Ok(()));
+    assert!(rt; printed.bytes() == b"ok\n03\nok\n0000000000000002\nc4\n61\n3e\n".as_slice());
+}
