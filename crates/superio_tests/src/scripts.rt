@@ -40,37 +40,34 @@ fn joined(alloc: Global, pieces: &[(&[u8], usize)]) -> Result<Vec<u8>, AllocErro
 
 #[test]
 fn the_controller_reads_0_and_resets_at_one_command(rt: HostRuntime) {
-    check(
-        &rt,
-        rt.alloc(),
-        &[
-            (
-                "digits of either case",
-                b"kr 0A\nkr ff\n",
-                b"00\n00\n",
-                Ok(()),
-            ),
-            ("a last line without LF", b"kw 04 FE", b"reset\n", Ok(())),
-            (
-                "reset, another value, a read",
-                b"kw 04 fe\nkw 04 ff\nkr 04\n",
-                b"reset\nok\n00\n",
-                Ok(()),
-            ),
-            (
-                "another offset, and a field that is too short",
-                b"kw 04 fe\nkw 05 fe\nsr 5\n",
-                b"reset\nok\n",
-                Err(ScriptFault::Bad(3)),
-            ),
-            (
-                "a command in upper case",
-                b"kw 04 fe\nKW 04 fe\n",
-                b"reset\n",
-                Err(ScriptFault::Bad(2)),
-            ),
-        ],
-    );
+    let rows: [Row; 5] = [
+        (
+            "digits of either case",
+            b"kr 0A\nkr ff\n",
+            b"00\n00\n",
+            Ok(()),
+        ),
+        ("a last line without LF", b"kw 04 FE", b"reset\n", Ok(())),
+        (
+            "reset, another value, a read",
+            b"kw 04 fe\nkw 04 ff\nkr 04\n",
+            b"reset\nok\n00\n",
+            Ok(()),
+        ),
+        (
+            "another offset, and a field that is too short",
+            b"kw 04 fe\nkw 05 fe\nsr 5\n",
+            b"reset\nok\n",
+            Err(ScriptFault::Bad(3)),
+        ),
+        (
+            "a command in upper case",
+            b"kw 04 fe\nKW 04 fe\n",
+            b"reset\n",
+            Err(ScriptFault::Bad(2)),
+        ),
+    ];
+    check(&rt, rt.alloc(), &rows);
 }
 
 #[test]
@@ -85,73 +82,64 @@ fn enqueues_fill_the_fifo_and_then_find_it_full(rt: HostRuntime) -> Result<(), F
     )?;
     let most = joined(rt.alloc(), &[(b"sr 00\nsq ", 1), (b"01", 128), (b"\n", 1)])?;
     let too_many = joined(rt.alloc(), &[(b"sq ", 1), (b"01", 129), (b"\n", 1)])?;
-    check(
-        &rt,
-        rt.alloc(),
-        &[
-            (
-                "65 bytes, then none, one, a read and two",
-                &sixty_five,
-                b"40\n00\nfull\n01\n01\n00\n",
-                Ok(()),
-            ),
-            ("128 bytes", &most, b"00\n40\n", Ok(())),
-            ("129 bytes", &too_many, b"", Err(ScriptFault::Bad(1))),
-            ("two fields", b"sq 61 62\n", b"", Err(ScriptFault::Bad(1))),
-        ],
-    );
+    let rows: [Row; 4] = [
+        (
+            "65 bytes, then none, one, a read and two",
+            &sixty_five,
+            b"40\n00\nfull\n01\n01\n00\n",
+            Ok(()),
+        ),
+        ("128 bytes", &most, b"00\n40\n", Ok(())),
+        ("129 bytes", &too_many, b"", Err(ScriptFault::Bad(1))),
+        ("two fields", b"sq 61 62\n", b"", Err(ScriptFault::Bad(1))),
+    ];
+    check(&rt, rt.alloc(), &rows);
     Ok(())
 }
 
 #[test]
 fn a_restored_port_goes_on_and_a_refusal_leaves_the_old_one(rt: HostRuntime) {
-    check(
-        &rt,
-        rt.alloc(),
-        &[
-            (
-                "a restore of a pending condition calls the line again",
-                b"sw 01 01\nsq 616263\nss\nst\nsr 02\nsr 00\nsc\n",
-                b"ok\n03\nok\n0000000000000002\nc4\n61\n3e\n",
-                Ok(()),
-            ),
-            (
-                "a refused restore leaves the line's count",
-                b"refuse 0000000000000002\nsw 01 01\nsq 61\nss\nst\nsr 02\nss\nst\n",
-                b"ok\n01\ntrigger\n0000000000000001\nc4\nok\n0000000000000001\n",
-                Ok(()),
-            ),
-        ],
-    );
+    let rows: [Row; 2] = [
+        (
+            "a restore of a pending condition calls the line again",
+            b"sw 01 01\nsq 616263\nss\nst\nsr 02\nsr 00\nsc\n",
+            b"ok\n03\nok\n0000000000000002\nc4\n61\n3e\n",
+            Ok(()),
+        ),
+        (
+            "a refused restore leaves the line's count",
+            b"refuse 0000000000000002\nsw 01 01\nsq 61\nss\nst\nsr 02\nss\nst\n",
+            b"ok\n01\ntrigger\n0000000000000001\nc4\nok\n0000000000000001\n",
+            Ok(()),
+        ),
+    ];
+    check(&rt, rt.alloc(), &rows);
 }
 
 #[test]
 fn refuse_is_a_first_line_alone_and_masks_the_port_alone(rt: HostRuntime) {
-    check(
-        &rt,
-        rt.alloc(),
-        &[
-            (
-                "a later refuse",
-                b"sr 02\nrefuse 0000000000000001\n",
-                b"c1\n",
-                Err(ScriptFault::Bad(2)),
-            ),
-            (
-                "a refused call, and a reset",
-                b"refuse 0000000000000001\nsw 01 02\nsr 02\nkw 04 fe\nst\n",
-                b"trigger\nc2\nreset\n0000000000000001\n",
-                Ok(()),
-            ),
-            (
-                "a second refuse",
-                b"refuse 0000000000000001\nrefuse 0000000000000001\n",
-                b"",
-                Err(ScriptFault::Bad(2)),
-            ),
-            ("no further line", b"refuse 0000000000000001\n", b"", Ok(())),
-        ],
-    );
+    let rows: [Row; 4] = [
+        (
+            "a later refuse",
+            b"sr 02\nrefuse 0000000000000001\n",
+            b"c1\n",
+            Err(ScriptFault::Bad(2)),
+        ),
+        (
+            "a refused call, and a reset",
+            b"refuse 0000000000000001\nsw 01 02\nsr 02\nkw 04 fe\nst\n",
+            b"trigger\nc2\nreset\n0000000000000001\n",
+            Ok(()),
+        ),
+        (
+            "a second refuse",
+            b"refuse 0000000000000001\nrefuse 0000000000000001\n",
+            b"",
+            Err(ScriptFault::Bad(2)),
+        ),
+        ("no further line", b"refuse 0000000000000001\n", b"", Ok(())),
+    ];
+    check(&rt, rt.alloc(), &rows);
 }
 
 #[test]
@@ -172,47 +160,41 @@ fn the_output_takes_256_bytes(rt: HostRuntime) -> Result<(), Fail> {
 
 #[test]
 fn events_are_counted_a_field_each(rt: HostRuntime) {
-    check(
-        &rt,
-        rt.alloc(),
-        &[(
-            "a read without a byte, and a write",
-            b"sr 00\nsw 00 41\nse\n",
-            b"00\nok\n0000000000000001 0000000000000001 0000000000000000 0000000000000001\n",
-            Ok(()),
-        )],
-    );
+    let rows: [Row; 1] = [(
+        "a read without a byte, and a write",
+        b"sr 00\nsw 00 41\nse\n",
+        b"00\nok\n0000000000000001 0000000000000001 0000000000000000 0000000000000001\n",
+        Ok(()),
+    )];
+    check(&rt, rt.alloc(), &rows);
 }
 
 #[test]
 fn the_clock_is_reached_with_a_moment(rt: HostRuntime) {
-    check(
-        &rt,
-        rt.alloc(),
-        &[
-            (
-                "a load, and a read seven seconds later",
-                b"cw 00000000000003e8 0008 00000064\ncr 00000000000003ef 0000\n",
-                b"ok\n0000006b\n",
-                Ok(()),
-            ),
-            (
-                "a value that does not reset, the mask, an invalid write, the host's time",
-                b"cw 00000000000003e8 000c 00000002\ncw 00000000000003e8 0010 00000003\n\
-                cr 00000000000003e8 0010\ncw 00000000000003e8 0014 00000000\n\
-                cr 00000000000003e8 0000\n",
-                b"ok\nok\n00000001\ninvalid\n000003e8\n",
-                Ok(()),
-            ),
-            (
-                "an alarm",
-                b"cw 0000000000000064 0004 00000069\ncr 0000000000000068 0014\n\
-                cr 0000000000000069 0014\n",
-                b"ok\n00000000\n00000001\n",
-                Ok(()),
-            ),
-        ],
-    );
+    let rows: [Row; 3] = [
+        (
+            "a load, and a read seven seconds later",
+            b"cw 00000000000003e8 0008 00000064\ncr 00000000000003ef 0000\n",
+            b"ok\n0000006b\n",
+            Ok(()),
+        ),
+        (
+            "a value that does not reset, the mask, an invalid write, the host's time",
+            b"cw 00000000000003e8 000c 00000002\ncw 00000000000003e8 0010 00000003\n\
+            cr 00000000000003e8 0010\ncw 00000000000003e8 0014 00000000\n\
+            cr 00000000000003e8 0000\n",
+            b"ok\nok\n00000001\ninvalid\n000003e8\n",
+            Ok(()),
+        ),
+        (
+            "an alarm",
+            b"cw 0000000000000064 0004 00000069\ncr 0000000000000068 0014\n\
+            cr 0000000000000069 0014\n",
+            b"ok\n00000000\n00000001\n",
+            Ok(()),
+        ),
+    ];
+    check(&rt, rt.alloc(), &rows);
 }
 
 #[test]
@@ -220,26 +202,23 @@ fn a_driver_takes_all_bytes_unless_the_latch_hides_them(rt: HostRuntime) -> Resu
     let alloc = rt.alloc();
     let full = joined(alloc, &[(b"sq ", 1), (b"41", 64), (b"\nsd\nsc\n", 1)])?;
     let taken = joined(alloc, &[(b"40\n", 1), (b"41", 64), (b"\n40\n", 1)])?;
-    check(
-        &rt,
-        rt.alloc(),
-        &[
-            (
-                "three bytes, and then none",
-                b"sw 01 01\nsq 616263\nsd\nsd\nse\nsr 02\n",
-                b"ok\n03\n616263\n\n\
-                0000000000000003 0000000000000000 0000000000000000 0000000000000001\nc1\n",
-                Ok(()),
-            ),
-            (
-                "DLAB set, and clear again",
-                b"sq 61\nsw 03 80\nsd\nsw 03 03\nsd\n",
-                b"01\nok\n\nok\n61\n",
-                Ok(()),
-            ),
-            ("64 bytes", &full, &taken, Ok(())),
-        ],
-    );
+    let rows: [Row; 3] = [
+        (
+            "three bytes, and then none",
+            b"sw 01 01\nsq 616263\nsd\nsd\nse\nsr 02\n",
+            b"ok\n03\n616263\n\n\
+            0000000000000003 0000000000000000 0000000000000000 0000000000000001\nc1\n",
+            Ok(()),
+        ),
+        (
+            "DLAB set, and clear again",
+            b"sq 61\nsw 03 80\nsd\nsw 03 03\nsd\n",
+            b"01\nok\n\nok\n61\n",
+            Ok(()),
+        ),
+        ("64 bytes", &full, &taken, Ok(())),
+    ];
+    check(&rt, rt.alloc(), &rows);
     Ok(())
 }
 
@@ -272,30 +251,24 @@ fn a_script_has_at_most_65536_bytes(rt: HostRuntime) -> Result<(), Fail> {
     let enqueues = joined(alloc, &[(b"sq 6162\n", 8_192)])?;
     let counts = joined(alloc, &[(b"02\n", 32), (b"full\n", 8_160)])?;
     let too_long = joined(alloc, &[(b"sq 6162\n", 8_192), (b"s", 1)])?;
-    check(
-        &rt,
-        rt.alloc(),
-        &[
-            ("65,532 bytes", &reads, &zeros, Ok(())),
-            ("65,537 bytes", &one_more, b"", Err(ScriptFault::TooLong)),
-            ("65,536 bytes", &enqueues, &counts, Ok(())),
-            ("a byte more", &too_long, b"", Err(ScriptFault::TooLong)),
-        ],
-    );
+    let rows: [Row; 4] = [
+        ("65,532 bytes", &reads, &zeros, Ok(())),
+        ("65,537 bytes", &one_more, b"", Err(ScriptFault::TooLong)),
+        ("65,536 bytes", &enqueues, &counts, Ok(())),
+        ("a byte more", &too_long, b"", Err(ScriptFault::TooLong)),
+    ];
+    check(&rt, rt.alloc(), &rows);
     Ok(())
 }
 
 #[test]
 fn an_empty_script_is_good_and_an_empty_line_is_bad(rt: HostRuntime) {
-    check(
-        &rt,
-        rt.alloc(),
-        &[
-            ("no byte", b"", b"", Ok(())),
-            ("one LF", b"\n", b"", Err(ScriptFault::Bad(1))),
-            ("two LF", b"kr 04\n\n", b"00\n", Err(ScriptFault::Bad(2))),
-        ],
-    );
+    let rows: [Row; 3] = [
+        ("no byte", b"", b"", Ok(())),
+        ("one LF", b"\n", b"", Err(ScriptFault::Bad(1))),
+        ("two LF", b"kr 04\n\n", b"00\n", Err(ScriptFault::Bad(2))),
+    ];
+    check(&rt, rt.alloc(), &rows);
 }
 
 #[test]
@@ -384,27 +357,24 @@ fn a_line_without_a_form_is_bad_and_changes_nothing(rt: HostRuntime) -> Result<(
 /// Saved states and character timeouts are no lines of a script.
 #[test]
 fn lines_beyond_the_format_are_bad(rt: HostRuntime) {
-    check(
-        &rt,
-        rt.alloc(),
-        &[
-            ("a timeout", b"si\n", b"", Err(ScriptFault::Bad(1))),
-            ("a saved port", b"sb\n", b"", Err(ScriptFault::Bad(1))),
-            ("a saved clock", b"cb\n", b"", Err(ScriptFault::Bad(1))),
-            (
-                "a port to load",
-                b"sl 53494f5301010a000c000001036108b00061\n",
-                b"",
-                Err(ScriptFault::Bad(1)),
-            ),
-            (
-                "a clock to load",
-                b"kr 04\ncl 00\n",
-                b"00\n",
-                Err(ScriptFault::Bad(2)),
-            ),
-        ],
-    );
+    let rows: [Row; 5] = [
+        ("a timeout", b"si\n", b"", Err(ScriptFault::Bad(1))),
+        ("a saved port", b"sb\n", b"", Err(ScriptFault::Bad(1))),
+        ("a saved clock", b"cb\n", b"", Err(ScriptFault::Bad(1))),
+        (
+            "a port to load",
+            b"sl 53494f5301010a000c000001036108b00061\n",
+            b"",
+            Err(ScriptFault::Bad(1)),
+        ),
+        (
+            "a clock to load",
+            b"kr 04\ncl 00\n",
+            b"00\n",
+            Err(ScriptFault::Bad(2)),
+        ),
+    ];
+    check(&rt, rt.alloc(), &rows);
 }
 
 #[test]
