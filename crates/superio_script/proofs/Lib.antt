@@ -1,4 +1,5 @@
 pub mod DriverLemmas
 pub mod LineLemmas
+pub mod Rows
 pub mod ScriptLemmas
 pub mod SerialScriptLemmas

@@ -1,93 +1,126 @@
 -- What the lines so far add to what was written, whatever is still to come, and what was written when a run ends.
-use Rattle.std.proofs.Common.{arith, ◌≡◌, ℕ, ◌+◌, ◌≤◌, List, [], ◌∷◌, ◌++◌, length, Option, Some, None, refl, ap, sym, ◌∙◌, subst, append_assoc, append-nil, length-append, IsTrue, IsSomeAnd, IfSome, is_some, if◌then◌else◌}
+use Rattle.std.proofs.Common.{arith, ◌≡◌, ℕ, ◌+◌, ◌≤◌, List, [], ◌∷◌, ◌++◌, length, Bool, Option, Some, None, refl, ap, sym, ◌∙◌, subst, append_assoc, append-nil, length-append, IsTrue, IsSomeAnd, is_some, if◌then◌else◌, nat_le}
 use Rattle.std.specs.Cmp.Derive.{both_true}
 use Rattle.std.proofs.lemmas.Bool.{and_parts}
+use Rattle.std.proofs.lemmas.Bool.Decides.{nat_tests}
+use Rattle.std.proofs.lemmas.List.Folds.{list_all-append}
 use Rattle.std.specs.Io.KnownBytes.{Appends, Keeps}
 use Rattle.std.specs.List.{list_all}
 use Rattle.vm_superio.specs.Rtc.{ClockDevice, Access}
-use Rattle.vm_superio.specs.Serial.{Port}
+use Rattle.vm_superio.specs.Serial.{Port, Trace}
 use Rattle.vm_superio.proofs.Lemmas.{Appends-nothing, Appends-append}
 use Rattle.vm_superio.proofs.Lemmas.Rtc.{fresh_clock-history}
-use Rattle.superio_script.specs.Objects.{written_bytes, Line, Counts, Output}
+use Rattle.superio_script.specs.Objects.{Line, Counts, Output}
 use Rattle.superio_script.specs.Command.{command_of, IsRestoreLine, Command, Serial, Clock, Controller}
-use Rattle.superio_script.specs.Reply.{controller_reply}
-use Rattle.superio_script.specs.SerialScript.{Session, fresh_session, session_after_line}
-use Rattle.superio_script.specs.ClockScript.{clock_after, access_of_line, clock_reply}
-use Rattle.superio_script.specs.Board.{Devices, IsAt, IsFresh, IsSerialLineStep, IsLineStep}
-use Rattle.superio_script.specs.Script.{has_form, until_bad, good_commands, first_bad_line, IsTextFrom, IsText, PrintsLines, StopsWithoutMemory}
+use Rattle.superio_script.specs.SerialScript.{Outcome, outcomes_of, all_short, trace_after_line, prints_after_loss}
+use Rattle.superio_script.specs.ClockScript.{clock_after, access_of_line, clock_replies}
+use Rattle.superio_script.specs.Board.{Devices, IsAfter, IsFresh, IsLineStep}
+use Rattle.superio_script.specs.Script.{has_form, until_bad, good_commands, first_bad_line, serial_lines, clock_lines, controller_lines, controller_replies, replies_in_order, text_from, text_of, PrintsLines, StopsWithoutMemory}
+use Rattle.superio_script.proofs.SerialScriptLemmas.{outcomes_taken, printed_taken, first-replies, outcomes-after_line}
 
 -- ---- a line of the board
 
--- a good line leads from this session and these accesses to others, which the devices are at, if the reply and what follows it are the
--- replies to the line and to those that follow it
-pub record Leads (session : Session) (accesses : List Access) (line reply : List ℕ) (new : Devices) : Type 0 where
-  pub next : Session
+-- a good line leads from this trace and these accesses to others, which led to the devices. It takes these outcomes and
+-- printed bytes, and the text is its reply and then the text of the lines that follow it
+pub record Leads (mask : ℕ) (trace : Trace) (accesses : List Access) (line reply : List ℕ) (new : Devices) : Type 0 where
+  pub next : Trace
   pub next_accesses : List Access
-  pub serial : IsAt next new.serial
+  pub serial : IsAfter mask next new.serial
   pub clock : new.clock.state ≡ clock_after next_accesses
   pub good : IsTrue (has_form line)
-  pub text : (lines : List (List ℕ)) (text : List ℕ) → IsTextFrom next next_accesses (good_commands lines) text
-      → IsTextFrom session accesses (good_commands (line ∷ lines)) (reply ++ text)
+  pub outcomes : List Outcome
+  pub added : outcomes_of next ≡ outcomes_of trace ++ outcomes
+  pub printed : List (List ℕ)
+  pub short : IsTrue (all_short printed)
+  pub text : (lines : List (List ℕ)) (more : List Outcome) (more_printed : List (List ℕ))
+      → text_from mask trace accesses (good_commands (line ∷ lines)) (outcomes ++ more) (printed ++ more_printed)
+      ≡ reply ++ text_from mask next next_accesses (good_commands lines) more more_printed
 
--- the output of a session is that of its port, which has at most 256 bytes
-output-few : (output : Option (List ℕ)) (out : Output) → IfSome output (λ all. written_bytes out ≡ all) → IfSome output (λ all. length all ≤ 256)
-output-few output out was = grind (arith, out.few)
+taken-short : (takes : Bool) (bytes : List ℕ) → length bytes ≤ 256 → IsTrue (all_short (if takes then bytes ∷ [] else []))
+taken-short takes bytes few = grind (arith, nat_tests)
 
-module _ (session : Session) (accesses : List Access) (line reply : List ℕ) (old new : Devices)
-    (at : IsAt session old.serial) (clock_at : old.clock.state ≡ clock_after accesses) where
+module _ (mask : ℕ) (trace : Trace) (accesses : List Access) (line reply : List ℕ) (old new : Devices)
+    (at : IsAfter mask trace old.serial) (clock_at : old.clock.state ≡ clock_after accesses) where
+  -- the text if the line asks for this command
+  abbrev text_with : (command : Option Command) (lines : List (List ℕ)) (outcomes : List Outcome) (printed : List (List ℕ)) → List ℕ
+  text_with command lines outcomes printed = text_from mask trace accesses (until_bad command (good_commands lines)) outcomes printed
+
   line-leads : (command : Option Command) → command_of line ≡ command → IsSomeAnd command (λ command. IsLineStep command reply old new)
-      → Leads session accesses line reply new
-  unfolding IsSerialLineStep
+      → Leads mask trace accesses line reply new
   line-leads None is step = absurd step
   line-leads (Some (Serial serial)) is (step, same_clock, same_controller) =
-      let (choice, replied, after) = step session at in
-      let next = session_after_line session choice serial in
+      let taken = step mask trace at in
+      let outcomes = outcomes_taken trace serial taken.outcome in
+      let printed = printed_taken trace serial taken.printed in
+      let next = trace_after_line mask trace taken.outcome serial in
       record {
         next = next;
         next_accesses = accesses;
-        serial = after;
+        serial = taken.after;
         clock = ap (λ (clock : ClockDevice Counts). clock.state) same_clock ∙ clock_at;
         good = ap (λ (command : Option Command). is_some command) is;
-        text = λ lines text (replies, are, same). subst (λ command. IsTextFrom session accesses (until_bad command (good_commands lines)) (reply ++ text)) (sym is)
-            (reply ∷ replies, (choice, replied, output-few next.output new.serial.out after.output, are), ap (λ rest. reply ++ rest) same);
+        outcomes = outcomes;
+        added = outcomes-after_line mask trace taken.outcome serial;
+        printed = printed;
+        short = taken-short (prints_after_loss trace serial) taken.printed taken.short;
+        text = λ lines more more_printed.
+            let commands = good_commands lines in
+            ap (λ command. text_with command lines (outcomes ++ more) (printed ++ more_printed)) is
+            ∙ ap (λ replies. replies_in_order (Serial serial ∷ commands) replies (clock_replies accesses (clock_lines commands)) (controller_replies (controller_lines commands)))
+            (first-replies mask trace taken.outcome taken.printed (serial_lines commands) more more_printed serial)
+            ∙ ap (λ reply. reply ++ text_from mask next accesses commands more more_printed) (sym taken.replied);
       }
   line-leads (Some (Clock clock)) is (step, same_serial, same_controller) =
       let (replied, after) = step accesses clock_at in
       record {
-        next = session;
+        next = trace;
         next_accesses = access_of_line clock ∷ accesses;
-        serial = subst (λ (port : Port Line Counts Output). IsAt session port) (sym same_serial) at;
+        serial = subst (λ (port : Port Line Counts Output). IsAfter mask trace port) (sym same_serial) at;
         clock = after;
         good = ap (λ (command : Option Command). is_some command) is;
-        text = λ lines text (replies, are, same). subst (λ command. IsTextFrom session accesses (until_bad command (good_commands lines)) (reply ++ text)) (sym is)
-            (replies, are, ap (λ reply. reply ++ text) replied ∙ ap (λ rest. clock_reply accesses clock ++ rest) same);
+        outcomes = [];
+        added = sym (append-nil (outcomes_of trace));
+        printed = [];
+        short = refl;
+        text = λ lines more more_printed.
+            ap (λ command. text_with command lines more more_printed) is
+            ∙ ap (λ reply. reply ++ text_from mask trace (access_of_line clock ∷ accesses) (good_commands lines) more more_printed) (sym replied);
       }
   line-leads (Some (Controller controller)) is (replied, same_board) = record {
-    next = session;
+    next = trace;
     next_accesses = accesses;
-    serial = subst (λ (board : Devices). IsAt session board.serial) (sym same_board) at;
+    serial = subst (λ (board : Devices). IsAfter mask trace board.serial) (sym same_board) at;
     clock = ap (λ (board : Devices). board.clock.state) same_board ∙ clock_at;
     good = ap (λ (command : Option Command). is_some command) is;
-    text = λ lines text (replies, are, same). subst (λ command. IsTextFrom session accesses (until_bad command (good_commands lines)) (reply ++ text)) (sym is)
-        (replies, are, ap (λ reply. reply ++ text) replied ∙ ap (λ rest. controller_reply controller ++ rest) same);
+    outcomes = [];
+    added = sym (append-nil (outcomes_of trace));
+    printed = [];
+    short = refl;
+    text = λ lines more more_printed.
+        ap (λ command. text_with command lines more more_printed) is
+        ∙ ap (λ reply. reply ++ text_from mask trace accesses (good_commands lines) more more_printed) (sym replied);
   }
 
 -- ---- the lines that were carried out
 
--- these first ones of all lines are good, led to this board, and their text was written. This text, and then that of
--- any lines that follow, is the text of all of these
+-- these first ones of all lines are good, led to this board, and their text was written. They took these outcomes and
+-- printed bytes. Whatever follows, this text and then the text of what follows is the whole text
 pub record HasCarriedOut (mask : ℕ) (start : Option (List ℕ)) (all rest : List (List ℕ)) (before : Option (List ℕ)) (board : Devices) : Type 0 where
   pub earlier : List (List ℕ)
   pub split : all ≡ earlier ++ rest
   pub all_good : IsTrue (list_all has_form earlier)
   pub first_bad : (number : ℕ) (lines : List (List ℕ)) → first_bad_line number (earlier ++ lines) ≡ first_bad_line (number + length earlier) lines
-  pub session : Session
+  pub trace : Trace
   pub accesses : List Access
-  pub serial : IsAt session board.serial
+  pub serial : IsAfter mask trace board.serial
   pub clock : board.clock.state ≡ clock_after accesses
+  pub printed : List (List ℕ)
+  pub short : IsTrue (all_short printed)
   pub so_far : List ℕ
   pub written : Appends start before so_far
-  pub text : (lines : List (List ℕ)) (text : List ℕ) → IsTextFrom session accesses (good_commands lines) text → IsText mask (earlier ++ lines) (so_far ++ text)
+  pub text : (lines : List (List ℕ)) (more : List Outcome) (more_printed : List (List ℕ))
+      → text_of mask (earlier ++ lines) (outcomes_of trace ++ more) (printed ++ more_printed)
+      ≡ so_far ++ text_from mask trace accesses (good_commands lines) more more_printed
 
 abbrev pub HasCarriedOut-at_start : {mask : ℕ} (start : Option (List ℕ)) (all : List (List ℕ)) {board : Devices} → IsFresh mask board → HasCarriedOut mask start all all start board
 HasCarriedOut-at_start {mask} start all fresh = record {
@@ -95,13 +128,15 @@ HasCarriedOut-at_start {mask} start all fresh = record {
   split = refl;
   all_good = refl;
   first_bad = λ number lines. ap (λ number. first_bad_line number lines) (omega arith);
-  session = fresh_session mask;
+  trace = [];
   accesses = [];
   serial = fresh.serial;
   clock = ap (λ (clock : ClockDevice Counts). clock.state) fresh.clock ∙ fresh_clock-history;
+  printed = [];
+  short = refl;
   so_far = [];
   written = Appends-nothing start;
-  text = λ lines text is. is;
+  text = λ lines more more_printed. refl;
 }
 
 pub all_good-append : (earlier : List (List ℕ)) (line : List ℕ) → IsTrue (list_all has_form earlier) → IsTrue (has_form line) →
@@ -112,15 +147,27 @@ all_good-append (first ∷ earlier) line good one =
     both_true parts.0 (all_good-append earlier line parts.1 one)
 
 module _ {mask : ℕ} {start before : Option (List ℕ)} {all rest : List (List ℕ)} {board : Devices} (carried : HasCarriedOut mask start all rest before board) where
-  -- what was written is the text of all lines, if no good one is next
+  -- what was written is the text of these lines and of others, if no good one is among the others
+  prints : (lines others : List (List ℕ)) → lines ≡ carried.earlier ++ others → good_commands others ≡ [] → PrintsLines mask lines start before
+  prints lines others split none =
+      let outcomes = outcomes_of carried.trace in
+      record {
+        outcomes = outcomes;
+        within_room = carried.serial.within_room;
+        printed = carried.printed;
+        short = carried.short;
+        written = subst (Appends start before) (sym (
+            ap (λ lines. text_of mask lines outcomes carried.printed) split
+            ∙ ap (λ outcomes. text_of mask (carried.earlier ++ others) outcomes carried.printed) (sym (append-nil outcomes))
+            ∙ ap (text_of mask (carried.earlier ++ others) (outcomes ++ [])) (sym (append-nil carried.printed))
+            ∙ carried.text others [] []
+            ∙ ap (λ commands. carried.so_far ++ text_from mask carried.trace carried.accesses commands [] []) none
+            ∙ append-nil carried.so_far
+            )) carried.written;
+      }
+
   pub Prints-so_far : good_commands rest ≡ [] → PrintsLines mask all start before
-  Prints-so_far none = (
-    carried.so_far,
-    subst (λ lines. IsText mask lines carried.so_far) (sym carried.split)
-        (subst (IsText mask (carried.earlier ++ rest)) (append-nil carried.so_far)
-        (carried.text rest [] (subst (λ commands. IsTextFrom carried.session carried.accesses commands []) (sym none) ([], tt, refl)))),
-    carried.written,
-  )
+  Prints-so_far none = prints all rest carried.split none
 
   pub none-bad : (number : ℕ) → rest ≡ [] → first_bad_line number all ≡ None
   none-bad number done =
@@ -131,16 +178,24 @@ module _ {mask : ℕ} {start before : Option (List ℕ)} {all rest : List (List 
     split-here = carried.split ∙ ap (λ lines. carried.earlier ++ lines) next
 
     module _ (reply : List ℕ) (new : Devices) (step : IsSomeAnd (command_of line) (λ command. IsLineStep command reply board new)) where
-      pub leads-here : Leads carried.session carried.accesses line reply new
-      leads-here = line-leads carried.session carried.accesses line reply board new carried.serial carried.clock (command_of line) refl step
+      pub leads-here : Leads mask carried.trace carried.accesses line reply new
+      leads-here = line-leads mask carried.trace carried.accesses line reply board new carried.serial carried.clock (command_of line) refl step
 
       -- the text so far, then the reply, and then what follows
-      pub text-after : (lines : List (List ℕ)) (text : List ℕ) → IsTextFrom leads-here.next leads-here.next_accesses (good_commands lines) text
-          → IsText mask ((carried.earlier ++ line ∷ []) ++ lines) ((carried.so_far ++ reply) ++ text)
-      text-after lines text is =
-          subst (λ lines. IsText mask lines ((carried.so_far ++ reply) ++ text)) (sym (append_assoc carried.earlier (line ∷ []) lines))
-          (subst (IsText mask (carried.earlier ++ line ∷ lines)) (sym (append_assoc carried.so_far reply text))
-          (carried.text (line ∷ lines) (reply ++ text) (leads-here.text lines text is)))
+      pub text-after : (lines : List (List ℕ)) (more : List Outcome) (more_printed : List (List ℕ))
+          → text_of mask ((carried.earlier ++ line ∷ []) ++ lines) (outcomes_of leads-here.next ++ more) ((carried.printed ++ leads-here.printed) ++ more_printed)
+          ≡ (carried.so_far ++ reply) ++ text_from mask leads-here.next leads-here.next_accesses (good_commands lines) more more_printed
+      text-after lines more more_printed =
+          let leads = leads-here in
+          let outcomes = outcomes_of carried.trace in
+          let earlier = carried.earlier ++ line ∷ lines in
+          ap (λ lines. text_of mask lines (outcomes_of leads.next ++ more) ((carried.printed ++ leads.printed) ++ more_printed)) (append_assoc carried.earlier (line ∷ []) lines)
+          ∙ ap (λ taken. text_of mask earlier (taken ++ more) ((carried.printed ++ leads.printed) ++ more_printed)) leads.added
+          ∙ ap (λ taken. text_of mask earlier taken ((carried.printed ++ leads.printed) ++ more_printed)) (append_assoc outcomes leads.outcomes more)
+          ∙ ap (text_of mask earlier (outcomes ++ (leads.outcomes ++ more))) (append_assoc carried.printed leads.printed more_printed)
+          ∙ carried.text (line ∷ lines) (leads.outcomes ++ more) (leads.printed ++ more_printed)
+          ∙ ap (λ text. carried.so_far ++ text) (leads.text lines more more_printed)
+          ∙ sym (append_assoc carried.so_far reply (text_from mask leads.next leads.next_accesses (good_commands lines) more more_printed))
 
       -- one more line was carried out, and its reply was written
       abbrev pub HasCarriedOut-after_line : (after : Option (List ℕ)) → Appends before after reply → HasCarriedOut mask start all more after new
@@ -154,10 +209,12 @@ module _ {mask : ℕ} {start before : Option (List ℕ)} {all rest : List (List 
                 ∙ carried.first_bad number (line ∷ lines)
                 ∙ ap (λ good. if good then first_bad_line (number + length earlier + 1) lines else Some (number + length earlier)) leads-here.good
                 ∙ ap (λ number. first_bad_line number lines) (omega (arith, length-append earlier (line ∷ [])));
-            session = leads-here.next;
+            trace = leads-here.next;
             accesses = leads-here.next_accesses;
             serial = leads-here.serial;
             clock = leads-here.clock;
+            printed = carried.printed ++ leads-here.printed;
+            short = list_all-append (λ bytes. nat_le (length bytes) 256) carried.printed leads-here.printed ∙ both_true carried.short leads-here.short;
             so_far = carried.so_far ++ reply;
             written = Appends-append start before after carried.so_far reply carried.written wrote;
             text = text-after;
@@ -181,17 +238,21 @@ module _ {mask : ℕ} {start before : Option (List ℕ)} {all rest : List (List 
       split = split-here;
       all_good = carried.all_good;
       restores = restores;
-      text = (
-        carried.so_far,
-        subst (λ lines. IsText mask lines carried.so_far) (append-nil carried.earlier)
-            (subst (IsText mask (carried.earlier ++ [])) (append-nil carried.so_far) (carried.text [] [] ([], tt, refl))),
-        carried.written,
-      );
+      text = prints carried.earlier [] (sym (append-nil carried.earlier)) refl;
     }
 
 -- ---- the end of a run
 
 -- nothing more was written after it
-pub Appends-then_kept :
+Appends-then_kept :
     (before middle after : Option (List ℕ)) (bytes : List ℕ) → Appends before middle bytes → Keeps middle after → Appends before after bytes
 Appends-then_kept before middle after bytes first kept = grind arith
+
+pub PrintsLines-kept : {mask : ℕ} {lines : List (List ℕ)} (before middle after : Option (List ℕ)) → PrintsLines mask lines before middle → Keeps middle after → PrintsLines mask lines before after
+PrintsLines-kept {mask} {lines} before middle after printed kept = record {
+  outcomes = printed.outcomes;
+  within_room = printed.within_room;
+  printed = printed.printed;
+  short = printed.short;
+  written = Appends-then_kept before middle after (text_of mask lines printed.outcomes printed.printed) printed.written kept;
+}

@@ -1,168 +1,328 @@
--- A line of the serial port is a step of its session.
-use Rattle.std.proofs.Common.{◌≡◌, ℕ, zero, suc, ◌-◌, ◌≤◌, Bool, true, false, List, [], ◌∷◌, ◌++◌, length, drop, slice_index, Option, Some, None, Result, refl, ap, sym, ◌∙◌, subst, arith, append_assoc, append-nil, inl, inr, ◌≢◌, IsTrue, IfSome, if◌then◌else◌, not, codes, ◌&&◌, is_some, length-drop, option_map}
+-- A line of the serial port leads from the trace before it to the one after it.
+use Rattle.std.proofs.Common.{◌≡◌, ℕ, zero, suc, ◌+◌, ◌-◌, ◌≤◌, Bool, true, false, List, [], ◌∷◌, ◌++◌, length, drop, fold, count_by, Option, Some, None, Result, refl, ap, sym, ◌∙◌, subst, arith, append_assoc, append-nil, length-append, inl, inr, ◌≢◌, IsTrue, if◌then◌else◌, ◌==◌, not, codes, ◌&&◌, is_some}
 use Rattle.std.specs.Bool.{beq}
-use Rattle.std.proofs.lemmas.Bool.{and_parts}
+use Rattle.std.specs.List.{list_all}
+use Rattle.std.proofs.lemmas.Bool.{and_parts, false≢true}
 use Rattle.std.proofs.lemmas.Bool.Decides.{nat_tests}
+use Rattle.std.proofs.lemmas.List.Sums.{sum_by-append}
+use Rattle.std.specs.Cmp.Derive.{both_true}
+use Rattle.superio_core.proofs.Lemmas.Serial.{fresh_coherent}
 use Rattle.vm_superio.specs.Serial.Step.{RefusesRestore, IsPortStep}
-use Rattle.vm_superio.specs.Serial.History.{none_lost, output, kind_at, dlab}
-use Rattle.vm_superio.specs.Serial.Laws.{state_after, StateLaw, RegisterLaw, CoherenceLaw}
+use Rattle.vm_superio.specs.Serial.History.{none_lost, output, kind_at, held_bytes, dlab, state_of_history, history_events, calls_due, restore_calls_due, is_well_formed, is_well_formed_entry, trigger_calls}
+use Rattle.vm_superio.specs.Serial.Laws.{StepLaw, CallLaw, StateLaw, CoherenceLaw, CallAgrees, StepAgrees, state_after}
 use Rattle.vm_superio.specs.Links.{Contents, answers_of, all_ok, StopsAtRefusal}
 use Rattle.vm_superio.specs.Links.Writer.{PortLinks, port_links, bytes_sent, outcome_of, WriterLink}
 use Rattle.vm_superio.proofs.Lemmas.{known_output_law}
-use Rattle.vm_superio.specs.Serial.{Port, failure_response, Asked, Sent, Op, Read, Trace, Response, is_sent, is_lost, answer_count, ends_in_refusal, kind_of, sent_by, State, not_empty, fresh_state, has_bits, only_bits, Coherent, Condition, register_at, is_dlab, is_loopback, pending_in_order, step, step_response, read_step, rbr_read, answers_all, step_calls, sends_byte, kind_in_state, restore_calls}
+use Rattle.vm_superio.specs.Serial.{Port, OpKind, failure_response, Asked, Sent, Op, Read, Write, Enqueue, Trace, TraceEntry, Response, Event, buffer_read, out_byte, tx_lost_byte, in_buffer_empty, is_sent, is_lost, answer_count, ends_in_refusal, sent_by, State, not_empty, fresh_state, has_bits, only_bits, Coherent, Condition, is_dlab, pending_in_order, answers_all, is_admissible, step_events, step_calls, sends_byte, restore_calls}
 use Rattle.vm_superio.specs.declared.serial.errors.Error.{Error}
 use Rattle.vm_superio.specs.declared.serial.errors.Error.TheVariants.{Trigger, IOError, FullFifo, Memory}
 use Rattle.vm_superio.specs.Links.ForAnyObject.{FoldsEvents}
-use Rattle.superio_script.specs.Objects.{fresh_interrupt_line, InterruptLineLink, no_counts, counts_after_event, written_bytes, Line, Counts, Output, LineRefused}
+use Rattle.superio_script.specs.Objects.{fresh_interrupt_line, InterruptLineLink, is_call_refused, no_counts, counts_after_event, written_bytes, Line, Counts, Output, LineRefused}
 use Rattle.superio_script.specs.Reply.{with_lf, response_reply, digits_reply, count_digits, counts_reply}
-use Rattle.superio_script.specs.SerialScript.{Session, fresh_session, Choice, trigger_answers, interrupt_line_after_calls, output_after, session_after_step, session_answers, session_outcome, call_reply, session_after_call, drained_bytes, session_after_reads, restore_answers, is_restore_refused, output_or_chosen, session_after_calls, session_trace, SessionStateLaw, DrainLaw, SessionOutputLaw}
-use Rattle.superio_script.specs.Driver.{ReadsWhileReady, bytes_while_ready}
-use Rattle.superio_script.specs.Board.{IsAt, IsSerialLineStep}
+use Rattle.superio_script.specs.SerialScript.{calls_of_entry, calls_made, saturated, interrupt_line_after, events_reported, is_event, counts_of, Outcome, Out, Lost, out_before_loss, outcome_of_sent, outcomes_of, next_outcome, next_printed, trigger_answers, sends, sent_with, call_entry, entry_reply, rbr_read_entry, after_rbr_reads, drained_bytes, restore_entry, is_restore_refused, serial_reply, trace_after_line, line_sends, prints_after_loss, serial_replies}
+use Rattle.superio_script.specs.Driver.{ReadsWhileReady, TakesAll}
+use Rattle.superio_script.specs.Board.{IsAfter, SerialLineStep, IsSerialLineStep}
+use Rattle.superio_script.specs.declared.command.SerialCommand.{SerialCommand}
 use Rattle.superio_script.specs.declared.command.SerialCommand.TheVariants as line
-use Rattle.superio_script.proofs.DriverLemmas.{reads-are_stepped}
 
 -- ---- the interrupt line
 
+saturated-refused : (mask number : ℕ) → is_call_refused mask (saturated number) ≡ is_call_refused mask number
+saturated-refused mask number = grind (arith, nat_tests)
+
+saturated-next : (number : ℕ) → saturated (saturated number + 1) ≡ saturated (number + 1)
+saturated-next number = omega arith
+
 -- the answers that link an interrupt line are those that its mask gives
-trigger_answers-from_link :
-    (line new : Line) (calls : ℕ) (asked : Asked) (refusal : Option LineRefused) →
-    IsTrue (answers_all calls asked) → is_some refusal ≡ ends_in_refusal asked → InterruptLineLink line (answers_of asked refusal) new →
-    (asked ≡ trigger_answers line calls) × (new ≡ interrupt_line_after_calls (answer_count asked) line)
-trigger_answers-from_link line new calls asked refusal fits some link = grind (arith, nat_tests)
+answers-from_link :
+    (mask number : ℕ) (new : Line) (calls : ℕ) (asked : Asked) (refusal : Option LineRefused) →
+    IsTrue (answers_all calls asked) → is_some refusal ≡ ends_in_refusal asked →
+    InterruptLineLink (interrupt_line_after mask number) (answers_of asked refusal) new →
+    (asked ≡ trigger_answers mask number calls) × (new ≡ interrupt_line_after mask (number + answer_count asked))
+answers-from_link mask number new calls asked refusal fits some link = grind (arith, nat_tests, saturated-refused, saturated-next)
 
--- ---- the byte that was sent
+-- ---- the events
 
--- there is an outcome exactly if a byte is sent
-outcome-is_chosen : (outcome : Sent) (sends : Bool) → IsTrue (beq (is_sent outcome) sends)
-    → outcome ≡ (if sends then (if is_lost outcome then Sent.Lost else Sent.Out) else Sent.Nothing)
-outcome-is_chosen outcome sends fits = grind arith
+count-one : (name event : Event) (events : List Event)
+    → saturated (count_by (is_event name) (events ++ event ∷ [])) ≡ (if is_event name event then saturated (saturated (count_by (is_event name) events) + 1) else saturated (count_by (is_event name) events))
+count-one name event events = grind (arith, sum_by-append (λ event. if is_event name event then 1 else 0) events (event ∷ []), saturated-next)
 
--- if no byte is lost, the writer took the one that the call sends
-written-is_sent : (latch loopback : Bool) (op : Op) (outcome : Sent) → IsTrue (not (is_lost outcome)) →
-    IsTrue (beq (is_sent outcome) (not_empty (sent_by (kind_of latch loopback op)))) → bytes_sent op outcome ≡ sent_by (kind_of latch loopback op)
-written-is_sent latch loopback op outcome kept fits = grind arith
+counts_of-one : (events : List Event) (event : Event) → counts_after_event (counts_of events) event ≡ counts_of (events ++ event ∷ [])
+counts_of-one events event = grind (arith, count-one buffer_read event events, count-one out_byte event events, count-one tx_lost_byte event events, count-one in_buffer_empty event events)
 
--- the output is what the writer holds, if the writer is linked by the byte's outcome, and took what was sent
-abbrev output_link : Contents Output
-output_link = λ output. Some (written_bytes output)
+pub counts_of-append : (first second : List Event) → fold counts_after_event (counts_of first) second ≡ counts_of (first ++ second)
+counts_of-append first [] = ap counts_of (sym (append-nil first))
+counts_of-append first (event ∷ second) =
+    ap (λ counts. fold counts_after_event counts second) (counts_of-one first event)
+    ∙ counts_of-append (first ++ event ∷ []) second ∙ ap counts_of (append_assoc first (event ∷ []) second)
 
-written_bytes-after_call :
-    (known : Option (List ℕ)) (outcome : Sent) (accepted bytes : List ℕ) (old new : Output) →
-    WriterLink output_link (outcome_of outcome) accepted old new → (IsTrue (not (is_lost outcome)) → accepted ≡ bytes) →
-    IfSome known (λ all. written_bytes old ≡ all) → IfSome (output_after known outcome bytes) (λ all. written_bytes new ≡ all)
-written_bytes-after_call known Sent.Lost accepted bytes old new link same was = tt
-written_bytes-after_call None Sent.Nothing accepted bytes old new link same was = tt
-written_bytes-after_call None Sent.Out accepted bytes old new link same was = tt
-written_bytes-after_call (Some all) Sent.Nothing accepted bytes old new link same was =
-    known_output_law output_link old new [] accepted link refl ∙ ap (λ xs. xs ++ accepted) was ∙ ap (λ xs. all ++ xs) (same refl)
-written_bytes-after_call (Some all) Sent.Out accepted bytes old new link same was =
-    known_output_law output_link old new (Sent.Out ∷ []) accepted link refl ∙ ap (λ xs. xs ++ accepted) was ∙ ap (λ xs. all ++ xs) (same refl)
+-- ---- the outcomes
+
+abbrev all_out : (outcomes : List Outcome) → Bool
+all_out [] = true
+all_out (Out ∷ outcomes) = all_out outcomes
+all_out (Lost ∷ outcomes) = false
+
+out_before_loss-append : (first second : List Outcome)
+    → out_before_loss (first ++ second) ≡ (if all_out first then length first + out_before_loss second else out_before_loss first)
+out_before_loss-append [] second = grind arith
+out_before_loss-append (Out ∷ first) second = grind (arith, out_before_loss-append first second)
+out_before_loss-append (Lost ∷ first) second = refl
+
+all_out-append : (first second : List Outcome) → all_out (first ++ second) ≡ (all_out first && all_out second)
+all_out-append [] second = refl
+all_out-append (Out ∷ first) second = all_out-append first second
+all_out-append (Lost ∷ first) second = refl
+
+-- no byte was lost exactly if all outcomes are those of bytes that went out
+all_out-none_lost : (trace : Trace) → all_out (outcomes_of trace) ≡ none_lost trace
+all_out-none_lost [] = refl
+all_out-none_lost (entry ∷ trace) =
+    all_out-append (outcomes_of trace) (outcome_of_sent entry.sent) ∙ grind (arith, all_out-none_lost trace)
+
+out_before_loss-all : (outcomes : List Outcome) → IsTrue (all_out outcomes) → out_before_loss outcomes ≡ length outcomes
+out_before_loss-all [] out = refl
+out_before_loss-all (Out ∷ outcomes) out = grind (arith, out_before_loss-all outcomes out)
+out_before_loss-all (Lost ∷ outcomes) out = absurd (false≢true out)
+
+one-outcome : (sent : Sent) (kind : OpKind) → IsTrue (beq (is_sent sent) (not_empty (sent_by kind))) → length (outcome_of_sent sent) ≡ length (sent_by kind)
+one-outcome sent kind fits = grind arith
+
+-- in a well-formed trace each outcome is that of a byte of the output
+length-outcomes_of : (trace : Trace) → IsTrue (is_well_formed fresh_state trace) → length (outcomes_of trace) ≡ length (output fresh_state [] trace)
+length-outcomes_of [] fits = refl
+length-outcomes_of (entry ∷ trace) fits =
+    let (one, earlier) = and_parts (is_well_formed_entry fresh_state trace entry) (is_well_formed fresh_state trace) fits in
+    let (asked, sent) = and_parts (answer_count entry.asked == trigger_calls fresh_state trace entry) (beq (is_sent entry.sent) (sends trace entry.op)) one in
+    let here = subst (λ (before : Trace). IsTrue (beq (is_sent entry.sent) (sends before entry.op))) (sym (append-nil trace)) sent in
+    length-append (outcomes_of trace) (outcome_of_sent entry.sent)
+    ∙ ap (λ n. n + length (outcome_of_sent entry.sent)) (length-outcomes_of trace earlier)
+    ∙ ap (λ n. length (output fresh_state [] trace) + n) (one-outcome entry.sent (kind_at fresh_state (trace ++ []) entry.op) here)
+    ∙ sym (length-append (output fresh_state [] trace) (sent_by (kind_at fresh_state (trace ++ []) entry.op)))
+
+loss-adds_nothing : (outcomes : List Outcome) (sent : Sent) → (all_out outcomes && all_out (outcome_of_sent sent)) ≡ false
+    → out_before_loss outcomes ≤ 256 → out_before_loss (outcomes ++ outcome_of_sent sent) ≤ 256
+loss-adds_nothing outcomes sent lost few =
+    grind (arith, out_before_loss-append outcomes (outcome_of_sent sent), out_before_loss-all outcomes)
+
+-- while no byte is lost, the output has all of them, and it holds at most 256
+within_room-after :
+    (trace : Trace) (entry : TraceEntry) (written : List ℕ) →
+    IsTrue (is_well_formed fresh_state (entry ∷ trace)) → out_before_loss (outcomes_of trace) ≤ 256 →
+    (IsTrue (none_lost (entry ∷ trace)) → written ≡ output fresh_state [] (entry ∷ trace)) → length written ≤ 256 →
+    out_before_loss (outcomes_of (entry ∷ trace)) ≤ 256
+within_room-after trace entry written fits before known few = by_loss (none_lost (entry ∷ trace)) refl
+  where
+    by_loss : (kept : Bool) → none_lost (entry ∷ trace) ≡ kept → out_before_loss (outcomes_of (entry ∷ trace)) ≤ 256
+    by_loss true kept = omega (
+      arith,
+      few,
+      out_before_loss-all (outcomes_of (entry ∷ trace)) (all_out-none_lost (entry ∷ trace) ∙ kept),
+      length-outcomes_of (entry ∷ trace) fits,
+      ap length (known kept),
+    )
+    by_loss false lost = loss-adds_nothing (outcomes_of trace) entry.sent
+        (sym (all_out-append (outcomes_of trace) (outcome_of_sent entry.sent)) ∙ all_out-none_lost (entry ∷ trace) ∙ lost) before
+
+-- a fresh port is after no call
+pub at-start :
+    (mask : ℕ) (port : Port Line Counts Output) →
+    port.state ≡ fresh_state → port.trigger ≡ fresh_interrupt_line mask → port.events ≡ no_counts → written_bytes port.out ≡ [] → IsAfter mask [] port
+unfolding has_bits only_bits
+at-start mask port state line counts output = record {
+  state = state;
+  interrupt_line = line;
+  counts = counts;
+  output = λ _. output;
+  well_formed = refl;
+  within_room = omega arith;
+}
 
 -- ---- a call
 
--- a fresh port is at the fresh session
-pub at-start :
-    (mask : ℕ) (port : Port Line Counts Output) →
-    port.state ≡ fresh_state → port.trigger ≡ fresh_interrupt_line mask → port.events ≡ no_counts → written_bytes port.out ≡ [] → IsAt (fresh_session mask) port
-unfolding has_bits only_bits
-at-start mask port state line counts output = record { state = state; interrupt_line = line; counts = counts; output = output }
+-- the output is what the writer holds, if the writer is linked by the byte's outcome
+abbrev output_link : Contents Output
+output_link = λ output. Some (written_bytes output)
+
+none-lost_here : (sent : Sent) → IsTrue (not (is_lost sent)) → IsTrue (list_all (λ sent. not (is_lost sent)) (outcome_of sent))
+none-lost_here sent kept = grind arith
+
+output-after_call :
+    (sent : Sent) (accepted bytes before : List ℕ) (old new : Output) →
+    WriterLink output_link (outcome_of sent) accepted old new → IsTrue (not (is_lost sent)) → accepted ≡ bytes →
+    written_bytes old ≡ before → written_bytes new ≡ before ++ bytes
+output-after_call sent accepted bytes before old new link kept same was =
+    known_output_law output_link old new (outcome_of sent) accepted link (none-lost_here sent kept)
+    ∙ ap (λ held. held ++ accepted) was ∙ ap (λ more. before ++ more) same
 
 -- the links of the board's objects
 abbrev pub board_links : PortLinks Line LineRefused Counts Output
 board_links = port_links InterruptLineLink (FoldsEvents counts_after_event) output_link
 
-module _ {op : Op} {asked : Asked} {outcome : Sent} {response : Response} {refusal : Option LineRefused} {old new : Port Line Counts Output}
-    (made : IsPortStep board_links op asked outcome response refusal old new) where
-  call-step : (before : Session) → IsAt before old →
-      (response_reply response ≡ call_reply before op (is_lost outcome)) × IsAt (session_after_call before op (is_lost outcome)) new
-  call-step before at =
-      let s = before.state in
-      let same : old ≡ record { state = s; trigger = before.interrupt_line; events = before.counts; out = old.out } =
-      λ i. record { state = at.state i; trigger = at.interrupt_line i; events = at.counts i; out = old.out } in
-      let here = subst (λ (port : Port Line Counts Output). IsPortStep board_links op asked outcome response refusal port new) same made in
-      let fits = and_parts (answers_all (step_calls s op) asked) (beq (is_sent outcome) (sends_byte s op)) here.admissible in
-      let answered = trigger_answers-from_link before.interrupt_line new.trigger (step_calls s op) asked refusal fits.0 here.refused here.trigger in
-      let P : Asked → Sent → Type 0 = λ asked outcome. (response_reply response ≡ response_reply (step_response s op asked outcome)) × IsAt (session_after_step before op asked outcome) new in
-      subst (P (session_answers before op)) (outcome-is_chosen outcome (sends_byte s op) fits.1)
-      (subst (λ asked. P asked outcome) answered.0 (
-        ap response_reply here.response,
-        record {
-          state = here.state;
-          interrupt_line = answered.1;
-          counts = here.events.folds;
-          output = written_bytes-after_call before.output outcome (bytes_sent op outcome) _ old.out new.out here.out
-              (λ kept. written-is_sent (is_dlab s.line_control) (is_loopback s.modem_control) op outcome kept fits.1) at.output;
-        },
-      ))
+outcome_in : (sent : Sent) → Outcome
+outcome_in Sent.Lost = Lost
+outcome_in _ = Out
 
-  pub call_line-step : (before : Session) → IsAt before old → (choice : Choice)
-      × (response_reply response ≡ call_reply before op choice.loses) × IsAt (session_after_call before op choice.loses) new
-  call_line-step before at =
-      let (reply, after) = call-step before at in
-      (record { loses = is_lost outcome; printed = []; short = omega arith }, reply, after)
+sent-is : (sent : Sent) (sends : Bool) → IsTrue (beq (is_sent sent) sends) → sent ≡ sent_with sends (outcome_in sent)
+unfolding outcome_in
+sent-is sent sends fits = grind arith
+
+module _ (steps : StepLaw) (calls : CallLaw) {op : Op} {asked : Asked} {sent : Sent} {response : Response} {refusal : Option LineRefused} {old new : Port Line Counts Output}
+    (made : IsPortStep board_links op asked sent response refusal old new) (mask : ℕ) (trace : Trace) (at : IsAfter mask trace old)
+    (counted : calls_of_entry trace op asked ≡ answer_count asked) where
+  abbrev made_entry : TraceEntry
+  made_entry = record { op = op; asked = asked; sent = sent }
+
+  abbrev now : State
+  now = state_of_history fresh_state trace
+
+  was-admissible : IsTrue (is_admissible now op asked sent)
+  was-admissible = subst (λ s. IsTrue (is_admissible s op asked sent)) at.state made.admissible
+
+  agreed : CallAgrees fresh_state trace made_entry response new.state
+  agreed = calls fresh_state trace made_entry response old.state new.state fresh_coherent at.state made.admissible made.response made.state
+
+  stepped : StepAgrees fresh_state trace made_entry
+  stepped = (steps fresh_state trace fresh_coherent).steps made_entry was-admissible
+
+  parts : IsTrue (answers_all (step_calls now op) asked) × IsTrue (beq (is_sent sent) (sends trace op))
+  parts = and_parts (answers_all (step_calls now op) asked) (beq (is_sent sent) (sends_byte now op)) was-admissible
+
+  answered : (asked ≡ trigger_answers mask (calls_made trace) (calls_due fresh_state trace op))
+      × (new.trigger ≡ interrupt_line_after mask (calls_made trace + answer_count asked))
+  answered =
+      answers-from_link mask (calls_made trace) new.trigger (calls_due fresh_state trace op) asked refusal
+      (subst (λ due. IsTrue (answers_all due asked)) ((steps fresh_state trace fresh_coherent).calls op) parts.0)
+      made.refused
+      (subst (λ line. InterruptLineLink line (answers_of asked refusal) new.trigger) at.interrupt_line made.trigger)
+
+  counts-after : new.events ≡ counts_of (events_reported (made_entry ∷ trace))
+  counts-after =
+      made.events.folds
+      ∙ ap (λ counts. fold counts_after_event counts (step_events old.state op sent)) at.counts
+      ∙ ap (λ s. fold counts_after_event (counts_of (events_reported trace)) (step_events s op sent)) at.state
+      ∙ ap (fold counts_after_event (counts_of (events_reported trace))) stepped.events
+      ∙ counts_of-append (events_reported trace) (history_events fresh_state trace made_entry)
+
+  output-after : IsTrue (none_lost (made_entry ∷ trace)) → written_bytes new.out ≡ output fresh_state [] (made_entry ∷ trace)
+  output-after kept =
+      let (here, earlier) = and_parts (not (is_lost sent)) (none_lost trace) kept in
+      output-after_call sent (bytes_sent op sent) (sent_by (kind_at fresh_state (trace ++ []) op)) (output fresh_state [] trace) old.out new.out
+      made.out here
+      (stepped.output ∙ ap (λ (before : Trace). sent_by (kind_at fresh_state before op)) (sym (append-nil trace)))
+      (at.output earlier)
+
+  fitting : IsTrue (is_well_formed fresh_state (made_entry ∷ trace))
+  fitting = both_true agreed.well_formed at.well_formed
+
+  pub call-after : IsAfter mask (made_entry ∷ trace) new
+  call-after = record {
+    state = agreed.state;
+    interrupt_line = answered.1 ∙ ap (λ more. interrupt_line_after mask (calls_made trace + more)) (sym counted);
+    counts = counts-after;
+    output = output-after;
+    well_formed = fitting;
+    within_room = within_room-after trace made_entry (written_bytes new.out) fitting at.within_room output-after new.out.few;
+  }
+
+  -- the entry is the one that the trace gives, with some outcome
+  entry-is : made_entry ≡ call_entry mask trace (outcome_in sent) op
+  entry-is = λ i. record { op = op; asked = answered.0 i; sent = sent-is sent (sends trace op) parts.1 i }
+
+  -- a line that makes this call
+  pub call-step : (line : SerialCommand)
+      → ((outcome : Outcome) → serial_reply mask trace outcome [] line ≡ entry_reply trace (call_entry mask trace outcome op))
+      → ((outcome : Outcome) → trace_after_line mask trace outcome line ≡ call_entry mask trace outcome op ∷ trace)
+      → SerialLineStep mask trace line (response_reply response) new
+  call-step line replies leads = record {
+    outcome = outcome_in sent;
+    printed = [];
+    short = omega arith;
+    replied = ap response_reply agreed.response ∙ ap (entry_reply trace) entry-is ∙ sym (replies (outcome_in sent));
+    after = subst (λ trace. IsAfter mask trace new) (sym (leads (outcome_in sent))) (subst (λ entry. IsAfter mask (entry ∷ trace) new) entry-is call-after);
+  }
 
 -- ---- a drain
 
--- the reads of a driver, of which each is a call
-reads-step : (bytes : List ℕ) (old new : Port Line Counts Output) (before : Session) → IsAt before old
-    → ReadsWhileReady InterruptLineLink (FoldsEvents counts_after_event) output_link bytes old new
-    → IsAt (session_after_reads (length bytes) before) new
-reads-step [] old new before at same = subst (IsAt before) (sym same) at
-reads-step (byte ∷ bytes) old new before at (ready, (middle, made, later)) =
-    reads-step bytes middle new (session_after_call before (Read 0) false) (call-step made before at).1 later
+module _ (steps : StepLaw) (calls : CallLaw) where
+  -- the reads of a driver, each of which is a call
+  reads-after : (bytes : List ℕ) (old new : Port Line Counts Output) (mask : ℕ) (trace : Trace) → IsAfter mask trace old
+      → ReadsWhileReady InterruptLineLink (FoldsEvents counts_after_event) output_link bytes old new
+      → IsAfter mask (after_rbr_reads (length bytes) trace) new
+  reads-after [] old new mask trace at same = subst (IsAfter mask trace) (sym same) at
+  reads-after (byte ∷ bytes) old new mask trace at (ready, (middle, made, later)) =
+      reads-after bytes middle new mask (rbr_read_entry ∷ trace) (call-after steps calls made mask trace at refl) later
 
--- the choice if nothing is left open
-no_choice : Choice
-no_choice = record { loses = false; printed = []; short = omega arith }
+coherent-after : CoherenceLaw → (trace : Trace) → Coherent (state_after fresh_state trace)
+coherent-after coherence [] = fresh_coherent
+coherent-after coherence (entry ∷ trace) = coherence (state_after fresh_state trace) entry.op entry.asked (coherent-after coherence trace)
 
-drained-are : (latch : Bool) (bytes stepped : List ℕ) → (latch ≡ true → bytes ≡ []) → (latch ≡ false → bytes ≡ stepped)
-    → bytes ≡ (if latch then [] else stepped)
-drained-are latch bytes stepped set clear = grind arith
+drained-are : (latch : Bool) (bytes held : List ℕ) → (latch ≡ true → bytes ≡ []) → (latch ≡ false → bytes ≡ held)
+    → bytes ≡ (if latch then [] else held)
+drained-are latch bytes held set clear = grind arith
 
 pub drain-step :
-    (bytes : List ℕ) (old new : Port Line Counts Output)
+    StepLaw → CallLaw → StateLaw → CoherenceLaw → (bytes : List ℕ) (old new : Port Line Counts Output)
     → ReadsWhileReady InterruptLineLink (FoldsEvents counts_after_event) output_link bytes old new
-    → length bytes ≤ 64
     → (IsTrue (is_dlab old.state.line_control) → bytes ≡ [])
-    → (is_dlab old.state.line_control ≡ false → has_bits new.state.line_status 0x01 ≡ false)
+    → (Coherent old.state → is_dlab old.state.line_control ≡ false → TakesAll (FoldsEvents counts_after_event) bytes old new)
     → IsSerialLineStep line.Drain (digits_reply bytes) old new
-unfolding IsSerialLineStep
-drain-step bytes old new reads few latch ends before at =
-    let taken : bytes ≡ drained_bytes before.state =
-    drained-are (is_dlab old.state.line_control) bytes (bytes_while_ready 64 old.state) latch
-    (λ hidden. reads-are_stepped InterruptLineLink (FoldsEvents counts_after_event) output_link 64 bytes old new hidden reads (ends hidden) few)
-    ∙ ap drained_bytes at.state in (
-      no_choice,
-      ap digits_reply taken,
-      subst (λ (bytes : List ℕ). IsAt (session_after_reads (length bytes) before) new) taken (reads-step bytes old new before at reads),
-    )
+drain-step steps calls states coherence bytes old new reads latch all mask trace at =
+    let latched = ap (λ (s : State). is_dlab s.line_control) at.state in
+    let coherent = subst Coherent (states fresh_state trace fresh_coherent ∙ sym at.state) (coherent-after coherence trace) in
+    let taken : bytes ≡ drained_bytes trace =
+    drained-are (dlab fresh_state trace) bytes (held_bytes fresh_state trace) (λ set. latch (latched ∙ set))
+    (λ clear. (all coherent (latched ∙ clear)).bytes ∙ ap (λ (s : State). s.in_buffer) at.state) in
+    record {
+      outcome = Lost;
+      printed = [];
+      short = omega arith;
+      replied = ap digits_reply taken;
+      after = subst (λ (bytes : List ℕ). IsAfter mask (after_rbr_reads (length bytes) trace) new) taken
+          (reads-after steps calls bytes old new mask trace at reads);
+    }
 
 -- ---- the lines that change nothing
 
 module _ (port : Port Line Counts Output) (reply : List ℕ) where
   pub capacity-step : reply ≡ digits_reply ((64 - length port.state.in_buffer) ∷ []) → IsSerialLineStep line.Capacity reply port port
-  unfolding IsSerialLineStep
-  capacity-step is before at = (no_choice, is ∙ ap (λ (s : State). digits_reply ((64 - length s.in_buffer) ∷ [])) at.state, at)
+  capacity-step is mask trace at = record {
+    outcome = Lost;
+    printed = [];
+    short = omega arith;
+    replied = is ∙ ap (λ (s : State). digits_reply ((64 - length s.in_buffer) ∷ [])) at.state;
+    after = at;
+  }
 
   pub calls-step : reply ≡ with_lf (count_digits port.trigger.calls) → IsSerialLineStep line.Calls reply port port
-  unfolding IsSerialLineStep
-  calls-step is before at = (no_choice, is ∙ ap (λ (l : Line). with_lf (count_digits l.calls)) at.interrupt_line, at)
+  calls-step is mask trace at = record {
+    outcome = Lost;
+    printed = [];
+    short = omega arith;
+    replied = is ∙ ap (λ (l : Line). with_lf (count_digits l.calls)) at.interrupt_line;
+    after = at;
+  }
 
   pub events-step : reply ≡ counts_reply port.events → IsSerialLineStep line.Events reply port port
-  unfolding IsSerialLineStep
-  events-step is before at = (no_choice, is ∙ ap counts_reply at.counts, at)
+  events-step is mask trace at = record {
+    outcome = Lost;
+    printed = [];
+    short = omega arith;
+    replied = is ∙ ap counts_reply at.counts;
+    after = at;
+  }
 
   pub output-step : reply ≡ digits_reply (written_bytes port.out) → IsSerialLineStep line.Output reply port port
-  unfolding IsSerialLineStep
-  output-step is before at = (
-    record { loses = false; printed = written_bytes port.out; short = port.out.few },
-    is ∙ ap digits_reply (is_printed before.output at.output),
-    at,
-  )
+  output-step is mask trace at = record {
+    outcome = Lost;
+    printed = written_bytes port.out;
+    short = port.out.few;
+    replied = is ∙ ap digits_reply (is-printed (none_lost trace) (written_bytes port.out) (output fresh_state [] trace) at.output);
+    after = at;
+  }
     where
-      is_printed : (known : Option (List ℕ)) → IfSome known (λ all. written_bytes port.out ≡ all) →
-          written_bytes port.out ≡ output_or_chosen known (written_bytes port.out)
-      is_printed known was = grind arith
+      is-printed : (kept : Bool) (bytes known : List ℕ) → (IsTrue kept → bytes ≡ known) → bytes ≡ (if kept then known else bytes)
+      is-printed kept bytes known was = grind arith
 
 pub ruleset unchanged_lines = (capacity-step, calls-step, events-step, output-step)
 
@@ -195,116 +355,148 @@ refused-answers refusal (first ∷ second ∷ third ∷ due) responses few stops
 few-pending : (thre rda : Bool) → length (pending_in_order thre rda) ≤ 2
 few-pending thre rda = grind arith
 
-module _ (new : Port Line Counts Output) (reply : List ℕ) (before : Session) where
-  -- a restore whose calls were answered so
-  abbrev IsRestoredBy : (asked : Asked) (refused : Bool) → Type 0
-  IsRestoredBy asked refused =
-      (reply ≡ with_lf (if refused then codes "trigger" else codes "ok"))
-      × IsAt (if refused then before else record before { interrupt_line = interrupt_line_after_calls (answer_count asked) before.interrupt_line }) new
+-- if none is refused, all are answered
+all-answered : (calls : ℕ) (asked : Asked) → IsTrue (answers_all calls asked) → ends_in_refusal asked ≡ false → answer_count asked ≡ calls
+all-answered calls asked fits none = grind (arith, nat_tests)
 
-  restored-by : (after : Line) (refusal : Option LineRefused) (responses : List (Result (Unit {0}) LineRefused)) (refused : Bool) →
-      AreAnswered (restore_calls before.state) refusal responses refused → InterruptLineLink before.interrupt_line responses after →
-      ((asked : Asked) → after ≡ interrupt_line_after_calls (answer_count asked) before.interrupt_line → IsRestoredBy asked refused) →
-      IsRestoredBy (restore_answers before) (is_restore_refused before)
-  restored-by after refusal responses refused (asked, all, some, are, ends) link holds =
-      let answered = trigger_answers-from_link before.interrupt_line after (length (restore_calls before.state)) asked refusal all some
-      (subst (λ responses. InterruptLineLink before.interrupt_line responses after) are link) in
-      subst (λ asked. IsRestoredBy asked (ends_in_refusal asked)) answered.0
-      (subst (IsRestoredBy asked) (sym ends) (holds asked answered.1))
+-- whether the restore is refused, and the interrupt line after its calls
+module _ (mask : ℕ) (trace : Trace) where
+  restore-answered : (after : Line) (refusal : Option LineRefused) (responses : List (Result (Unit {0}) LineRefused)) (refused : Bool) →
+      AreAnswered (restore_calls_due fresh_state trace) refusal responses refused → InterruptLineLink (interrupt_line_after mask (calls_made trace)) responses after →
+      (is_restore_refused mask trace ≡ refused)
+      × (refused ≡ false → after ≡ interrupt_line_after mask (calls_made (restore_entry ∷ trace)))
+  restore-answered after refusal responses refused (asked, all, some, are, ends) link =
+      let due = length (restore_calls_due fresh_state trace) in
+      let answered = answers-from_link mask (calls_made trace) after due asked refusal all some
+      (subst (λ responses. InterruptLineLink (interrupt_line_after mask (calls_made trace)) responses after) are link) in (
+        sym (ap ends_in_refusal answered.0) ∙ ends,
+        λ none. answered.1 ∙ ap (λ more. interrupt_line_after mask (calls_made trace + more)) (all-answered due asked all (ends ∙ none)),
+      )
+
+  -- the port after an accepted restore
+  restored-after : (steps : StepLaw) (old new : Port Line Counts Output) → IsAfter mask trace old → new.state ≡ old.state →
+      new.trigger ≡ interrupt_line_after mask (calls_made (restore_entry ∷ trace)) → new.events ≡ old.events → new.out ≡ old.out →
+      IsAfter mask (restore_entry ∷ trace) new
+  restored-after steps old new at state line events out = record {
+    state = state ∙ at.state ∙ ((steps fresh_state trace fresh_coherent).steps restore_entry refl).state;
+    interrupt_line = line;
+    counts = events ∙ at.counts ∙ ap counts_of (sym (append-nil (events_reported trace)));
+    output = λ kept. ap written_bytes out ∙ at.output kept ∙ sym (append-nil (output fresh_state [] trace));
+    well_formed = both_true refl at.well_formed;
+    within_room = subst (λ outcomes. out_before_loss outcomes ≤ 256) (sym (append-nil (outcomes_of trace))) at.within_room;
+  }
 
 -- a restore whose calls were accepted
-pub restore-accepts : (old new : Port Line Counts Output) →
+pub restore-accepts : StepLaw → (old new : Port Line Counts Output) →
     new.state ≡ old.state → InterruptLineLink old.trigger (all_ok (restore_calls old.state)) new.trigger → new.events ≡ old.events → new.out ≡ old.out →
     IsSerialLineStep line.Restore (with_lf (codes "ok")) old new
-unfolding IsSerialLineStep
-restore-accepts old new is link events out before at =
-    let (replied, after) = restored-by new (with_lf (codes "ok")) before new.trigger None _ false (accepted-answers _ _)
-    (subst (λ state. InterruptLineLink before.interrupt_line (all_ok (restore_calls state)) new.trigger) at.state
-    (subst (λ line. InterruptLineLink line (all_ok (restore_calls old.state)) new.trigger) at.interrupt_line link))
-    (λ asked after. (
-      refl,
-      record {
-        state = is ∙ at.state;
-        interrupt_line = after;
-        counts = events ∙ at.counts;
-        output = subst (λ (o : Output). IfSome before.output (λ all. written_bytes o ≡ all)) (sym out) at.output;
-      },
-    )) in
-    (no_choice, replied, after)
+restore-accepts steps old new state link events out mask trace at =
+    let due = ap restore_calls at.state ∙ (steps fresh_state trace fresh_coherent).restoring in
+    let (accepted, after) = restore-answered mask trace new.trigger None (all_ok (restore_calls_due fresh_state trace)) false (accepted-answers _ _)
+    (subst (λ line. InterruptLineLink line (all_ok (restore_calls_due fresh_state trace)) new.trigger) at.interrupt_line
+    (subst (λ due. InterruptLineLink old.trigger (all_ok due) new.trigger) due link)) in
+    record {
+      outcome = Lost;
+      printed = [];
+      short = omega arith;
+      replied = ap (λ refused. with_lf (if refused then codes "trigger" else codes "ok")) (sym accepted);
+      after = subst (λ (refused : Bool). IsAfter mask (if refused then trace else restore_entry ∷ trace) new) (sym accepted)
+          (restored-after mask trace steps old new at state (after refl) events out);
+    }
 
 -- one of whose calls was refused
-pub restore-refuses : (old : Port Line Counts Output) (state : State) (after : Line) (error : Error LineRefused) →
+pub restore-refuses : StepLaw → (old : Port Line Counts Output) (state : State) (after : Line) (error : Error LineRefused) →
     state ≡ old.state → length old.state.in_buffer ≤ 64 → RefusesRestore InterruptLineLink state error old.trigger after → error ≢ Memory →
     IsSerialLineStep line.Restore (response_reply (failure_response error)) old old
-unfolding IsSerialLineStep
-restore-refuses old state after FullFifo is few refuses other before at =
+restore-refuses steps old state after FullFifo is few refuses other mask trace at =
     absurd (omega (arith, few, refuses.0, ap (λ (s : State). length s.in_buffer) is))
-restore-refuses old state after (IOError fault) is few refuses other before at = absurd refuses.1
-restore-refuses old state after Memory is few refuses other before at = absurd (other refl)
-restore-refuses old state after (Trigger refusal) is few (none_more, (responses, stops, link)) other before at =
-    let (replied, kept) = restored-by old (with_lf (codes "trigger")) before after (Some refusal) responses true
-    (refused-answers refusal (restore_calls before.state) responses (few-pending _ _)
-    (subst (λ state. StopsAtRefusal (restore_calls state) refusal responses) (is ∙ at.state) stops))
-    (subst (λ line. InterruptLineLink line responses after) at.interrupt_line link)
-    (λ asked _. (refl, at)) in
-    (no_choice, replied, kept)
+restore-refuses steps old state after (IOError fault) is few refuses other mask trace at = absurd refuses.1
+restore-refuses steps old state after Memory is few refuses other mask trace at = absurd (other refl)
+restore-refuses steps old state after (Trigger refusal) is few (none_more, (responses, stops, link)) other mask trace at =
+    let due = ap restore_calls (is ∙ at.state) ∙ (steps fresh_state trace fresh_coherent).restoring in
+    let (refused, line) = restore-answered mask trace after (Some refusal) responses true
+    (refused-answers refusal (restore_calls_due fresh_state trace) responses (few-pending _ _)
+    (subst (λ due. StopsAtRefusal due refusal responses) due stops))
+    (subst (λ line. InterruptLineLink line responses after) at.interrupt_line link) in
+    record {
+      outcome = Lost;
+      printed = [];
+      short = omega arith;
+      replied = ap (λ refused. with_lf (if refused then codes "trigger" else codes "ok")) (sym refused);
+      after = subst (λ (refused : Bool). IsAfter mask (if refused then trace else restore_entry ∷ trace) old) (sym refused) at;
+    }
 
--- ---- a session by the history of its calls
+-- ---- a line, and those that follow it
 
-stepped-state : (session : Session) (calls : List (Op × Bool)) → (session_after_calls session calls).state ≡ state_after session.state (session_trace session calls)
-stepped-state session [] = refl
-stepped-state session (call ∷ calls) =
-    ap (λ (s : State). step s call.0 (session_answers (session_after_calls session calls) call.0)) (stepped-state session calls)
+-- the outcome that a line takes from the list, and the bytes that it prints after a loss
+abbrev pub outcomes_taken : (trace : Trace) (line : SerialCommand) (outcome : Outcome) → List Outcome
+outcomes_taken trace line outcome = if line_sends trace line then outcome ∷ [] else []
 
-pub state-is_of_history : StateLaw → SessionStateLaw
-state-is_of_history states session calls is = stepped-state session calls ∙ states session.state (session_trace session calls) is
+abbrev pub printed_taken : (trace : Trace) (line : SerialCommand) (bytes : List ℕ) → List (List ℕ)
+printed_taken trace line bytes = if prints_after_loss trace line then bytes ∷ [] else []
 
-pub output-is_of_history : RegisterLaw → SessionOutputLaw
-output-is_of_history registers session [] = nothing session.output
-  where
-    nothing : (known : Option (List ℕ)) → known ≡ option_map (λ before. before ++ []) known
-    nothing known = grind (arith, append-nil)
-output-is_of_history registers session (call ∷ calls) =
-    let before = session_after_calls session calls in
-    let trace = session_trace session calls in
-    let agree = registers session.state trace in
-    let outcome = session_outcome before call.0 call.1 in
-    let kind : kind_in_state before.state call.0 ≡ kind_at session.state trace call.0 =
-    ap (λ (s : State). kind_in_state s call.0) (stepped-state session calls)
-    ∙ ap (λ latch. kind_of (is_dlab latch) (is_loopback (state_after session.state trace).modem_control) call.0) agree.line_control
-    ∙ ap (λ modem. kind_of (dlab session.state trace) (is_loopback modem) call.0) agree.modem_control in
-    ap (λ known. output_after known outcome (sent_by (kind_in_state before.state call.0))) (output-is_of_history registers session calls)
-    ∙ joined (none_lost trace) outcome session.output (output session.state [] trace)
-    (ap sent_by kind ∙ ap (λ (before : Trace). sent_by (kind_at session.state before call.0)) (sym (append-nil trace)))
-  where
-    joined : (kept : Bool) (outcome : Sent) (earlier : Option (List ℕ)) (out : List ℕ) {bytes all : List ℕ} → bytes ≡ all →
-        output_after (if kept then option_map (λ before. before ++ out) earlier else None) outcome bytes
-        ≡ (if not (is_lost outcome) && kept then option_map (λ before. before ++ (out ++ all)) earlier else None)
-    joined kept outcome earlier out same = grind (arith, append_assoc)
+module _ (mask : ℕ) (trace : Trace) (outcome : Outcome) (bytes : List ℕ) (lines : List SerialCommand) (outcomes : List Outcome) (printed : List (List ℕ)) where
+  -- a call, whether it sends a byte or not
+  call-first : (sends : Bool) (reply : Sent → List ℕ) (next : Sent → Trace) →
+      let taken = (if sends then outcome ∷ [] else []) ++ outcomes in
+      let sent = sent_with sends (next_outcome taken) in
+      (reply sent ∷ serial_replies mask (next sent) lines (if sends then drop 1 taken else taken) printed)
+      ≡ (reply (sent_with sends outcome) ∷ serial_replies mask (next (sent_with sends outcome)) lines outcomes printed)
+  call-first true reply next = refl
+  call-first false reply next = refl
 
--- a driver reads what is held
-while_ready-are_held : CoherenceLaw → (most : ℕ) (s : State) → is_dlab s.line_control ≡ false → Coherent s → length s.in_buffer ≤ most
-    → bytes_while_ready most s ≡ s.in_buffer
-while_ready-are_held coherence zero s hidden is few = none s.in_buffer few
-  where
-    none : (held : List ℕ) → length held ≤ 0 → [] ≡ held
-    none [] few = refl
-    none (byte ∷ held) few = absurd (omega (arith, few))
-while_ready-are_held coherence (suc most) s hidden is few =
-    let read = rbr_read s in
-    let after = subst Coherent (ap (λ latch. read_step (register_at latch 0) s) hidden) (coherence s (Read 0) Asked.Nothing is) in
-    oldest s.in_buffer (has_bits s.line_status 0x01) is.data_ready
-    (while_ready-are_held coherence most read hidden after (omega (arith, few, length-drop 1 s.in_buffer)))
-  where
-    oldest : (held : List ℕ) (ready : Bool) {more : List ℕ} → ready ≡ not_empty held → more ≡ drop 1 held
-        → (if ready then slice_index held 0 ∷ more else []) ≡ held
-    oldest held ready shows same = grind arith
+  -- an `so`, whether a byte was lost or not
+  output-first : (kept : Bool) (known : List ℕ) →
+      let taken = (if not kept then bytes ∷ [] else []) ++ printed in
+      (digits_reply (if kept then known else next_printed taken) ∷ serial_replies mask trace lines outcomes (if not kept then drop 1 taken else taken))
+      ≡ (digits_reply (if kept then known else bytes) ∷ serial_replies mask trace lines outcomes printed)
+  output-first true known = refl
+  output-first false known = refl
 
-pub drain-is_of_held : CoherenceLaw → DrainLaw
-drain-is_of_held coherence s is = by_latch (is_dlab s.line_control) refl
-  where
-    by_latch : (latch : Bool) → is_dlab s.line_control ≡ latch → (if latch then [] else bytes_while_ready 64 s) ≡ (if latch then [] else s.in_buffer)
-    by_latch true set = refl
-    by_latch false hidden = while_ready-are_held coherence 64 s hidden is is.at_most_64
+  entry_with : (op : Op) (sent : Sent) → TraceEntry
+  entry_with op sent = record { op = op; asked = trigger_answers mask (calls_made trace) (calls_due fresh_state trace op); sent = sent }
 
-pub ruleset session_laws = (state-is_of_history, drain-is_of_held, output-is_of_history)
+  call-replies : (op : Op) →
+      let taken = (if sends trace op then outcome ∷ [] else []) ++ outcomes in
+      let entry = call_entry mask trace (next_outcome taken) op in
+      (entry_reply trace entry ∷ serial_replies mask (entry ∷ trace) lines (if sends trace op then drop 1 taken else taken) printed)
+      ≡ (entry_reply trace (call_entry mask trace outcome op) ∷ serial_replies mask (call_entry mask trace outcome op ∷ trace) lines outcomes printed)
+  unfolding entry_with
+  call-replies op = call-first (sends trace op) (λ sent. entry_reply trace (entry_with op sent)) (λ sent. entry_with op sent ∷ trace)
+
+  pub first-replies : (first : SerialCommand) →
+      serial_replies mask trace (first ∷ lines) (outcomes_taken trace first outcome ++ outcomes) (printed_taken trace first bytes ++ printed)
+      ≡ serial_reply mask trace outcome bytes first ∷ serial_replies mask (trace_after_line mask trace outcome first) lines outcomes printed
+  first-replies (line.Read offset) = call-replies (Read offset)
+  first-replies (line.Write offset value) = call-replies (Write offset value)
+  first-replies (line.Enqueue bytes) = call-replies (Enqueue bytes)
+  first-replies line.Output = output-first (none_lost trace) (output fresh_state [] trace)
+  first-replies line.Capacity = refl
+  first-replies line.Drain = refl
+  first-replies line.Restore = refl
+  first-replies line.Calls = refl
+  first-replies line.Events = refl
+
+-- the outcomes of the trace after a line are those before it, and the one that it takes
+outcome-of_sent : (sends : Bool) (outcome : Outcome) → outcome_of_sent (sent_with sends outcome) ≡ (if sends then outcome ∷ [] else [])
+outcome-of_sent sends outcome = grind arith
+
+reads-no_outcome : (count : ℕ) (trace : Trace) → outcomes_of (after_rbr_reads count trace) ≡ outcomes_of trace
+reads-no_outcome zero trace = refl
+reads-no_outcome (suc count) trace = reads-no_outcome count (rbr_read_entry ∷ trace) ∙ append-nil (outcomes_of trace)
+
+restore-no_outcome : (refused : Bool) (trace : Trace) → outcomes_of (if refused then trace else restore_entry ∷ trace) ≡ outcomes_of trace
+restore-no_outcome true trace = refl
+restore-no_outcome false trace = append-nil (outcomes_of trace)
+
+pub outcomes-after_line : (mask : ℕ) (trace : Trace) (outcome : Outcome) (first : SerialCommand) →
+    outcomes_of (trace_after_line mask trace outcome first) ≡ outcomes_of trace ++ outcomes_taken trace first outcome
+outcomes-after_line mask trace outcome (line.Read offset) = ap (λ more. outcomes_of trace ++ more) (outcome-of_sent (sends trace (Read offset)) outcome)
+outcomes-after_line mask trace outcome (line.Write offset value) = ap (λ more. outcomes_of trace ++ more) (outcome-of_sent (sends trace (Write offset value)) outcome)
+outcomes-after_line mask trace outcome (line.Enqueue bytes) = ap (λ more. outcomes_of trace ++ more) (outcome-of_sent (sends trace (Enqueue bytes)) outcome)
+outcomes-after_line mask trace outcome line.Drain = reads-no_outcome (length (drained_bytes trace)) trace ∙ sym (append-nil (outcomes_of trace))
+outcomes-after_line mask trace outcome line.Restore = restore-no_outcome (is_restore_refused mask trace) trace ∙ sym (append-nil (outcomes_of trace))
+outcomes-after_line mask trace outcome line.Output = sym (append-nil (outcomes_of trace))
+outcomes-after_line mask trace outcome line.Capacity = sym (append-nil (outcomes_of trace))
+outcomes-after_line mask trace outcome line.Calls = sym (append-nil (outcomes_of trace))
+outcomes-after_line mask trace outcome line.Events = sym (append-nil (outcomes_of trace))

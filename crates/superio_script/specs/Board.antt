@@ -1,10 +1,11 @@
 -- What a contract sees of a board, and of one line on it.
-use Rattle.std.specs.Prelude.{◌≡◌, ℕ, List, ◌∷◌, IfSome}
-use Rattle.vm_superio.specs.Serial.{Port}
+use Rattle.std.specs.Prelude.{◌≡◌, ◌≤◌, ℕ, List, [], ◌∷◌, length, IsTrue}
+use Rattle.vm_superio.specs.Serial.{Port, Trace, fresh_state}
+use Rattle.vm_superio.specs.Serial.History.{state_of_history, none_lost, output, is_well_formed}
 use Rattle.vm_superio.specs.Rtc.{ClockDevice, RtcState, Access, fresh_clock}
 use Rattle.superio_script.specs.Objects.{fresh_interrupt_line, no_counts, written_bytes, Line, Counts, Output}
 use Rattle.superio_script.specs.Reply.{controller_reply}
-use Rattle.superio_script.specs.SerialScript.{Session, fresh_session, Choice, serial_reply, session_after_line}
+use Rattle.superio_script.specs.SerialScript.{calls_made, interrupt_line_after, events_reported, counts_of, Outcome, out_before_loss, outcomes_of, serial_reply, trace_after_line}
 use Rattle.superio_script.specs.ClockScript.{clock_after, access_of_line, clock_reply}
 use Rattle.superio_script.specs.Command.{Command, Serial, Clock, Controller, SerialCommand, ClockCommand}
 
@@ -14,38 +15,48 @@ pub record Devices : Type 0 where
   pub clock : ClockDevice Counts
   pub controller : Line
 
--- the board's serial port is at this session: in its state, with its objects
-pub record IsAt (session : Session) (port : Port Line Counts Output) : Type 0 where
-  pub state : port.state ≡ session.state
-  pub interrupt_line : port.trigger ≡ session.interrupt_line
-  pub counts : port.events ≡ session.counts
-  pub output : IfSome session.output (λ bytes. written_bytes port.out ≡ bytes)
+-- a board's serial port after this trace, if its interrupt line has this mask: its state and its objects. The trace is
+-- well-formed. While no byte is lost, the output is known
+pub record IsAfter (mask : ℕ) (trace : Trace) (port : Port Line Counts Output) : Type 0 where
+  pub state : port.state ≡ state_of_history fresh_state trace
+  pub interrupt_line : port.trigger ≡ interrupt_line_after mask (calls_made trace)
+  pub counts : port.events ≡ counts_of (events_reported trace)
+  pub output : IsTrue (none_lost trace) → written_bytes port.out ≡ output fresh_state [] trace
+  pub well_formed : IsTrue (is_well_formed fresh_state trace)
+  pub within_room : out_before_loss (outcomes_of trace) ≤ 256
 
--- a board between two lines: the serial port and the clock are each at some session, and the reset line was never
--- called, since a fresh controller replaces one that was reset
+-- a board between two lines: a trace led to the serial port, and accesses to the clock. The reset line was never called,
+-- since a fresh controller replaces one that was reset
 pub record IsBetweenLines
     (port : Port Line Counts Output) (rtc : ClockDevice Counts) (reset_line : Line) :
     Type 0 where
-  pub session : Session
-  pub serial : IsAt session port
+  pub mask : ℕ
+  pub trace : Trace
+  pub serial : IsAfter mask trace port
   pub accesses : List Access
   pub clock : rtc.state ≡ clock_after accesses
   pub controller : reset_line ≡ fresh_interrupt_line 0
 
 -- a board of fresh devices. The mask is that of the serial port's interrupt line; the reset line refuses nothing
 pub record IsFresh (mask : ℕ) (board : Devices) : Type 0 where
-  pub serial : IsAt (fresh_session mask) board.serial
+  pub serial : IsAfter mask [] board.serial
   pub clock : board.clock ≡ record { state = fresh_clock; events = no_counts }
   pub controller : board.controller ≡ fresh_interrupt_line 0
 
--- a line of the serial port. From each session that the port is at, there is a choice by which the reply is the
--- session's, and the port is then at the session after the line. That no more than 256 bytes go out before a loss, over
--- several lines, follows from where the port is: its output holds no more
-unfoldable pub IsSerialLineStep :
-    (line : SerialCommand) (reply : List ℕ) (old new : Port Line Counts Output) → Type 0
+-- a line of the serial port. After any trace that leads to the port, the reply is the trace's, for some outcome and some
+-- printed bytes, and the port is then after the trace that the line leaves
+pub record SerialLineStep
+    (mask : ℕ) (trace : Trace) (line : SerialCommand) (reply : List ℕ) (new : Port Line Counts Output) :
+    Type 0 where
+  pub outcome : Outcome
+  pub printed : List ℕ
+  pub short : length printed ≤ 256
+  pub replied : reply ≡ serial_reply mask trace outcome printed line
+  pub after : IsAfter mask (trace_after_line mask trace outcome line) new
+
+abbrev pub IsSerialLineStep : (line : SerialCommand) (reply : List ℕ) (old new : Port Line Counts Output) → Type 0
 IsSerialLineStep line reply old new =
-    (before : Session) → IsAt before old → (choice : Choice)
-    × (reply ≡ serial_reply before choice line) × IsAt (session_after_line before choice line) new
+    (mask : ℕ) (trace : Trace) → IsAfter mask trace old → SerialLineStep mask trace line reply new
 
 -- a line of the clock. After any accesses that lead to its state, the reply is theirs, and its state is then that after
 -- one more access

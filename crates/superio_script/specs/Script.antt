@@ -6,7 +6,8 @@ use Rattle.superio_script.specs.Fields.{lines_of}
 use Rattle.superio_script.specs.Command.{command_of, mask_of, IsRestoreLine, Command, Serial, Clock, Controller, SerialCommand, ClockCommand, ControllerCommand}
 use Rattle.superio_script.specs.Reply.{controller_reply}
 use Rattle.vm_superio.specs.Rtc.{Access}
-use Rattle.superio_script.specs.SerialScript.{Session, fresh_session, AreSerialReplies}
+use Rattle.vm_superio.specs.Serial.{Trace}
+use Rattle.superio_script.specs.SerialScript.{Outcome, out_before_loss, all_short, serial_replies}
 use Rattle.superio_script.specs.ClockScript.{clock_replies}
 
 -- ---- the lines
@@ -80,19 +81,18 @@ replies_in_order (Controller line ∷ commands) serial clock (reply ∷ controll
     reply ++ replies_in_order commands serial clock controller
 replies_in_order _ serial clock controller = []
 
--- these are the replies to these commands, from a session of the serial port and these accesses of the clock on. The replies of
--- each device come from its own lines alone
-abbrev pub IsTextFrom :
-    (session : Session) (accesses : List Access) (commands : List Command) (text : List ℕ) → Type 0
-IsTextFrom session accesses commands text =
-    (replies : List (List ℕ)) × AreSerialReplies session (serial_lines commands) replies
-    × (text ≡ replies_in_order commands replies (clock_replies accesses (clock_lines commands))
-    (controller_replies (controller_lines commands)))
+-- the replies to these commands, from this trace of the serial port and these accesses of the clock on, given what a
+-- script leaves open. The replies of each device come from its own lines alone
+abbrev pub text_from :
+    (mask : ℕ) (trace : Trace) (accesses : List Access) (commands : List Command)
+    (outcomes : List Outcome) (printed : List (List ℕ)) → List ℕ
+text_from mask trace accesses commands outcomes printed =
+    replies_in_order commands (serial_replies mask trace (serial_lines commands) outcomes printed)
+    (clock_replies accesses (clock_lines commands)) (controller_replies (controller_lines commands))
 
--- these are the replies to the good ones of these lines, from fresh devices, given the mask of the serial port's
--- interrupt line
-abbrev pub IsText : (mask : ℕ) (lines : List (List ℕ)) (text : List ℕ) → Type 0
-IsText mask lines text = IsTextFrom (fresh_session mask) [] (good_commands lines) text
+-- the text of these lines: the replies to the good ones, from fresh devices
+abbrev pub text_of : (mask : ℕ) (lines : List (List ℕ)) (outcomes : List Outcome) (printed : List (List ℕ)) → List ℕ
+text_of mask lines outcomes printed = text_from mask [] [] (good_commands lines) outcomes printed
 
 -- the number of a script's first bad line, counted from 1, or `None` if every line is good
 abbrev pub first_bad_line_of : (script : List ℕ) → Option ℕ
@@ -100,9 +100,14 @@ first_bad_line_of script = first_bad_line (body_of script).first (body_of script
 
 -- ---- a run
 
--- the text of these lines was written: what the writer held before, and what it holds after
-abbrev pub PrintsLines : (mask : ℕ) (lines : List (List ℕ)) (before after : Option (List ℕ)) → Type 0
-PrintsLines mask lines before after = (text : List ℕ) × IsText mask lines text × Appends before after text
+-- the text of these lines was written, for some outcomes and printed bytes: what the writer held before, and what it
+-- holds after. The board's output has room for 256 bytes, so the 257th is lost unless an earlier one is
+pub record PrintsLines (mask : ℕ) (lines : List (List ℕ)) (before after : Option (List ℕ)) : Type 0 where
+  pub outcomes : List Outcome
+  pub within_room : out_before_loss outcomes ≤ 256
+  pub printed : List (List ℕ)
+  pub short : IsTrue (all_short printed)
+  pub written : Appends before after (text_of mask lines outcomes printed)
 
 -- a run read the whole script, which is within the limit, found this line to be the first bad one, and wrote the text
 -- of the lines before it: what remains in the reader, and what the writer held before and holds after

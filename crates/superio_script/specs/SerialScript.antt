@@ -1,182 +1,201 @@
--- The serial port's part of a script: the replies to its lines. They depend on these lines alone, and on what a script
--- leaves open.
-use Rattle.std.specs.Prelude.{◌≡◌, ℕ, zero, suc, ◌-◌, ◌≤◌, Bool, false, if◌then◌else◌, List, [], ◌∷◌, ◌++◌, length, fold, codes, Option, Some, None, IfSome, ⊤, option_map}
-use Rattle.vm_superio.specs.Serial.{Asked, Sent, Op, Read, Write, Enqueue, Trace, is_lost, answer_count, ends_in_refusal, sent_by, State, fresh_state, Coherent, is_dlab, step, step_response, step_events, kind_in_state, step_calls, sends_byte, restore_calls}
-use Rattle.vm_superio.specs.Serial.History.{none_lost, output, state_of_history}
-use Rattle.superio_script.specs.Objects.{fresh_interrupt_line, is_call_refused, interrupt_line_after_call, no_counts, counts_after_event, Line, Counts}
-use Rattle.superio_script.specs.Driver.{bytes_while_ready}
+-- The serial port's part of a script: the replies to its lines, by the history. They depend on these lines alone, on the
+-- mask, and on what a script leaves open: which bytes are lost, and what `so` prints once one was.
+use Rattle.std.specs.Prelude.{ℕ, zero, suc, ◌+◌, ◌-◌, ◌^◌, Bool, true, false, not, min, if◌then◌else◌, List, [], ◌∷◌, ◌++◌, length, drop, count_by, codes, nat_le}
+use Rattle.std.specs.List.{list_all}
+use Rattle.vm_superio.specs.Serial.{Asked, Sent, Op, Read, Write, Enqueue, Restore, TraceEntry, Trace, answer_count, ends_in_refusal, sent_by, Event, buffer_read, out_byte, tx_lost_byte, in_buffer_empty, fresh_state, not_empty}
+use Rattle.vm_superio.specs.Serial.History.{kind_at, dlab, held_bytes, none_lost, output, history_events, history_response, calls_due, restore_calls_due}
+use Rattle.superio_script.specs.Objects.{is_call_refused, Line, Counts}
 use Rattle.superio_script.specs.Reply.{with_lf, response_reply, digits_reply, count_digits, counts_reply}
 use Rattle.superio_script.specs.declared.command.SerialCommand.{SerialCommand}
 use Rattle.superio_script.specs.declared.command.SerialCommand.TheVariants as serial
 
--- ---- a session
+-- ---- a board's serial port after a trace: its calls and its accepted restores, newest first, since it was fresh
 
--- a port and its objects, between two lines
-pub record Session : Type 0 where
-  pub state : State
-  -- the bytes that went out, which are not known once a byte was lost
-  pub output : Option (List ℕ)
-  pub interrupt_line : Line
-  pub counts : Counts
+-- the trigger calls that an entry made: a restore those that were due, and a call those that were answered
+abbrev pub calls_of_entry : (trace : Trace) (op : Op) (asked : Asked) → ℕ
+calls_of_entry trace Restore asked = length (restore_calls_due fresh_state trace)
+calls_of_entry trace op asked = answer_count asked
 
--- a fresh port that was never called. The mask names the calls that its interrupt line refuses
-abbrev pub fresh_session : (mask : ℕ) → Session
-fresh_session mask = record {
-  state = fresh_state;
-  output = Some [];
-  interrupt_line = fresh_interrupt_line mask;
-  counts = no_counts;
+-- how often the interrupt line was called
+abbrev pub calls_made : (trace : Trace) → ℕ
+calls_made [] = 0
+calls_made (entry ∷ trace) = calls_made trace + calls_of_entry trace entry.op entry.asked
+
+-- a count that saturates at 2^64 - 1
+abbrev pub saturated : (count : ℕ) → ℕ
+saturated count = min count (2 ^ 64 - 1)
+
+-- the interrupt line with this mask after so many calls
+abbrev pub interrupt_line_after : (mask calls : ℕ) → Line
+interrupt_line_after mask calls = record { calls = saturated calls; mask = mask }
+
+-- the events reported, oldest first
+abbrev pub events_reported : (trace : Trace) → List Event
+events_reported [] = []
+events_reported (entry ∷ trace) = events_reported trace ++ history_events fresh_state trace entry
+
+abbrev pub is_event : (name event : Event) → Bool
+is_event buffer_read buffer_read = true
+is_event out_byte out_byte = true
+is_event tx_lost_byte tx_lost_byte = true
+is_event in_buffer_empty in_buffer_empty = true
+is_event _ _ = false
+
+-- how often each event was reported. A serial port reports none of the clock's
+abbrev pub counts_of : (events : List Event) → Counts
+counts_of events = record {
+  buffer_reads = saturated (count_by (is_event buffer_read) events);
+  out_bytes = saturated (count_by (is_event out_byte) events);
+  tx_lost_bytes = saturated (count_by (is_event tx_lost_byte) events);
+  in_buffer_empties = saturated (count_by (is_event in_buffer_empty) events);
+  invalid_reads = 0;
+  invalid_writes = 0;
 }
 
--- what a script does not determine of a line: whether the writer loses the byte that the line sends, if it sends one,
--- and what an `so` prints after a loss
-pub record Choice : Type 0 where
-  pub loses : Bool
-  pub printed : List ℕ
-  pub short : length printed ≤ 256
+-- ---- what a script leaves open
 
--- ---- a call of the port
+-- the outcome of a byte that a line sends: the output took it, or had no room
+pub data Outcome : Type 0 where
+  Out : Outcome
+  Lost : Outcome
 
--- the interrupt line's answers to this many trigger calls, up to two. A refusal is the last answer
-abbrev pub trigger_answers : (line : Line) (calls : ℕ) → Asked
-trigger_answers line zero = Asked.Nothing
-trigger_answers line (suc zero) = if is_call_refused line.mask line.calls then Asked.Refused else Asked.Took
-trigger_answers line (suc (suc more)) =
-    if is_call_refused line.mask line.calls then Asked.Refused
-    else (if is_call_refused line.mask (interrupt_line_after_call line).calls then Asked.TookRefused
-    else Asked.TookTook)
+-- how many bytes go out before the first is lost
+abbrev pub out_before_loss : (outcomes : List Outcome) → ℕ
+out_before_loss [] = 0
+out_before_loss (Out ∷ outcomes) = 1 + out_before_loss outcomes
+out_before_loss (Lost ∷ outcomes) = 0
 
--- the interrupt line after so many calls
-abbrev pub interrupt_line_after_calls : (calls : ℕ) (line : Line) → Line
-interrupt_line_after_calls zero line = line
-interrupt_line_after_calls (suc calls) line = interrupt_line_after_calls calls (interrupt_line_after_call line)
+-- the outcomes of the bytes sent, oldest first
+abbrev pub outcome_of_sent : (sent : Sent) → List Outcome
+outcome_of_sent Sent.Nothing = []
+outcome_of_sent Sent.Out = Out ∷ []
+outcome_of_sent Sent.Lost = Lost ∷ []
 
--- the output after a call with this outcome that sent these bytes
-abbrev pub output_after : (known : Option (List ℕ)) (outcome : Sent) (bytes : List ℕ) → Option (List ℕ)
-output_after known outcome bytes = if is_lost outcome then None else option_map (λ before. before ++ bytes) known
+abbrev pub outcomes_of : (trace : Trace) → List Outcome
+outcomes_of [] = []
+outcomes_of (entry ∷ trace) = outcomes_of trace ++ outcome_of_sent entry.sent
 
--- the session after a step with these answers of the interrupt line and this outcome of a byte
-abbrev pub session_after_step : (session : Session) (op : Op) (asked : Asked) (outcome : Sent) → Session
-session_after_step session op asked outcome = record {
-  state = step session.state op asked;
-  output = output_after session.output outcome (sent_by (kind_in_state session.state op));
-  interrupt_line = interrupt_line_after_calls (answer_count asked) session.interrupt_line;
-  counts = fold counts_after_event session.counts (step_events session.state op outcome);
+-- the next outcome. A byte for which the list has none is lost
+abbrev pub next_outcome : (outcomes : List Outcome) → Outcome
+next_outcome [] = Lost
+next_outcome (outcome ∷ outcomes) = outcome
+
+-- the bytes that the next `so` after a loss prints
+abbrev pub next_printed : (printed : List (List ℕ)) → List ℕ
+next_printed [] = []
+next_printed (bytes ∷ printed) = bytes
+
+-- what is printed after a loss is within the output's room
+abbrev pub all_short : (printed : List (List ℕ)) → Bool
+all_short printed = list_all (λ bytes. nat_le (length bytes) 256) printed
+
+-- ---- a call after a trace
+
+-- the interrupt line's answers to so many calls, up to two; the first has this number. A refusal is the last answer
+abbrev pub trigger_answers : (mask number calls : ℕ) → Asked
+trigger_answers mask number zero = Asked.Nothing
+trigger_answers mask number (suc zero) = if is_call_refused mask number then Asked.Refused else Asked.Took
+trigger_answers mask number (suc (suc more)) =
+    if is_call_refused mask number then Asked.Refused
+    else (if is_call_refused mask (number + 1) then Asked.TookRefused else Asked.TookTook)
+
+-- whether a call sends a byte
+abbrev pub sends : (trace : Trace) (op : Op) → Bool
+sends trace op = not_empty (sent_by (kind_at fresh_state trace op))
+
+abbrev pub sent_with : (sends : Bool) (outcome : Outcome) → Sent
+sent_with false outcome = Sent.Nothing
+sent_with true Out = Sent.Out
+sent_with true Lost = Sent.Lost
+
+-- the entry of a call: the interrupt line answers the calls that are due, and the byte, if one is sent, has this outcome
+abbrev pub call_entry : (mask : ℕ) (trace : Trace) (outcome : Outcome) (op : Op) → TraceEntry
+call_entry mask trace outcome op = record {
+  op = op;
+  asked = trigger_answers mask (calls_made trace) (calls_due fresh_state trace op);
+  sent = sent_with (sends trace op) outcome;
 }
 
-abbrev pub session_answers : (session : Session) (op : Op) → Asked
-session_answers session op = trigger_answers session.interrupt_line (step_calls session.state op)
+-- the reply to an entry's call
+abbrev pub entry_reply : (trace : Trace) (entry : TraceEntry) → List ℕ
+entry_reply trace entry = response_reply (history_response fresh_state trace entry.op entry.asked entry.sent)
 
--- the outcome of the byte that a call sends, if it sends one
-abbrev pub session_outcome : (session : Session) (op : Op) (loses : Bool) → Sent
-session_outcome session op loses =
-    if sends_byte session.state op then (if loses then Sent.Lost else Sent.Out) else Sent.Nothing
+-- ---- a drain and a restore after a trace
 
--- the reply to a call, and the session after it
-abbrev pub call_reply : (session : Session) (op : Op) (loses : Bool) → List ℕ
-call_reply session op loses =
-    response_reply
-    (step_response session.state op (session_answers session op) (session_outcome session op loses))
+abbrev pub rbr_read_entry : TraceEntry
+rbr_read_entry = record { op = Read 0; asked = Asked.Nothing; sent = Sent.Nothing }
 
-abbrev pub session_after_call : (session : Session) (op : Op) (loses : Bool) → Session
-session_after_call session op loses =
-    session_after_step session op (session_answers session op) (session_outcome session op loses)
+-- the trace with so many more RBR reads
+abbrev pub after_rbr_reads : (count : ℕ) (trace : Trace) → Trace
+after_rbr_reads zero trace = trace
+after_rbr_reads (suc count) trace = after_rbr_reads count (rbr_read_entry ∷ trace)
 
--- ---- a drain
+-- the bytes that a driver gets: with DLAB set none, else all that are held
+abbrev pub drained_bytes : (trace : Trace) → List ℕ
+drained_bytes trace = if dlab fresh_state trace then [] else held_bytes fresh_state trace
 
--- the bytes that a driver reads while LSR shows data ready, in at most 64 reads. With DLAB set it reads none
-abbrev pub drained_bytes : (s : State) → List ℕ
-drained_bytes s = if is_dlab s.line_control then [] else bytes_while_ready 64 s
+abbrev pub restore_entry : TraceEntry
+restore_entry = record { op = Restore; asked = Asked.Nothing; sent = Sent.Nothing }
 
--- the session after this many reads at offset 0
-abbrev pub session_after_reads : (count : ℕ) (session : Session) → Session
-session_after_reads zero session = session
-session_after_reads (suc count) session = session_after_reads count (session_after_call session (Read 0) false)
-
--- ---- a restore
-
--- the interrupt line's answers to the calls of the restore, and whether they end it with a refusal
-abbrev pub restore_answers : (session : Session) → Asked
-restore_answers session = trigger_answers session.interrupt_line (length (restore_calls session.state))
-
-abbrev pub is_restore_refused : (session : Session) → Bool
-is_restore_refused session = ends_in_refusal (restore_answers session)
-
-abbrev pub restore_reply : (session : Session) → List ℕ
-restore_reply session = with_lf (if is_restore_refused session then codes "trigger" else codes "ok")
-
--- the trigger calls of an accepted restore count, and nothing else changes. A refused one changes nothing
-abbrev pub session_after_restore : (session : Session) → Session
-session_after_restore session =
-    if is_restore_refused session then session
-    else record session {
-      interrupt_line = interrupt_line_after_calls (answer_count (restore_answers session)) session.interrupt_line;
-    }
+-- the interrupt line refuses one of the calls that are due for a restore
+abbrev pub is_restore_refused : (mask : ℕ) (trace : Trace) → Bool
+is_restore_refused mask trace =
+    ends_in_refusal (trigger_answers mask (calls_made trace) (length (restore_calls_due fresh_state trace)))
 
 -- ---- the lines
 
--- the bytes that went out, or the chosen ones if they are not known
-abbrev pub output_or_chosen : (known : Option (List ℕ)) (chosen : List ℕ) → List ℕ
-output_or_chosen (Some bytes) chosen = bytes
-output_or_chosen None chosen = chosen
+-- the reply to a line after a trace, given the outcome of the byte if it sends one, and the bytes that it prints if it
+-- is an `so` after a loss
+abbrev pub serial_reply :
+    (mask : ℕ) (trace : Trace) (outcome : Outcome) (printed : List ℕ) (line : SerialCommand) → List ℕ
+serial_reply mask trace outcome printed (serial.Read offset) =
+    entry_reply trace (call_entry mask trace outcome (Read offset))
+serial_reply mask trace outcome printed (serial.Write offset value) =
+    entry_reply trace (call_entry mask trace outcome (Write offset value))
+serial_reply mask trace outcome printed (serial.Enqueue bytes) =
+    entry_reply trace (call_entry mask trace outcome (Enqueue bytes))
+serial_reply mask trace outcome printed serial.Capacity =
+    digits_reply ((64 - length (held_bytes fresh_state trace)) ∷ [])
+serial_reply mask trace outcome printed serial.Drain = digits_reply (drained_bytes trace)
+serial_reply mask trace outcome printed serial.Restore =
+    with_lf (if is_restore_refused mask trace then codes "trigger" else codes "ok")
+serial_reply mask trace outcome printed serial.Output =
+    digits_reply (if none_lost trace then output fresh_state [] trace else printed)
+serial_reply mask trace outcome printed serial.Calls = with_lf (count_digits (saturated (calls_made trace)))
+serial_reply mask trace outcome printed serial.Events = counts_reply (counts_of (events_reported trace))
 
--- the reply to a line, and the session after it
-abbrev pub serial_reply : (session : Session) (choice : Choice) (line : SerialCommand) → List ℕ
-serial_reply session choice (serial.Read offset) = call_reply session (Read offset) choice.loses
-serial_reply session choice (serial.Write offset value) = call_reply session (Write offset value) choice.loses
-serial_reply session choice (serial.Enqueue bytes) = call_reply session (Enqueue bytes) choice.loses
-serial_reply session choice serial.Capacity = digits_reply ((64 - length session.state.in_buffer) ∷ [])
-serial_reply session choice serial.Drain = digits_reply (drained_bytes session.state)
-serial_reply session choice serial.Restore = restore_reply session
-serial_reply session choice serial.Output = digits_reply (output_or_chosen session.output choice.printed)
-serial_reply session choice serial.Calls = with_lf (count_digits session.interrupt_line.calls)
-serial_reply session choice serial.Events = counts_reply session.counts
+-- the trace after a line. A refused restore changes nothing
+abbrev pub trace_after_line : (mask : ℕ) (trace : Trace) (outcome : Outcome) (line : SerialCommand) → Trace
+trace_after_line mask trace outcome (serial.Read offset) = call_entry mask trace outcome (Read offset) ∷ trace
+trace_after_line mask trace outcome (serial.Write offset value) =
+    call_entry mask trace outcome (Write offset value) ∷ trace
+trace_after_line mask trace outcome (serial.Enqueue bytes) = call_entry mask trace outcome (Enqueue bytes) ∷ trace
+trace_after_line mask trace outcome serial.Drain = after_rbr_reads (length (drained_bytes trace)) trace
+trace_after_line mask trace outcome serial.Restore =
+    if is_restore_refused mask trace then trace else restore_entry ∷ trace
+trace_after_line mask trace outcome _ = trace
 
-abbrev pub session_after_line : (session : Session) (choice : Choice) (line : SerialCommand) → Session
-session_after_line session choice (serial.Read offset) = session_after_call session (Read offset) choice.loses
-session_after_line session choice (serial.Write offset value) =
-    session_after_call session (Write offset value) choice.loses
-session_after_line session choice (serial.Enqueue bytes) = session_after_call session (Enqueue bytes) choice.loses
-session_after_line session choice serial.Drain = session_after_reads (length (drained_bytes session.state)) session
-session_after_line session choice serial.Restore = session_after_restore session
-session_after_line session choice _ = session
+-- whether a line sends a byte
+abbrev pub line_sends : (trace : Trace) (line : SerialCommand) → Bool
+line_sends trace (serial.Read offset) = sends trace (Read offset)
+line_sends trace (serial.Write offset value) = sends trace (Write offset value)
+line_sends trace (serial.Enqueue bytes) = sends trace (Enqueue bytes)
+line_sends trace _ = false
 
--- these are the replies to lines, in order, for some choices. No more than 256 bytes go out before a loss, since the
--- board's output has room for 256
-abbrev pub AreSerialReplies : (session : Session) (lines : List SerialCommand) (replies : List (List ℕ)) → Type 0
-AreSerialReplies session [] [] = ⊤
-AreSerialReplies session (line ∷ lines) (reply ∷ replies) =
-    (choice : Choice) × (reply ≡ serial_reply session choice line)
-    × IfSome (session_after_line session choice line).output (λ bytes. length bytes ≤ 256)
-    × AreSerialReplies (session_after_line session choice line) lines replies
-AreSerialReplies _ _ _ = ⊥
+-- whether it is an `so` after a loss
+abbrev pub prints_after_loss : (trace : Trace) (line : SerialCommand) → Bool
+prints_after_loss trace serial.Output = not (none_lost trace)
+prints_after_loss trace _ = false
 
--- ---- a session by the history of its calls
-
--- the session after calls, newest first, each with whether its byte is lost, and the trace of these calls
-abbrev pub session_after_calls : (session : Session) (calls : List (Op × Bool)) → Session
-session_after_calls session [] = session
-session_after_calls session (call ∷ calls) = session_after_call (session_after_calls session calls) call.0 call.1
-
-abbrev pub session_trace : (session : Session) (calls : List (Op × Bool)) → Trace
-session_trace session [] = []
-session_trace session (call ∷ calls) =
-    let before = session_after_calls session calls in
-    record { op = call.0; asked = session_answers before call.0; sent = session_outcome before call.0 call.1 }
-    ∷ session_trace session calls
-
--- from a coherent state, the port's state is that of the history, and a drain with DLAB clear reads what is held
-abbrev pub SessionStateLaw : Type 0
-SessionStateLaw = (session : Session) (calls : List (Op × Bool)) → Coherent session.state
-    → (session_after_calls session calls).state ≡ state_of_history session.state (session_trace session calls)
-
-abbrev pub DrainLaw : Type 0
-DrainLaw = (s : State) → Coherent s → drained_bytes s ≡ (if is_dlab s.line_control then [] else s.in_buffer)
-
--- from any state, the output is what the history says was sent, while no byte was lost
-abbrev pub SessionOutputLaw : Type 0
-SessionOutputLaw = (session : Session) (calls : List (Op × Bool))
-    → let trace = session_trace session calls in
-    (session_after_calls session calls).output
-    ≡ (if none_lost trace then option_map (λ before. before ++ output session.state [] trace) session.output
-    else None)
+-- the replies to lines, in order. Each byte that a line sends has the next of the outcomes, and each `so` after a loss
+-- prints the next of the bytes
+abbrev pub serial_replies :
+    (mask : ℕ) (trace : Trace) (lines : List SerialCommand) (outcomes : List Outcome) (printed : List (List ℕ))
+    → List (List ℕ)
+serial_replies mask trace [] outcomes printed = []
+serial_replies mask trace (line ∷ lines) outcomes printed =
+    let outcome = next_outcome outcomes in
+    serial_reply mask trace outcome (next_printed printed) line
+    ∷ serial_replies mask (trace_after_line mask trace outcome line) lines
+    (if line_sends trace line then drop 1 outcomes else outcomes)
+    (if prints_after_loss trace line then drop 1 printed else printed)

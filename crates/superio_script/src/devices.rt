@@ -15,8 +15,8 @@ use vm_superio::{I8042Device, Rtc, Serial};
 
 /// The devices that a script drives: a serial port, a clock and an i8042 controller.
 ///
-/// Between two lines, the serial port and the clock are each at a session: the port's state and what is known of its
-/// objects; the clock's start, and the accesses since. [`Board::line`] states which session a line leads to.
+/// In contracts a board is what the history says after a trace of the serial port's calls and restores, and after a list
+/// of the clock's accesses, both since the board was new. [`Board::line`] states what a line adds to them.
 #[derive(Drop)]
 pub struct Board {
     serial: Port,

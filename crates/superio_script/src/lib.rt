@@ -6,7 +6,6 @@ mod command;
 mod devices;
 mod driver;
 mod fields;
-pub mod laws;
 mod objects;
 mod replies;
 mod script;

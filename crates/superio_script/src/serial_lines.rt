@@ -3,7 +3,7 @@ ghost use Rattle.std.specs.Prelude.{◌≡◌, ◌<◌, IfOk, IfErr, OnErr};
 ghost use Rattle.vm_superio.specs.Serial.{write_response, enqueue_response, failure_response};
 ghost use Rattle.superio_script.specs.Reply.{response_reply, counts_reply};
 ghost use Rattle.superio_script.specs.Board.{IsSerialLineStep};
-ghost use Rattle.superio_script.specs.declared.command.SerialCommand.TheVariants.{Restore};
+ghost use Rattle.superio_script.specs.declared.command.SerialCommand.TheVariants.{Drain, Restore};
 
 use crate::command::SerialCommand;
 use crate::driver::drain;
@@ -13,8 +13,8 @@ use crate::replies::{
 };
 use std::alloc::Global;
 use std::mem;
-use vm_superio::Serial;
 use vm_superio::serial::Error;
+use vm_superio::{Serial, laws};
 
 /// The serial port of a board.
 pub(crate) type Port = Serial<Line, Counts, Output>;
@@ -32,6 +32,8 @@ pub(crate) fn serial_line(
     ensures only_memory { IfErr result (λ fault. fault ≡ LineFault.Memory) }
     ensures restores { OnErr result (line ≡ Restore) }
 {
+    laws::steps_of_history();
+    laws::calls_of_history();
     match line {
         SerialCommand::Read { offset } => Ok(reply_byte(serial.read(offset))),
         SerialCommand::Write { offset, value } => Ok(write_result_reply(serial.write(
@@ -41,7 +43,7 @@ pub(crate) fn serial_line(
             Ok(enqueue_result_reply(serial.enqueue_raw_bytes(bytes.as_slice())))
         }
         SerialCommand::Capacity => Ok(reply_byte(serial.fifo_capacity() as u8)),
-        SerialCommand::Drain => Ok(reply_digits(&drain(serial))),
+        SerialCommand::Drain => Ok(drain_line(serial)),
         SerialCommand::Restore => restore(alloc, serial),
         SerialCommand::Output => Ok(reply_digits(serial.writer().bytes())),
         SerialCommand::Calls => Ok(reply_count(serial.interrupt_evt().calls())),
@@ -65,6 +67,17 @@ fn reply_events(counts: &Counts) -> Reply
     reply
 }
 
+/// Reads what the port holds, as a driver does.
+fn drain_line(serial: &mut Port) -> Reply
+    ensures step { IsSerialLineStep Drain result.items serial.old serial.new }
+{
+    laws::steps_of_history();
+    laws::calls_of_history();
+    laws::states_of_history();
+    laws::coherence();
+    reply_digits(&drain(serial))
+}
+
 /// Makes the port again from its own state, with copies of its interrupt line and counts, and with its output. If the
 /// copy of the interrupt line refuses a call, the old port stays.
 fn restore(alloc: Global, serial: &mut Port) -> Result<Reply, LineFault>
@@ -72,6 +85,7 @@ fn restore(alloc: Global, serial: &mut Port) -> Result<Reply, LineFault>
     ensures unchanged { OnErr result (serial.new ≡ serial.old) }
     ensures only_memory { IfErr result (λ fault. fault ≡ LineFault.Memory) }
 {
+    laws::steps_of_history();
     let Ok(state) = serial.state(alloc) else {
         return Err(LineFault::Memory);
     };

@@ -4,8 +4,8 @@ use Rattle.std.proofs.lemmas.Option.{IfSome_then}
 use Rattle.std.proofs.lemmas.Result.{on_ok_weaker}
 use Rattle.std.specs.Io.KnownBytes.{Keeps, append_known}
 use Rattle.std.specs.Io.Buffered.{writer_inner, writer_contents}
-use Rattle.superio_script.specs.Script.{body_of, PrintsLines, RunsUpTo, StopsWithoutMemory}
-use Rattle.superio_script.proofs.ScriptLemmas.{Appends-then_kept}
+use Rattle.superio_script.specs.Script.{RunsUpTo, StopsWithoutMemory}
+use Rattle.superio_script.proofs.ScriptLemmas.{PrintsLines-kept}
 use Rattle.superio.proofs.run_buffered.Goals as goal
 
 -- a buffer that holds nothing adds nothing
@@ -14,17 +14,13 @@ Keeps-behind before None empty kept = kept
 Keeps-behind before (Some bytes) empty kept =
     subst (λ bytes. Keeps before (Some bytes)) (ap (λ buffer. bytes ++ buffer) empty ∙ append-nil bytes) kept
 
-PrintsLines-kept : (mask : ℕ) (lines : List (List ℕ)) (before middle after : Option (List ℕ)) → Keeps middle after
-    → PrintsLines mask lines before middle → PrintsLines mask lines before after
-PrintsLines-kept mask lines before middle after kept (text, is, appended) = (text, is, Appends-then_kept before middle after text appended kept)
-
 RunsUpTo-kept : {bad : Option ℕ} {script : List ℕ} {left before middle : Option (List ℕ)} (after : Option (List ℕ)) → Keeps middle after
     → RunsUpTo bad script left before middle → RunsUpTo bad script left before after
 RunsUpTo-kept {script = script} {before = before} {middle = middle} after kept run = record {
   within_limit = run.within_limit;
   none_left = run.none_left;
   first_bad = run.first_bad;
-  text = PrintsLines-kept (body_of script).mask (body_of script).lines before middle after kept run.text;
+  text = PrintsLines-kept before middle after run.text kept;
 }
 
 StopsWithoutMemory-kept : {mask : ℕ} {lines : List (List ℕ)} {before middle : Option (List ℕ)} (after : Option (List ℕ)) → Keeps middle after
@@ -36,7 +32,7 @@ StopsWithoutMemory-kept {mask = mask} {before = before} {middle = middle} after 
   split = stops.split;
   all_good = stops.all_good;
   restores = stops.restores;
-  text = PrintsLines-kept mask stops.earlier before middle after kept stops.text;
+  text = PrintsLines-kept before middle after stops.text kept;
 }
 
 pub returns-in-Ok-clause-ok : goal.returns-in-Ok-clause-ok

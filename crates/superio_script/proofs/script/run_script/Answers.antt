@@ -2,7 +2,7 @@
 use Rattle.std.proofs.Common.{rules, arith, ◌≡◌, Some, None, IfSome, List, ℕ}
 use Rattle.std.proofs.lemmas.Option.{IfSome_then}
 use Rattle.superio_script.specs.Script.{body_of, PrintsLines, RunsUpTo}
-use Rattle.superio_script.proofs.ScriptLemmas.{Appends-then_kept}
+use Rattle.superio_script.proofs.ScriptLemmas.{PrintsLines-kept}
 use Rattle.superio_script.proofs.LineLemmas.{length-lines_of-le}
 use Rattle.superio_script.proofs.script.run_script.Goals as goal
 
@@ -35,6 +35,6 @@ returns-clause-ok g c =
       within_limit = search rules;
       none_left = search rules;
       first_bad = search (rules, ok.0);
-      text = (printed.0, printed.1, Appends-then_kept start middle end printed.0 printed.2 c.flush.ensures.bytes);
+      text = PrintsLines-kept start middle end printed c.flush.ensures.bytes;
     }) in
     search (rules, runs)

@@ -1,24 +1,22 @@
--- Each line is a step of the session.
-use Rattle.superio_script.specs.Board.{IsSerialLineStep}
-use Rattle.superio_script.proofs.SerialScriptLemmas.{call_line-step, drain-step}
+-- Each line that calls the port leads to the trace with the call's entry.
+use Rattle.std.proofs.Common.{refl}
+use Rattle.superio_script.specs.declared.command.SerialCommand.TheVariants.{Read, Write, Enqueue}
+use Rattle.superio_script.proofs.SerialScriptLemmas.{call-step}
 use Rattle.superio_script.proofs.serial_lines.serial_line.Goals as goal
 
 pub returns-in-Read-clause-step : goal.returns-in-Read-clause-step
-unfolding IsSerialLineStep
-returns-in-Read-clause-step c = rw (c.in-Read.is, c.reply_byte.ensures) (call_line-step c.read.ensures.step)
+returns-in-Read-clause-step c = rw (c.in-Read.is, c.reply_byte.ensures) (λ mask trace at.
+    call-step c.steps_of_history.ensures c.calls_of_history.ensures c.read.ensures.step mask trace at refl
+    (Read c.in-Read.offset) (λ outcome. refl) (λ outcome. refl))
 
 pub returns-in-Write-clause-step : goal.returns-in-Write-clause-step
-unfolding IsSerialLineStep
-returns-in-Write-clause-step c = rw (c.in-Write.is, c.write_result_reply.ensures) (call_line-step c.write.ensures.step.step)
+returns-in-Write-clause-step c = rw (c.in-Write.is, c.write_result_reply.ensures) (λ mask trace at.
+    call-step c.steps_of_history.ensures c.calls_of_history.ensures c.write.ensures.step.step mask trace at refl
+    (Write c.in-Write.offset c.in-Write.value) (λ outcome. refl) (λ outcome. refl))
 
 pub returns-in-Enqueue-clause-step : goal.returns-in-Enqueue-clause-step
-unfolding IsSerialLineStep
 returns-in-Enqueue-clause-step c =
     let step = rw c.as_slice.ensures at c.enqueue_raw_bytes.ensures.step in
-    rw (c.in-Enqueue.is, c.enqueue_result_reply.ensures) (call_line-step step.step)
-
-pub returns-in-Drain-clause-step : goal.returns-in-Drain-clause-step
-returns-in-Drain-clause-step c =
-    let made = c.drain.ensures in
-    rw (c.in-Drain.is, c.reply_digits.ensures, c.deref.ensures.0)
-    (drain-step c.drain.result.items c.args.serial.now c.drain.new.serial made.reads made.at_most_64 made.dlab_reads_nothing made.stops_when_not_ready)
+    rw (c.in-Enqueue.is, c.enqueue_result_reply.ensures) (λ mask trace at.
+    call-step c.steps_of_history.ensures c.calls_of_history.ensures step.step mask trace at refl
+    (Enqueue c.in-Enqueue.bytes) (λ outcome. refl) (λ outcome. refl))

@@ -1,22 +1,22 @@
--- After a line of the serial port its session goes on, and after one of the clock its accesses.
+-- A line of the serial port leads from its trace to another, and one of the clock adds its access.
 use Rattle.std.proofs.Common.{◌≡◌, ℕ, List, ◌∷◌, Result, Ok, Err, sym, subst, IfOk, OnErr}
 use Rattle.vm_superio.specs.Rtc.{ClockDevice}
 use Rattle.vm_superio.specs.Serial.{Port}
 use Rattle.superio_script.specs.Board.{IsBetweenLines, IsSerialLineStep}
 use Rattle.superio_script.specs.ClockScript.{access_of_line}
 use Rattle.superio_script.specs.Objects.{Line, Counts, Output}
-use Rattle.superio_script.specs.SerialScript.{session_after_line}
+use Rattle.superio_script.specs.SerialScript.{trace_after_line}
 use Rattle.superio_script.specs.declared.command.SerialCommand.{SerialCommand}
 use Rattle.superio_script.proofs.devices.Board.line.Goals as goal
 
 after-serial_line :
     {Reply Failure : Type 0} (items : Reply → List ℕ) (line : SerialCommand) (result : Result Reply Failure) (old new : Port Line Counts Output) (rtc : ClockDevice Counts) (reset_line : Line) →
     IfOk result (λ reply. IsSerialLineStep line (items reply) old new) → OnErr result (new ≡ old) → IsBetweenLines old rtc reset_line → IsBetweenLines new rtc reset_line
-unfolding IsSerialLineStep
 after-serial_line items line (Ok reply) old new rtc reset_line step unchanged before =
-    let taken = step before.session before.serial in record {
-      session = session_after_line before.session taken.0 line;
-      serial = taken.2;
+    let taken = step before.mask before.trace before.serial in record {
+      mask = before.mask;
+      trace = trace_after_line before.mask before.trace taken.outcome line;
+      serial = taken.after;
       accesses = before.accesses;
       clock = before.clock;
       controller = before.controller;
@@ -32,7 +32,8 @@ invariant_of-self c =
 pub invariant_of-self-in-Clock : goal.invariant_of-self-in-Clock
 invariant_of-self-in-Clock c =
     let before = c.self-in-Clock.invariant in record {
-      session = before.session;
+      mask = before.mask;
+      trace = before.trace;
       serial = before.serial;
       accesses = access_of_line c.in-Clock.line ∷ before.accesses;
       clock = (c.clock_line.ensures.step before.accesses before.clock).1;

@@ -2,7 +2,6 @@
 use Rattle.std.proofs.Common.{rules, ◌≡◌, ◌∙◌, []}
 use Rattle.superio_core.specs.Rtc.{fresh_clock}
 use Rattle.vm_superio.proofs.Lemmas.Rtc.{fresh_clock-history}
-use Rattle.superio_script.specs.SerialScript.{fresh_session}
 use Rattle.superio_script.proofs.SerialScriptLemmas.{at-start}
 use Rattle.superio_script.proofs.devices.Board.new.Goals as goal
 
@@ -10,9 +9,17 @@ pub invariant_of-result : goal.invariant_of-result
 invariant_of-result c =
     let fresh : c.with_events.result.state ≡ fresh_clock = search rules in
     record {
-      session = fresh_session c.args.mask;
+      mask = c.args.mask;
+      trace = [];
       serial = at-start c.args.mask _ (search rules) (search rules) (search rules) (search rules);
       accesses = [];
       clock = fresh ∙ fresh_clock-history;
       controller = search rules;
     }
+
+pub returns-clause-fresh : goal.returns-clause-fresh
+returns-clause-fresh c = record {
+  serial = at-start c.args.mask _ (search rules) (search rules) (search rules) (search rules);
+  clock = search rules;
+  controller = search rules;
+}
