@@ -1,5 +1,5 @@
 -- A driver that reads while LSR shows data ready takes all bytes of a port in a coherent state, and stops in any state.
-use Rattle.std.proofs.Common.{◌≡◌, ◌≢◌, lit<, ℕ, zero, suc, ◌+◌, ◌-◌, ◌<◌, ◌≤◌, Bool, true, false, ◌==◌, List, [], ◌∷◌, ◌++◌, length, refl, ap, sym, ◌∙◌, subst, arith, ◌↔◌, IsTrue, bit_and, drop, slice_index, if◌then◌else◌, ◌&&◌, mod-lt}
+use Rattle.std.proofs.Common.{◌≡◌, ◌≢◌, lit<, ℕ, suc, ◌+◌, ◌-◌, ◌<◌, ◌≤◌, Bool, true, false, ◌==◌, List, [], ◌∷◌, ◌++◌, length, ap, sym, ◌∙◌, subst, arith, ◌↔◌, IsTrue, bit_and, drop, slice_index, if◌then◌else◌, ◌&&◌, mod-lt}
 use Rattle.std.proofs.lemmas.Bool.{false≢true}
 use Rattle.std.specs.Int.Bits.{and_mask}
 use Rattle.vm_superio.specs.Links.{Link, TriggerAnswer, Contents}
@@ -7,7 +7,7 @@ use Rattle.vm_superio.specs.Serial.{Port, has_bits, without_bits, State, not_emp
 use Rattle.vm_superio.specs.Serial.Step.{IsReadStep}
 use Rattle.vm_superio.specs.Serial.Laws.{CoherenceLaw}
 use Rattle.vm_superio.specs.Serial.Laws.OneCall.{RbrDataReadyLaw}
-use Rattle.superio_script.specs.Driver.{IsReady, ReadsWhileReady, bytes_while_ready, without_bytes, drain_events, TakesAll}
+use Rattle.superio_script.specs.Driver.{IsReady, ReadsWhileReady, without_bytes, drain_events, TakesAll}
 
 -- ---- how many reads are to come
 
@@ -82,23 +82,6 @@ module _ {T E EV W : Type 0} {trigger : Link T (TriggerAnswer E)} {events : Link
             ∙ one-less old.state.in_buffer (has_bits new.state.line_status 0x01) still
             ∙ ap (λ shown. if shown then 1 + (length old.state.in_buffer - 1) else 0) (sym ready);
       }
-
--- a driver reads what the steps say, if its reads end because LSR does not show data ready
-module _ {T E EV W : Type 0} (trigger : Link T (TriggerAnswer E)) (events : Link EV Event) (contents : Contents W) where
-  pub reads-are_stepped : (most : ℕ) (bytes : List ℕ) (old new : Port T EV W) → is_dlab old.state.line_control ≡ false
-      → ReadsWhileReady trigger events contents bytes old new → has_bits new.state.line_status 0x01 ≡ false
-      → length bytes ≤ most → bytes ≡ bytes_while_ready most old.state
-  reads-are_stepped zero [] old new hidden same ended few = refl
-  reads-are_stepped (suc most) [] old new hidden same ended few =
-      ap (λ ready. if ready then register_read RbrThr old.state ∷ bytes_while_ready most (rbr_read old.state) else [])
-      (sym (ap (λ (port : Port T EV W). has_bits port.state.line_status 0x01) (sym same) ∙ ended))
-  reads-are_stepped zero (byte ∷ bytes) old new hidden (ready, (middle, made, later)) ended few = absurd (omega (arith, few))
-  reads-are_stepped (suc most) (byte ∷ bytes) old new hidden (ready, (middle, made, later)) ended few =
-      let read = rbr_read-from_step hidden made in
-      let rest = reads-are_stepped most bytes middle new (ap (λ (s : State). is_dlab s.line_control) read.state ∙ hidden) later ended (omega (arith, few)) in
-      ap (λ first. first ∷ bytes) read.value
-      ∙ ap (λ more. register_read RbrThr old.state ∷ more) (rest ∙ ap (bytes_while_ready most) read.state)
-      ∙ ap (λ shown. if shown then register_read RbrThr old.state ∷ bytes_while_ready most (rbr_read old.state) else []) (sym ready)
 
 -- ---- all bytes
 

@@ -1,5 +1,5 @@
 -- What the lines so far add to what was written, whatever is still to come, and what was written when a run ends.
-use Rattle.std.proofs.Common.{arith, ◌≡◌, ℕ, ◌+◌, ◌≤◌, List, [], ◌∷◌, ◌++◌, length, Bool, Option, Some, None, refl, ap, sym, ◌∙◌, subst, append_assoc, append-nil, length-append, IsTrue, IsSomeAnd, is_some, if◌then◌else◌, nat_le}
+use Rattle.std.proofs.Common.{arith, ◌≡◌, ℕ, ◌+◌, ◌≤◌, List, [], ◌∷◌, ◌++◌, length, Bool, Option, Some, None, refl, ap, sym, ◌∙◌, subst, append_assoc, append-nil, length-append, IsTrue, IsSomeAnd, is_some, if◌then◌else◌, nat_le, codes}
 use Rattle.std.specs.Cmp.Derive.{both_true}
 use Rattle.std.proofs.lemmas.Bool.{and_parts}
 use Rattle.std.proofs.lemmas.Bool.Decides.{nat_tests}
@@ -11,7 +11,7 @@ use Rattle.vm_superio.specs.Serial.{Port, Trace}
 use Rattle.vm_superio.proofs.Lemmas.{Appends-nothing, Appends-append}
 use Rattle.vm_superio.proofs.Lemmas.Rtc.{fresh_clock-history}
 use Rattle.superio_script.specs.Objects.{Line, Counts, Output}
-use Rattle.superio_script.specs.Command.{command_of, IsRestoreLine, Command, Serial, Clock, Controller}
+use Rattle.superio_script.specs.Command.{command_of, Command, Serial, Clock, Controller}
 use Rattle.superio_script.specs.SerialScript.{Outcome, outcomes_of, all_short, trace_after_line, prints_after_loss}
 use Rattle.superio_script.specs.ClockScript.{clock_after, access_of_line, clock_replies}
 use Rattle.superio_script.specs.Board.{Devices, IsAfter, IsFresh, IsLineStep}
@@ -230,14 +230,12 @@ module _ {mask : ℕ} {start before : Option (List ℕ)} {all rest : List (List 
     Prints-before_bad none = Prints-so_far (ap good_commands next ∙ ap (λ (command : Option Command). until_bad command (good_commands more)) none)
 
     -- the next line is an `ss`, and memory was refused
-    pub Stops-here : IsRestoreLine line → StopsWithoutMemory mask all start before
+    pub Stops-here : line ≡ codes "ss" → StopsWithoutMemory mask all start before
     Stops-here restores = record {
       earlier = carried.earlier;
-      line = line;
       later = more;
-      split = split-here;
+      split = split-here ∙ ap (λ line. carried.earlier ++ line ∷ more) restores;
       all_good = carried.all_good;
-      restores = restores;
       text = prints carried.earlier [] (sym (append-nil carried.earlier)) refl;
     }
 

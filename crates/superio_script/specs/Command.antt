@@ -1,5 +1,5 @@
 -- The forms of a line: what a line asks for.
-use Rattle.std.specs.Prelude.{◌≡◌, ℕ, ◌==◌, List, [], ◌∷◌, if◌then◌else◌, codes, Option, Some, None, option_map, bytes_eq}
+use Rattle.std.specs.Prelude.{ℕ, ◌==◌, List, [], ◌∷◌, if◌then◌else◌, codes, Option, None, option_map, bytes_eq}
 use Rattle.std.specs.Int.{w8, w16, w32, w64}
 use Rattle.superio_script.specs.Fields.{number, bytes, end, fields_of}
 pub use Rattle.superio_script.specs.declared.command.Command.{Command}
@@ -69,12 +69,6 @@ command_of_fields (name ∷ fields) = command_of_name name fields
 -- what a line asks for, or `None` if it has no form
 abbrev pub command_of : (line : List ℕ) → Option Command
 command_of line = command_of_fields (fields_of line)
-
--- ---- the line that takes memory
-
--- the line `ss` takes memory, and no other does
-abbrev pub IsRestoreLine : (line : List ℕ) → Type 0
-IsRestoreLine line = command_of line ≡ Some (Serial serial.Restore)
 
 -- ---- the first line
 

@@ -1,8 +1,8 @@
 -- A driver on the guest's side of a serial port, which polls.
-use Rattle.std.specs.Prelude.{◌≡◌, ◌++◌, ℕ, zero, suc, false, if◌then◌else◌, List, [], ◌∷◌, length, IsTrue}
+use Rattle.std.specs.Prelude.{◌≡◌, ◌++◌, ℕ, zero, suc, false, List, [], ◌∷◌, length, IsTrue}
 use Rattle.std.specs.List.{repeat}
 use Rattle.vm_superio.specs.Links.{Link, TriggerAnswer, Contents}
-use Rattle.vm_superio.specs.Serial.{Port, has_bits, without_bits, lsr_dr_bit, State, RbrThr, Thre, register_read, iir_bit, identification_of, Event, buffer_read, in_buffer_empty, rbr_read}
+use Rattle.vm_superio.specs.Serial.{Port, has_bits, without_bits, lsr_dr_bit, State, Thre, iir_bit, identification_of, Event, buffer_read, in_buffer_empty}
 use Rattle.vm_superio.specs.Serial.Step.{IsReadStep}
 
 -- LSR shows data ready
@@ -17,12 +17,6 @@ module _ {T E EV W : Type 0} (trigger : Link T (TriggerAnswer E)) (events : Link
       IsReady old.state
       × ((middle : Port T EV W) × IsReadStep trigger events contents 0 byte old middle
       × ReadsWhileReady bytes middle new)
-
--- the bytes that at most so many reads of RBR give, each while LSR shows data ready
-abbrev pub bytes_while_ready : (reads : ℕ) (s : State) → List ℕ
-bytes_while_ready zero s = []
-bytes_while_ready (suc others) s =
-    if has_bits s.line_status lsr_dr_bit then register_read RbrThr s ∷ bytes_while_ready others (rbr_read s) else []
 
 -- the state without its received bytes: LSR does not show data ready, RDA is not pending, and all else is the same
 abbrev pub without_bytes : (s : State) → State

@@ -1,9 +1,9 @@
 -- The text of a script: what a run of it prints.
-use Rattle.std.specs.Prelude.{◌≡◌, ℕ, ◌+◌, ◌≤◌, List, [], ◌∷◌, ◌++◌, length, map, if◌then◌else◌, Bool, Option, Some, None, is_some, IsTrue}
+use Rattle.std.specs.Prelude.{◌≡◌, ℕ, ◌+◌, ◌≤◌, List, [], ◌∷◌, ◌++◌, length, map, if◌then◌else◌, Bool, Option, Some, None, is_some, IsTrue, codes}
 use Rattle.std.specs.List.{list_all}
 use Rattle.std.specs.Io.KnownBytes.{Appends, Consumes, IsAtEnd}
 use Rattle.superio_script.specs.Fields.{lines_of}
-use Rattle.superio_script.specs.Command.{command_of, mask_of, IsRestoreLine, Command, Serial, Clock, Controller, SerialCommand, ClockCommand, ControllerCommand}
+use Rattle.superio_script.specs.Command.{command_of, mask_of, Command, Serial, Clock, Controller, SerialCommand, ClockCommand, ControllerCommand}
 use Rattle.superio_script.specs.Reply.{controller_reply}
 use Rattle.vm_superio.specs.Rtc.{Access}
 use Rattle.vm_superio.specs.Serial.{Trace}
@@ -121,15 +121,13 @@ pub record RunsUpTo (bad : Option ℕ) (script : List ℕ) (left before after : 
 abbrev pub ReadsBytes : (count : ℕ) (before after : Option (List ℕ)) → Type 0
 ReadsBytes count before after = (bytes : List ℕ) × Consumes before after bytes × (length bytes ≡ count)
 
--- a run of these lines ended at a line for which memory was refused: it is an `ss`, all lines before it are
--- good, and their text was written
+-- a run of these lines ended at an `ss` for which memory was refused: all lines before it are good, and their text was
+-- written
 pub record StopsWithoutMemory (mask : ℕ) (lines : List (List ℕ)) (before after : Option (List ℕ)) : Type 0 where
   pub earlier : List (List ℕ)
-  pub line : List ℕ
   pub later : List (List ℕ)
-  pub split : lines ≡ earlier ++ line ∷ later
+  pub split : lines ≡ earlier ++ codes "ss" ∷ later
   pub all_good : IsTrue (list_all has_form earlier)
-  pub restores : IsRestoreLine line
   pub text : PrintsLines mask earlier before after
 
 -- the same of a run of this script

@@ -1,6 +1,6 @@
 //! A board of devices, and the lines that drive it.
-ghost use Rattle.std.specs.Prelude.{◌≡◌, ◌↔◌, IfOk, IfErr, IsSomeAnd, IsErrOf, OnErr};
-ghost use Rattle.superio_script.specs.Command.{command_of, IsRestoreLine};
+ghost use Rattle.std.specs.Prelude.{◌≡◌, ◌↔◌, codes, IfOk, IfErr, IsSomeAnd, IsErrOf, OnErr};
+ghost use Rattle.superio_script.specs.Command.{command_of};
 ghost use Rattle.superio_script.specs.Reply.{controller_reply};
 ghost use Rattle.superio_script.specs.declared.replies.LineFault.TheVariants.{Bad, Memory};
 
@@ -61,9 +61,10 @@ impl Board {
     ///
     /// Returns [`LineFault::Bad`] if the line has no form or is `refuse`. Returns [`LineFault::Memory`] if memory is
     /// refused for the line `ss`. The board is unchanged after both.
+    #[tactic(auto, using(crate::proofs::RestoreLine::restore_line))]
     pub fn line(&mut self, alloc: Global, line: &[u8]) -> Result<Reply, LineFault>
         ensures bad { IsErrOf result LineFault.Bad ↔ (command_of line.now ≡ None) }
-        ensures memory { result ≡ Err LineFault.Memory → IsRestoreLine line.now }
+        ensures memory { result ≡ Err LineFault.Memory → line.now ≡ codes "ss" }
         ensures step { IfOk result (λ reply.
             IsSomeAnd (command_of line.now) (λ command. IsLineStep command reply.items self.old self.new)) }
         ensures unchanged { OnErr result (self.new ≡ self.old) }

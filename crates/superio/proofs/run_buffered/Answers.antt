@@ -27,11 +27,9 @@ StopsWithoutMemory-kept : {mask : ℕ} {lines : List (List ℕ)} {before middle 
     → StopsWithoutMemory mask lines before middle → StopsWithoutMemory mask lines before after
 StopsWithoutMemory-kept {mask = mask} {before = before} {middle = middle} after kept stops = record {
   earlier = stops.earlier;
-  line = stops.line;
   later = stops.later;
   split = stops.split;
   all_good = stops.all_good;
-  restores = stops.restores;
   text = PrintsLines-kept before middle after stops.text kept;
 }
 

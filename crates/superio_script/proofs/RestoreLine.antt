@@ -1,0 +1,98 @@
+-- The line that asks for a save and restore is `ss`.
+use Rattle.std.proofs.Common.{◌≡◌, ◌≢◌, ℕ, ◌==◌, Bool, true, false, List, [], ◌∷◌, Option, Some, None, IsTrue, if◌then◌else◌, codes, option_map, refl, ap, ◌∙◌, arith}
+use Rattle.std.specs.Str.{bytes_eq}
+use Rattle.std.proofs.lemmas.Slice.Eq.{bytes_eq-Decides}
+use Rattle.std.proofs.lemmas.Option.{option_and_then_some}
+use Rattle.std.specs.Int.{Width, w8}
+use Rattle.superio_script.specs.Fields.{prepend_to_first, pieces_of, fields_of, number, bytes, end, first_number, first_bytes, later_fields}
+use Rattle.superio_script.specs.Command.{by_form, serial_forms, clock_forms, controller_forms, command_of_name, command_of_fields, command_of, SerialCommand, ClockCommand, ControllerCommand, Serial, Clock, Controller}
+use Rattle.superio_script.specs.declared.command.SerialCommand.TheVariants as line
+
+-- ---- a line of one field
+
+-- there is always a piece
+pieces_of-some : (separator : ℕ) (xs : List ℕ) → pieces_of separator ([] ∷ []) xs ≢ []
+pieces_of-some separator [] none = absurd cc
+pieces_of-some separator (x ∷ xs) none = by_test (x == separator) (pieces_of separator ([] ∷ []) xs) none
+  where
+    by_test : (found : Bool) (pieces : List (List ℕ)) → (if found then [] ∷ pieces else prepend_to_first x pieces) ≡ [] → ⊥
+    by_test found pieces none = grind arith
+
+-- a line of one field is that field
+one-field : (xs field : List ℕ) → fields_of xs ≡ field ∷ [] → xs ≡ field
+one-field [] field one = cc
+one-field (x ∷ xs) field one = by_test (x == 32) (fields_of xs) (one-field xs) (pieces_of-some 32 xs) one
+  where
+    by_test : (found : Bool) (pieces : List (List ℕ)) → ((piece : List ℕ) → pieces ≡ piece ∷ [] → xs ≡ piece) → pieces ≢ [] →
+        (if found then [] ∷ pieces else prepend_to_first x pieces) ≡ field ∷ [] → x ∷ xs ≡ field
+    by_test true pieces rest some one =
+        let none : pieces ≡ [] = cc in
+        absurd (some none)
+    by_test false [] rest some one = absurd (some refl)
+    by_test false (piece ∷ pieces) rest some one =
+        let none : pieces ≡ [] = cc in
+        let first : x ∷ piece ≡ field = cc in
+        ap (λ xs. x ∷ xs) (rest piece (ap (λ pieces. piece ∷ pieces) none)) ∙ first
+
+-- ---- the form
+
+-- fields that give one command give no other
+module _ {A : Type 0} (other : A) where
+  end-other : (command : A) → command ≢ other → (fields : List (List ℕ)) → end command fields ≢ Some other
+  end-other command differs [] is = differs cc
+  end-other command differs (field ∷ fields) is = absurd cc
+
+  number-other : (width : Width) (next : ℕ → List (List ℕ) → Option A) → ((value : ℕ) (fields : List (List ℕ)) → next value fields ≢ Some other)
+      → (fields : List (List ℕ)) → number width next fields ≢ Some other
+  number-other width next never fields is =
+      option_and_then_some (λ value. next value (later_fields fields)) (first_number width fields) other is
+      (λ value _ e. never value (later_fields fields) e)
+
+  bytes-other : (next : List ℕ → List (List ℕ) → Option A) → ((value : List ℕ) (fields : List (List ℕ)) → next value fields ≢ Some other)
+      → (fields : List (List ℕ)) → bytes next fields ≢ Some other
+  bytes-other next never fields is =
+      option_and_then_some (λ value. next value (later_fields fields)) (first_bytes fields) other is
+      (λ value _ e. never value (later_fields fields) e)
+
+restore-form : (name : List ℕ) (fields : List (List ℕ)) → by_form serial_forms name fields ≡ Some line.Restore
+    → IsTrue (bytes_eq name (codes "ss")) × (end line.Restore fields ≡ Some line.Restore)
+restore-form name fields is = grind (
+  arith,
+  number-other line.Restore w8 (λ offset. end (line.Read offset)) (λ offset. end-other line.Restore (line.Read offset) (λ e. cc)) fields,
+  number-other line.Restore w8 (λ offset. number w8 (λ value. end (line.Write offset value)))
+      (λ offset. number-other line.Restore w8 (λ value. end (line.Write offset value)) (λ value. end-other line.Restore (line.Write offset value) (λ e. cc))) fields,
+  bytes-other line.Restore (λ value. end (line.Enqueue value)) (λ value. end-other line.Restore (line.Enqueue value) (λ e. cc)) fields,
+  end-other line.Restore line.Capacity (λ e. cc) fields,
+  end-other line.Restore line.Drain (λ e. cc) fields,
+  end-other line.Restore line.Output (λ e. cc) fields,
+  end-other line.Restore line.Calls (λ e. cc) fields,
+  end-other line.Restore line.Events (λ e. cc) fields,
+)
+
+ended : (fields : List (List ℕ)) → end line.Restore fields ≡ Some line.Restore → fields ≡ []
+ended [] is = refl
+ended (field ∷ fields) is = absurd cc
+
+by_letter : (letter : ℕ) (serial : Option SerialCommand) (clock : Option ClockCommand) (controller : Option ControllerCommand) →
+    (if letter == 0x73 then option_map (λ line. Serial line) serial
+    else (if letter == 0x63 then option_map (λ line. Clock line) clock
+    else (if letter == 0x6B then option_map (λ line. Controller line) controller
+    else None))) ≡ Some (Serial line.Restore) → serial ≡ Some line.Restore
+by_letter letter serial clock controller is = grind arith
+
+restore-name : (name : List ℕ) (fields : List (List ℕ)) → command_of_name name fields ≡ Some (Serial line.Restore) → name ∷ fields ≡ codes "ss" ∷ []
+restore-name [] fields is = absurd cc
+restore-name (letter ∷ letters) fields is =
+    let name = letter ∷ letters in
+    let (named, alone) = restore-form name fields
+    (by_letter letter (by_form serial_forms name fields) (by_form clock_forms name fields) (by_form controller_forms name fields) is) in
+    ap (λ name. name ∷ fields) ((bytes_eq-Decides name (codes "ss")).0 named) ∙ ap (λ fields. codes "ss" ∷ fields) (ended fields alone)
+
+pub restore_line-is_ss : (text : List ℕ) → command_of text ≡ Some (Serial line.Restore) → text ≡ codes "ss"
+restore_line-is_ss text is = one-field text (codes "ss") (by_fields (fields_of text) is)
+  where
+    by_fields : (fields : List (List ℕ)) → command_of_fields fields ≡ Some (Serial line.Restore) → fields ≡ codes "ss" ∷ []
+    by_fields [] is = absurd cc
+    by_fields (name ∷ fields) is = restore-name name fields is
+
+pub ruleset restore_line = (restore_line-is_ss)
