@@ -1,6 +1,6 @@
 pub mod DriverLemmas
+pub mod Examples
 pub mod LineLemmas
 pub mod RestoreLine
-pub mod Rows
 pub mod ScriptLemmas
 pub mod SerialScriptLemmas

@@ -15,8 +15,8 @@ pub record Devices : Type 0 where
   pub clock : ClockDevice Counts
   pub controller : Line
 
--- a board's serial port after this trace, if its interrupt line has this mask: its state and its objects. The trace is
--- well-formed. While no byte is lost, the output is known
+-- a board's serial port after this trace, with this mask of its interrupt line: the history gives its state and its
+-- objects, the output only while no byte is lost. Before the first loss the output takes at most 256 bytes
 pub record IsAfter (mask : ℕ) (trace : Trace) (port : Port Line Counts Output) : Type 0 where
   pub state : port.state ≡ state_of_history fresh_state trace
   pub interrupt_line : port.trigger ≡ interrupt_line_after mask (calls_made trace)
@@ -25,8 +25,8 @@ pub record IsAfter (mask : ℕ) (trace : Trace) (port : Port Line Counts Output)
   pub well_formed : IsTrue (is_well_formed fresh_state trace)
   pub within_room : out_before_loss (outcomes_of trace) ≤ 256
 
--- a board between two lines: a trace led to the serial port, and accesses to the clock. The reset line was never called,
--- since a fresh controller replaces one that was reset
+-- a board between two lines: some trace led to the serial port, and some accesses to the clock. The reset line was never
+-- called, since a fresh controller replaces one that was reset
 pub record IsBetweenLines
     (port : Port Line Counts Output) (rtc : ClockDevice Counts) (reset_line : Line) :
     Type 0 where
@@ -37,14 +37,16 @@ pub record IsBetweenLines
   pub clock : rtc.state ≡ clock_after accesses
   pub controller : reset_line ≡ fresh_interrupt_line 0
 
--- a board of fresh devices. The mask is that of the serial port's interrupt line; the reset line refuses nothing
+-- a board of fresh devices: no trace and no accesses led to it. The serial port's interrupt line has this mask, and the
+-- reset line refuses nothing
 pub record IsFresh (mask : ℕ) (board : Devices) : Type 0 where
+  pub state : board.serial.state ≡ fresh_state
   pub serial : IsAfter mask [] board.serial
   pub clock : board.clock ≡ record { state = fresh_clock; events = no_counts }
   pub controller : board.controller ≡ fresh_interrupt_line 0
 
--- a line of the serial port. After any trace that leads to the port, the reply is the trace's, for some outcome and some
--- printed bytes, and the port is then after the trace that the line leaves
+-- a line of the serial port, after a trace. For some outcome and some printed bytes the trace gives the reply, and the
+-- port is then after the longer trace
 pub record SerialLineStep
     (mask : ℕ) (trace : Trace) (line : SerialCommand) (reply : List ℕ) (new : Port Line Counts Output) :
     Type 0 where
@@ -54,12 +56,12 @@ pub record SerialLineStep
   pub replied : reply ≡ serial_reply mask trace outcome printed line
   pub after : IsAfter mask (trace_after_line mask trace outcome line) new
 
+-- so it is after every trace that leads to the port
 abbrev pub IsSerialLineStep : (line : SerialCommand) (reply : List ℕ) (old new : Port Line Counts Output) → Type 0
 IsSerialLineStep line reply old new =
     (mask : ℕ) (trace : Trace) → IsAfter mask trace old → SerialLineStep mask trace line reply new
 
--- a line of the clock. After any accesses that lead to its state, the reply is theirs, and its state is then that after
--- one more access
+-- a line of the clock. Any accesses that lead to its state give the reply, and one more leads to its new state
 abbrev pub IsClockLineStep : (line : ClockCommand) (reply : List ℕ) (old new : RtcState) → Type 0
 IsClockLineStep line reply old new =
     (accesses : List Access) → old ≡ clock_after accesses

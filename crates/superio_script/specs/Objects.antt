@@ -18,9 +18,13 @@ fresh_interrupt_line mask = record { calls = 0; mask = mask }
 abbrev pub is_call_refused : (mask number : ℕ) → Bool
 is_call_refused mask number = nat_lt number 64 && (bit_at mask number == 1)
 
--- one more, which saturates at 2^64 - 1
+-- a count that saturates at 2^64 - 1
+abbrev pub saturated : (count : ℕ) → ℕ
+saturated count = min count (2 ^ 64 - 1)
+
+-- one more
 abbrev pub saturating_increment : (count : ℕ) → ℕ
-saturating_increment count = min (count + 1) (2 ^ 64 - 1)
+saturating_increment count = saturated (count + 1)
 
 -- the response to the next call
 abbrev pub next_call_answer : (line : Line) → Result (Unit {0}) LineRefused

@@ -1,10 +1,10 @@
 -- The serial port's part of a script: the replies to its lines, by the history. They depend on these lines alone, on the
 -- mask, and on what a script leaves open: which bytes are lost, and what `so` prints once one was.
-use Rattle.std.specs.Prelude.{ℕ, zero, suc, ◌+◌, ◌-◌, ◌^◌, Bool, true, false, not, min, if◌then◌else◌, List, [], ◌∷◌, ◌++◌, length, drop, count_by, codes, nat_le}
+use Rattle.std.specs.Prelude.{ℕ, zero, suc, ◌+◌, ◌-◌, Bool, true, false, not, if◌then◌else◌, List, [], ◌∷◌, ◌++◌, length, drop, count_by, codes, nat_le}
 use Rattle.std.specs.List.{list_all}
 use Rattle.vm_superio.specs.Serial.{Asked, Sent, Op, Read, Write, Enqueue, Restore, TraceEntry, Trace, answer_count, ends_in_refusal, sent_by, Event, buffer_read, out_byte, tx_lost_byte, in_buffer_empty, fresh_state, not_empty}
 use Rattle.vm_superio.specs.Serial.History.{kind_at, dlab, held_bytes, none_lost, output, history_events, history_response, calls_due, restore_calls_due}
-use Rattle.superio_script.specs.Objects.{is_call_refused, Line, Counts}
+use Rattle.superio_script.specs.Objects.{is_call_refused, saturated, Line, Counts}
 use Rattle.superio_script.specs.Reply.{with_lf, response_reply, digits_reply, count_digits, counts_reply}
 use Rattle.superio_script.specs.declared.command.SerialCommand.{SerialCommand}
 use Rattle.superio_script.specs.declared.command.SerialCommand.TheVariants as serial
@@ -20,10 +20,6 @@ calls_of_entry trace op asked = answer_count asked
 abbrev pub calls_made : (trace : Trace) → ℕ
 calls_made [] = 0
 calls_made (entry ∷ trace) = calls_made trace + calls_of_entry trace entry.op entry.asked
-
--- a count that saturates at 2^64 - 1
-abbrev pub saturated : (count : ℕ) → ℕ
-saturated count = min count (2 ^ 64 - 1)
 
 -- the interrupt line with this mask after so many calls
 abbrev pub interrupt_line_after : (mask calls : ℕ) → Line
@@ -144,8 +140,8 @@ is_restore_refused mask trace =
 
 -- ---- the lines
 
--- the reply to a line after a trace, given the outcome of the byte if it sends one, and the bytes that it prints if it
--- is an `so` after a loss
+-- the reply to a line after a trace. If the line sends a byte, this is its outcome; if it is an `so` after a loss, it
+-- prints these bytes
 abbrev pub serial_reply :
     (mask : ℕ) (trace : Trace) (outcome : Outcome) (printed : List ℕ) (line : SerialCommand) → List ℕ
 serial_reply mask trace outcome printed (serial.Read offset) =

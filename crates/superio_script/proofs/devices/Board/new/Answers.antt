@@ -19,6 +19,7 @@ invariant_of-result c =
 
 pub returns-clause-fresh : goal.returns-clause-fresh
 returns-clause-fresh c = record {
+  state = search rules;
   serial = at-start c.args.mask _ (search rules) (search rules) (search rules) (search rules);
   clock = search rules;
   controller = search rules;

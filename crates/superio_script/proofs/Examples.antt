@@ -1,5 +1,5 @@
 -- Worked scripts of the serial port: the replies, computed from the history.
-use Rattle.std.proofs.Common.{◌≡◌, ℕ, List, [], ◌∷◌, ◌++◌, refl, codes}
+use Rattle.std.proofs.Common.{◌≡◌, ℕ, List, [], ◌∷◌, ◌++◌, refl, replicate, codes}
 use Rattle.vm_superio.specs.Serial.{has_bits, only_bits, with_bits}
 use Rattle.superio_script.specs.Reply.{with_lf, digits_reply, count_digits}
 use Rattle.superio_script.specs.SerialScript.{Out, serial_replies}
@@ -45,3 +45,10 @@ a_drain_reads_what_is_held :
     ≡ bytes [] ∷ bytes (2 ∷ []) ∷ bytes (0x61 ∷ 0x62 ∷ []) ∷ bytes (0x60 ∷ []) ∷ bytes (1 ∷ []) ∷ ok ∷ bytes [] ∷ ok ∷ bytes (0x63 ∷ []) ∷ []
 unfolding has_bits only_bits with_bits
 a_drain_reads_what_is_held = refl
+
+-- the output has room for 256 bytes, and the next is lost
+the_output_takes_256_bytes :
+    serial_replies 0 [] (replicate 257 (Write 0 0x41) ++ Output ∷ []) (replicate 256 Out) (replicate 256 0x41 ∷ [])
+    ≡ replicate 256 ok ++ with_lf (codes "io") ∷ bytes (replicate 256 0x41) ∷ []
+unfolding has_bits only_bits with_bits
+the_output_takes_256_bytes = refl
