@@ -41,9 +41,9 @@ module _ {E : Type 0} where
       ((answer ≡ Err refusal) × (answers ≡ []))
       ⊎ ((answer ≡ Ok tt) × StopsAtRefusal due refusal answers)
 
--- why a restore from a port's own state failed, and which calls the trigger had. Either it refused one of the calls that
--- are due, or memory was refused and the trigger not called. Too many bytes are never the reason, since a port holds at
--- most 64
+-- why a restore from a port's own state failed, and which calls the trigger had. Either it refused one of the calls
+-- that are due, or memory was refused and the trigger not called. Too many bytes are never the reason, since a port
+-- holds at most 64
 abbrev pub RefusesOwnState :
     {T E : Type 0} → (link : Link T (TriggerAnswer E)) (due : List Condition) (error : Failure E) (old new : T) → Type 0
 RefusesOwnState {T} {E} link due (Trigger refusal) old new =

@@ -1,7 +1,7 @@
 -- The step of a call in any state, coherent or not: what it responds, the state that it leaves, the events that it
--- reports and the trigger calls that it makes, given the trigger's answers and the outcome of a byte. Then which answers
--- and outcomes can come, and the step of a port without objects: the effects that a call returns for its caller to carry
--- out.
+-- reports and the trigger calls that it makes, given the trigger's answers and the outcome of a byte. Then which
+-- answers and outcomes can come, and the step of a port without objects: the effects that a call returns for its caller
+-- to carry out.
 use Rattle.std.specs.Prelude.{ℕ, ◌+◌, ◌-◌, Bool, not, ◌==◌, ◌&&◌, ◌||◌, nat_le, if◌then◌else◌, List, [], ◌∷◌, ◌++◌, length, take, drop, ◌≡◌}
 use Rattle.std.specs.Bool.{beq}
 use Rattle.superio_core.specs.Serial.Operations.{Asked, Sent, Op, Read, Write, Enqueue, CharacterTimeout, Restore, Response, ByteRead, EnqueueOk, TimeoutOk, TriggerRefused, FifoFull, NoResponse, Event, buffer_read, out_byte, tx_lost_byte, in_buffer_empty, is_refused_at_once, recorded_write_response, count_if, is_sent, OpKind, IerWrite, ThrWrite, Arrival, Timeout, kind_of, sent_by, events_of_read}

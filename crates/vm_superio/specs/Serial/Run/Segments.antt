@@ -108,8 +108,8 @@ module _ {T E EV W : Type 0} where
   in_order adds trace (done ∷ later) = adds trace (entry_of done) ++ in_order adds (entry_of done ∷ trace) later
 
 module _ {T E EV W : Type 0} (links : PortLinks T E EV W) where
-  -- each object of a segment had these calls and no other, in order: the trigger first those of the restore, after which
-  -- it is `made`. The port at the end of the segment has the state of that point, also if a restore hands it back
+  -- each object of a segment had these calls and no other, in order: the trigger first those of the restore, after
+  -- which it is `made`. The port at the end of the segment has the state of that point, also if a restore hands it back
   pub record IsServed (account : Account) (segment : Segment T E EV W) : Type 0 where
     pub made : T
     pub restored : links.trigger segment.trigger segment.restoring made
