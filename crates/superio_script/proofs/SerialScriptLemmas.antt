@@ -242,6 +242,11 @@ module _ (steps : StepLaw) (calls : CallLaw) {op : Op} {asked : Asked} {sent : S
     after = subst (λ trace. IsAfter mask trace new) (sym (leads (outcome_in sent))) (subst (λ entry. IsAfter mask (entry ∷ trace) new) entry-is call-after);
   }
 
+-- a line that sends no byte, and prints nothing that is left open
+module _ {mask : ℕ} {trace : Trace} {line : SerialCommand} {reply : List ℕ} {new : Port Line Counts Output} where
+  without_choice : reply ≡ serial_reply mask trace Lost [] line → IsAfter mask (trace_after_line mask trace Lost line) new → SerialLineStep mask trace line reply new
+  without_choice replied after = record { outcome = Lost; printed = []; short = omega arith; replied = replied; after = after }
+
 -- ---- a drain
 
 module _ (steps : StepLaw) (calls : CallLaw) where
@@ -273,44 +278,22 @@ drain-step steps calls states coherence bytes old new reads latch all mask trace
     let taken : bytes ≡ drained_bytes trace =
     drained-are (dlab fresh_state trace) bytes (held_bytes fresh_state trace) (λ set. latch (latched ∙ set))
     (λ clear. (all coherent (latched ∙ clear)).bytes ∙ ap (λ (s : State). s.in_buffer) at.state) in
-    record {
-      outcome = Lost;
-      printed = [];
-      short = omega arith;
-      replied = ap digits_reply taken;
-      after = subst (λ (bytes : List ℕ). IsAfter mask (after_rbr_reads (length bytes) trace) new) taken
-          (reads-after steps calls bytes old new mask trace at reads);
-    }
+    without_choice
+    (ap digits_reply taken)
+    (subst (λ (bytes : List ℕ). IsAfter mask (after_rbr_reads (length bytes) trace) new) taken
+    (reads-after steps calls bytes old new mask trace at reads))
 
 -- ---- the lines that change nothing
 
 module _ (port : Port Line Counts Output) (reply : List ℕ) where
   pub capacity-step : reply ≡ digits_reply ((64 - length port.state.in_buffer) ∷ []) → IsSerialLineStep line.Capacity reply port port
-  capacity-step is mask trace at = record {
-    outcome = Lost;
-    printed = [];
-    short = omega arith;
-    replied = is ∙ ap (λ (s : State). digits_reply ((64 - length s.in_buffer) ∷ [])) at.state;
-    after = at;
-  }
+  capacity-step is mask trace at = without_choice (is ∙ ap (λ (s : State). digits_reply ((64 - length s.in_buffer) ∷ [])) at.state) at
 
   pub calls-step : reply ≡ with_lf (count_digits port.trigger.calls) → IsSerialLineStep line.Calls reply port port
-  calls-step is mask trace at = record {
-    outcome = Lost;
-    printed = [];
-    short = omega arith;
-    replied = is ∙ ap (λ (l : Line). with_lf (count_digits l.calls)) at.interrupt_line;
-    after = at;
-  }
+  calls-step is mask trace at = without_choice (is ∙ ap (λ (l : Line). with_lf (count_digits l.calls)) at.interrupt_line) at
 
   pub events-step : reply ≡ counts_reply port.events → IsSerialLineStep line.Events reply port port
-  events-step is mask trace at = record {
-    outcome = Lost;
-    printed = [];
-    short = omega arith;
-    replied = is ∙ ap counts_reply at.counts;
-    after = at;
-  }
+  events-step is mask trace at = without_choice (is ∙ ap counts_reply at.counts) at
 
   pub output-step : reply ≡ digits_reply (written_bytes port.out) → IsSerialLineStep line.Output reply port port
   output-step is mask trace at = record {
@@ -395,14 +378,10 @@ restore-accepts steps old new state link events out mask trace at =
     let (accepted, after) = restore-answered mask trace new.trigger None (all_ok (restore_calls_due fresh_state trace)) false (accepted-answers _ _)
     (subst (λ line. InterruptLineLink line (all_ok (restore_calls_due fresh_state trace)) new.trigger) at.interrupt_line
     (subst (λ due. InterruptLineLink old.trigger (all_ok due) new.trigger) due link)) in
-    record {
-      outcome = Lost;
-      printed = [];
-      short = omega arith;
-      replied = ap (λ refused. with_lf (if refused then codes "trigger" else codes "ok")) (sym accepted);
-      after = subst (λ (refused : Bool). IsAfter mask (if refused then trace else restore_entry ∷ trace) new) (sym accepted)
-          (restored-after mask trace steps old new at state (after refl) events out);
-    }
+    without_choice
+    (ap (λ refused. with_lf (if refused then codes "trigger" else codes "ok")) (sym accepted))
+    (subst (λ (refused : Bool). IsAfter mask (if refused then trace else restore_entry ∷ trace) new) (sym accepted)
+    (restored-after mask trace steps old new at state (after refl) events out))
 
 -- one of whose calls was refused
 pub restore-refuses : StepLaw → (old : Port Line Counts Output) (state : State) (after : Line) (error : Error LineRefused) →
@@ -418,13 +397,9 @@ restore-refuses steps old state after (Trigger refusal) is few (none_more, (resp
     (refused-answers refusal (restore_calls_due fresh_state trace) responses (few-pending _ _)
     (subst (λ due. StopsAtRefusal due refusal responses) due stops))
     (subst (λ line. InterruptLineLink line responses after) at.interrupt_line link) in
-    record {
-      outcome = Lost;
-      printed = [];
-      short = omega arith;
-      replied = ap (λ refused. with_lf (if refused then codes "trigger" else codes "ok")) (sym refused);
-      after = subst (λ (refused : Bool). IsAfter mask (if refused then trace else restore_entry ∷ trace) old) (sym refused) at;
-    }
+    without_choice
+    (ap (λ refused. with_lf (if refused then codes "trigger" else codes "ok")) (sym refused))
+    (subst (λ (refused : Bool). IsAfter mask (if refused then trace else restore_entry ∷ trace) old) (sym refused) at)
 
 -- ---- a line, and those that follow it
 

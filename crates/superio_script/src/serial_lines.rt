@@ -32,15 +32,14 @@ pub(crate) fn serial_line(
     ensures only_memory { IfErr result (λ fault. fault ≡ LineFault.Memory) }
     ensures restores { OnErr result (line ≡ Restore) }
 {
+    // By these laws the history gives what the port's steps do.
     laws::steps_of_history();
     laws::calls_of_history();
     match line {
         SerialCommand::Read { offset } => Ok(reply_byte(serial.read(offset))),
-        SerialCommand::Write { offset, value } => Ok(write_result_reply(serial.write(
-            offset, value,
-        ))),
+        SerialCommand::Write { offset, value } => Ok(write_reply(serial.write(offset, value))),
         SerialCommand::Enqueue { bytes } => {
-            Ok(enqueue_result_reply(serial.enqueue_raw_bytes(bytes.as_slice())))
+            Ok(enqueue_reply(serial.enqueue_raw_bytes(bytes.as_slice())))
         }
         SerialCommand::Capacity => Ok(reply_byte(serial.fifo_capacity() as u8)),
         SerialCommand::Drain => Ok(drain_line(serial)),
@@ -105,7 +104,7 @@ fn restore(alloc: Global, serial: &mut Port) -> Result<Reply, LineFault>
 }
 
 /// The reply to a write with this result.
-fn write_result_reply(answer: Result<(), Error<LineRefused>>) -> Reply
+fn write_reply(answer: Result<(), Error<LineRefused>>) -> Reply
     ensures { result.items ≡ response_reply (write_response answer) }
 {
     match answer {
@@ -115,7 +114,7 @@ fn write_result_reply(answer: Result<(), Error<LineRefused>>) -> Reply
 }
 
 /// The reply to an enqueue with this result.
-fn enqueue_result_reply(enqueued: Result<usize, Error<LineRefused>>) -> Reply
+fn enqueue_reply(enqueued: Result<usize, Error<LineRefused>>) -> Reply
     requires { IfOk enqueued (λ count. count < 256) }
     ensures { result.items ≡ response_reply (enqueue_response enqueued) }
 {

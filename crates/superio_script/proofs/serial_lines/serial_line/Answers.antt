@@ -10,13 +10,13 @@ returns-in-Read-clause-step c = rw (c.in-Read.is, c.reply_byte.ensures) (λ mask
     (Read c.in-Read.offset) (λ outcome. refl) (λ outcome. refl))
 
 pub returns-in-Write-clause-step : goal.returns-in-Write-clause-step
-returns-in-Write-clause-step c = rw (c.in-Write.is, c.write_result_reply.ensures) (λ mask trace at.
+returns-in-Write-clause-step c = rw (c.in-Write.is, c.write_reply.ensures) (λ mask trace at.
     call-step c.steps_of_history.ensures c.calls_of_history.ensures c.write.ensures.step.step mask trace at refl
     (Write c.in-Write.offset c.in-Write.value) (λ outcome. refl) (λ outcome. refl))
 
 pub returns-in-Enqueue-clause-step : goal.returns-in-Enqueue-clause-step
 returns-in-Enqueue-clause-step c =
     let step = rw c.as_slice.ensures at c.enqueue_raw_bytes.ensures.step in
-    rw (c.in-Enqueue.is, c.enqueue_result_reply.ensures) (λ mask trace at.
+    rw (c.in-Enqueue.is, c.enqueue_reply.ensures) (λ mask trace at.
     call-step c.steps_of_history.ensures c.calls_of_history.ensures step.step mask trace at refl
     (Enqueue c.in-Enqueue.bytes) (λ outcome. refl) (λ outcome. refl))
