@@ -11,7 +11,7 @@ use Rattle.superio_script.specs.declared.command.SerialCommand.TheVariants as se
 
 -- ---- a board's serial port after a trace: its calls and its accepted restores, newest first, since it was fresh
 
--- the trigger calls that an entry made: a restore those that were due, and a call those that were answered
+-- how many trigger calls an entry made: at a restore all that were due, else as many as were answered
 abbrev pub calls_of_entry : (trace : Trace) (op : Op) (asked : Asked) → ℕ
 calls_of_entry trace Restore asked = length (restore_calls_due fresh_state trace)
 calls_of_entry trace op asked = answer_count asked
@@ -61,27 +61,27 @@ out_before_loss [] = 0
 out_before_loss (Out ∷ outcomes) = 1 + out_before_loss outcomes
 out_before_loss (Lost ∷ outcomes) = 0
 
--- the outcomes of the bytes sent, oldest first
 abbrev pub outcome_of_sent : (sent : Sent) → List Outcome
 outcome_of_sent Sent.Nothing = []
 outcome_of_sent Sent.Out = Out ∷ []
 outcome_of_sent Sent.Lost = Lost ∷ []
 
+-- the outcomes of the bytes that a trace sent, oldest first
 abbrev pub outcomes_of : (trace : Trace) → List Outcome
 outcomes_of [] = []
 outcomes_of (entry ∷ trace) = outcomes_of trace ++ outcome_of_sent entry.sent
 
--- the next outcome. A byte for which the list has none is lost
+-- the next outcome in the list. Once the list is used up, each byte is lost
 abbrev pub next_outcome : (outcomes : List Outcome) → Outcome
 next_outcome [] = Lost
 next_outcome (outcome ∷ outcomes) = outcome
 
--- the bytes that the next `so` after a loss prints
+-- what the next `so` after a loss prints
 abbrev pub next_printed : (printed : List (List ℕ)) → List ℕ
 next_printed [] = []
 next_printed (bytes ∷ printed) = bytes
 
--- what is printed after a loss is within the output's room
+-- each has at most as many bytes as the output has room for
 abbrev pub all_short : (printed : List (List ℕ)) → Bool
 all_short printed = list_all (λ bytes. nat_le (length bytes) 256) printed
 
@@ -99,12 +99,13 @@ trigger_answers mask number (suc (suc more)) =
 abbrev pub sends : (trace : Trace) (op : Op) → Bool
 sends trace op = not_empty (sent_by (kind_at fresh_state trace op))
 
+-- the outcome as an entry has it, which has none if no byte is sent
 abbrev pub sent_with : (sends : Bool) (outcome : Outcome) → Sent
 sent_with false outcome = Sent.Nothing
 sent_with true Out = Sent.Out
 sent_with true Lost = Sent.Lost
 
--- the entry of a call: the interrupt line answers the calls that are due, and the byte, if one is sent, has this outcome
+-- the entry of a call. The interrupt line answers the calls that are due. If a byte is sent, it has this outcome
 abbrev pub call_entry : (mask : ℕ) (trace : Trace) (outcome : Outcome) (op : Op) → TraceEntry
 call_entry mask trace outcome op = record {
   op = op;
