@@ -3,7 +3,8 @@
 //! event, an output that is drained, and a script, which calls its streams no more than it has to. A call that takes
 //! and drops objects does not call them before.
 use crate::objects::{
-    Log, Object, PortCall, Then, Writing, by_std, faults, is_same, port, writings,
+    Log, Object, PortCall, Then, Writing, by_std, faults, in_order, is_same, port, port_over,
+    writings,
 };
 use std::alloc::Global;
 use std::io;
@@ -72,15 +73,6 @@ fn a_fault_of_the_writer_is_returned_as_it_is(rt: HostRuntime) -> Result<(), Fai
     Ok(())
 }
 
-/// These letters as `Log::order` has them.
-fn in_order(letters: &[u8]) -> u64 {
-    let mut order = 0u64;
-    for letter in letters {
-        order = order.wrapping_mul(256).wrapping_add(u64::from(*letter));
-    }
-    order
-}
-
 #[test]
 fn a_data_write_turns_to_the_writer_then_events_then_trigger(rt: HostRuntime) -> Result<(), Fail> {
     let log = Log::new();
@@ -91,22 +83,19 @@ fn a_data_write_turns_to_the_writer_then_events_then_trigger(rt: HostRuntime) ->
         ..Writing::takes()
     };
     let no_write = Writing::failing(io::Error::from(io::ErrorKind::Other));
-    let rows: [(Writing, &[u8]); 3] = [
-        (Writing::takes(), b"WFoT"),
-        (no_write, b"WlT"),
-        (no_flush, b"WFlT"),
+    let rows: [(Writing, &[u8], bool); 3] = [
+        (Writing::takes(), b"WFoT", false),
+        (no_write, b"WlT", true),
+        (no_flush, b"WFlT", true),
     ];
-    for (writing, letters) in rows {
+    for (writing, letters, fails) in rows {
         for refused in [false, true] {
             serial.read(2);
             log.start(writing);
             log.order.set(0);
             let next = log.triggers.get().wrapping_add(1);
             log.refused.set(if refused { next } else { 0 });
-            assert!(rt;
-                serial.write(0, b'x').is_err()
-                    == (refused || writing.flush.is_some() || letters[1] == b'l')
-            );
+            assert!(rt; serial.write(0, b'x').is_err() == (refused || fails));
             assert!(rt; log.order.get() == in_order(letters));
         }
     }
@@ -119,21 +108,31 @@ fn a_data_write_turns_to_the_writer_then_events_then_trigger(rt: HostRuntime) ->
     Ok(())
 }
 
+/// Whether the data write of a run over these objects returned their fault, and called `write` and `flush` no more than
+/// it has to.
+fn is_right_in_a_run(alloc: Global, object: Object<'_>, writing: Writing) -> Result<bool, Fail> {
+    let calls: Vec<PortCall> = vec![in alloc; Call::Read(7), Call::Write(0, b'x')]?;
+    let mut serial = port_over(alloc, object)?;
+    let done = run(alloc, &mut serial, calls)?;
+    let Some(record) = done.get(1) else {
+        return Ok(false);
+    };
+    match &record.reply {
+        Reply::Wrote(sent) => is_right(alloc, object.0, writing, sent),
+        _ => Ok(false),
+    }
+}
+
 #[test]
 fn a_run_returns_the_fault_of_its_writer(rt: HostRuntime) -> Result<(), Fail> {
-    let alloc = rt.alloc();
     for fault in faults() {
         for writing in writings(fault) {
             let log = Log::new();
             log.start(writing);
-            let calls: Vec<PortCall> = vec![in alloc; Call::Read(7), Call::Write(0, b'x')]?;
-            let mut serial = port(alloc, &log)?;
-            let done = run(alloc, &mut serial, calls)?;
-            let is_expected = match &done[1].reply {
-                Reply::Wrote(sent) => is_right(alloc, &log, writing, sent)?,
-                _ => false,
-            };
-            assert!(rt; is_expected, "{fault:?}");
+            assert!(rt;
+                is_right_in_a_run(rt.alloc(), Object(&log), writing)?,
+                "{fault:?}"
+            );
         }
     }
     Ok(())
@@ -167,25 +166,25 @@ fn a_drained_output_is_one_write_and_returns_its_fault(rt: HostRuntime) -> Resul
             ..fails
         };
         let takes_some = Writing { room: 3, ..fails };
-        for (writing, taken) in [(fails, 0), (takes_none, 0), (takes_some, 3)] {
+        let rows: [(Writing, &[u8]); 3] = [
+            (fails, b"waiting"),
+            (takes_none, b"waiting"),
+            (takes_some, b"ting"),
+        ];
+        for (writing, left) in rows {
             let mut output = Output::restored(alloc, b"waiting", 7, 0)?;
             let log = Log::new();
             log.start(writing);
             let drained = output.drain_into(&mut Object(&log));
+            assert!(rt; log.calls() == [0, 0, 1, 0], "{fault:?}");
             log.start(writing);
             let written = Object(&log).write(b"waiting");
             let texts = [
                 format!(in alloc; "{drained:?}")?,
                 format!(in alloc; "{written:?}")?,
             ];
-            assert!(rt;
-                texts[0] == texts[1] && log.calls() == [0, 0, 1, 0],
-                "{fault:?}"
-            );
-            assert!(rt;
-                output.waiting(alloc)?.as_slice() == &b"waiting"[taken..],
-                "{fault:?}"
-            );
+            assert!(rt; texts[0] == texts[1], "{fault:?}");
+            assert!(rt; output.waiting(alloc)?.as_slice() == left, "{fault:?}");
         }
     }
     Ok(())

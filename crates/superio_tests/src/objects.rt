@@ -1,5 +1,7 @@
 //! The objects that the tests give to a device: a trigger, an events object and a writer, which share a log; and the
 //! faults of writers.
+ghost use Rattle.std.specs.Prelude.{IfOk};
+ghost use Rattle.vm_superio.specs.Claims.{shows_data, is_outside};
 ghost use Rattle.vm_superio.specs.Links.ForAnyObject.{Unspecified, Unspecified-nil, Unspecified-append};
 
 use std::alloc::{AllocError, Global};
@@ -10,7 +12,7 @@ use std::test::Fail;
 use superio_script::LineRefused;
 use vm_superio::rtc_pl031::RtcEvents;
 use vm_superio::run::Call;
-use vm_superio::serial::{Error, Refused, SerialEvents};
+use vm_superio::serial::{Error, NoEvents, Refused, SerialEvents};
 use vm_superio::{Serial, Trigger};
 
 // ---- faults
@@ -181,6 +183,15 @@ impl Log {
     }
 }
 
+/// These letters as `Log::order` has them.
+pub fn in_order(letters: &[u8]) -> u64 {
+    let mut order = 0u64;
+    for letter in letters {
+        order = order.wrapping_mul(256).wrapping_add(u64::from(*letter));
+    }
+    order
+}
+
 /// Counts a call, and returns its number, from 1.
 fn counted(calls: &Cell<u64>) -> u64 {
     let number = calls.get().wrapping_add(1);
@@ -200,8 +211,24 @@ pub type PortCall<'a> = Call<Object<'a>, Object<'a>, Object<'a>>;
 
 /// A new port.
 pub fn port(alloc: Global, log: &Log) -> Result<Port<'_>, Error<LineRefused>> {
-    let object = Object(log);
+    port_over(alloc, Object(log))
+}
+
+/// A new port over this object, which can be used beside it.
+pub fn port_over(alloc: Global, object: Object<'_>) -> Result<Port<'_>, Error<LineRefused>> {
     Serial::with_events(alloc, object, object, object).map_err(Refused::into_error)
+}
+
+/// A new port over this trigger, and a vector that keeps what is sent.
+#[tactic(auto, unfolding(superio_core::specs::Bits::has_bits))]
+pub fn port_over_vector(
+    alloc: Global,
+    object: Object<'_>,
+) -> Result<Serial<Object<'_>, NoEvents, Vec<u8>>, Error<LineRefused>>
+    ensures data { IfOk result (λ serial. shows_data serial) }
+    ensures outside { IfOk result (λ serial. is_outside serial) }
+{
+    Serial::new(alloc, object, Vec::new(alloc)).map_err(Refused::into_error)
 }
 
 impl Trigger for Object<'_> {

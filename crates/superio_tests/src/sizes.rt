@@ -1,7 +1,7 @@
 //! Calls that may return that memory was refused do not, while there is memory. A body that gives up at some size meets
 //! each contract.
-use crate::objects::{Log, Object, PortCall, port};
-use std::alloc::AllocError;
+use crate::objects::{Log, Object, Port, PortCall, port_over, port_over_vector};
+use std::alloc::{AllocError, Global};
 use std::io::Write;
 use std::test::Fail;
 use superio_examples::first_claims::{
@@ -37,24 +37,37 @@ fn states_of_each_size_are_made(rt: HostRuntime) -> Result<(), Fail> {
     Ok(())
 }
 
+/// So many reads, an enqueue of these bytes, and a restore over this object.
+fn calls_of<'a>(
+    alloc: Global,
+    object: Object<'a>,
+    bytes: Vec<u8>,
+) -> Result<Vec<PortCall<'a>>, AllocError> {
+    let mut calls: Vec<PortCall<'a>> = Vec::new(alloc);
+    for _ in 0..bytes.len() {
+        calls.push(Call::Read(5))?;
+    }
+    calls.push(Call::Enqueue(bytes))?;
+    calls.push(Call::Restore(object, object, object))?;
+    Ok(calls)
+}
+
+/// How many records a run of so many reads, an enqueue and a restore gives, and how many bytes a new port gives back.
+fn counts_of<'a>(alloc: Global, object: Object<'a>, size: usize) -> Result<[usize; 2], Fail> {
+    let bytes = b"x".repeat(alloc, size)?;
+    let calls: Vec<PortCall<'a>> = calls_of(alloc, object, bytes.clone()?)?;
+    let mut serial: Port<'a> = port_over(alloc, object)?;
+    let done = run(alloc, &mut serial, calls)?;
+    restored_reads_same(alloc, &mut serial, object, object, object, 0)?;
+    Ok([done.len(), read_back(alloc, object, object, &bytes)?.len()])
+}
+
 #[test]
 fn lists_of_each_size_are_taken(rt: HostRuntime) -> Result<(), Fail> {
-    let alloc = rt.alloc();
     let log = Log::new();
-    let object = Object(&log);
     for size in SIZES {
-        let bytes = b"x".repeat(alloc, size)?;
-        let mut calls: Vec<PortCall> = Vec::new(alloc);
-        for _ in 0..size {
-            calls.push(Call::Read(5))?;
-        }
-        calls.push(Call::Enqueue(bytes.clone()?))?;
-        calls.push(Call::Restore(object, object, object))?;
-        let mut serial = port(alloc, &log)?;
-        assert!(rt; run(alloc, &mut serial, calls)?.len() == size + 2);
-        assert!(rt; read_back(alloc, object, object, &bytes)?.len() == size.min(64));
-        let reads = restored_reads_same(alloc, &mut serial, object, object, object, 0);
-        assert!(rt; reads.is_ok());
+        let counts = counts_of(rt.alloc(), Object(&log), size)?;
+        assert!(rt; counts == [size.saturating_add(2), size.min(64)], "{size}");
     }
     Ok(())
 }
@@ -86,9 +99,9 @@ fn queues_and_monitors_of_each_size_are_made(rt: HostRuntime) -> Result<(), Fail
 #[test]
 fn claims_about_a_port_succeed(rt: HostRuntime) -> Result<(), Fail> {
     let log = Log::new();
-    let made = Serial::new(rt.alloc(), Object(&log), Vec::new(rt.alloc()));
-    let mut serial = made.ok().expect(&rt, "a port");
+    let mut serial = port_over_vector(rt.alloc(), Object(&log))?;
     assert!(rt; refused_keeps_bytes(&mut serial, b"hi").ok() == Some(2));
+    let mut serial = port_over_vector(rt.alloc(), Object(&log))?;
     assert!(rt; sent_is_appended(&mut serial, b's').is_ok());
     assert!(rt; serial.writer().as_slice() == b"s".as_slice());
     Ok(())
