@@ -1,5 +1,6 @@
-//! Tests of what no contract, script of tests/ or recorded call shows: printed text, calls that objects get, a writer's
-//! own faults, and the modules of superio_examples at work.
+//! The worked cases of each device and of scripts, and tests of what no contract shows: printed text, calls that objects
+//! get, a writer's own faults, refused memory, and the modules of superio_examples at work. The hostile cases compare
+//! the devices with slow models that share nothing with their definitions.
 #![tactic(auto)]
 
 #[cfg(test)]
@@ -7,11 +8,15 @@ mod clock;
 #[cfg(test)]
 mod controller;
 #[cfg(test)]
+mod hostile;
+#[cfg(test)]
 mod object_calls;
 #[cfg(test)]
 mod objects;
 #[cfg(test)]
 mod printed;
+#[cfg(test)]
+mod reference_model;
 #[cfg(test)]
 mod refused_memory;
 #[cfg(test)]
