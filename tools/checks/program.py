@@ -13,6 +13,7 @@ from tally import NotBuilt, Skipped, report  # noqa: F401, which checks of the p
 ROOT = Path(__file__).resolve().parents[2]
 CRATES = ROOT / "crates"
 PROGRAM = CRATES / "superio" / "out" / "superio"
+TESTS = CRATES / "superio_tests" / "out" / "superio_tests_tests"
 TIMEOUT = 60  # seconds that one run of the program may take
 
 
@@ -61,14 +62,15 @@ def built_program(arguments=()):
 
 def hand_over():
     """Marks what `rt ci` built as that of the sources as they are, so that nothing proves it again: it leaves libraries
-    without the stamp by which `rt` knows them, and a program that an earlier run made is older than a fresh clone."""
+    without the stamp by which `rt` knows them, and programs that an earlier run made are older than a fresh clone."""
     sys.dont_write_bytecode = True
     sys.path.append(str(Path(shutil.which("rt")).resolve().parent))
     import rtlib
     for crate in rtlib.crates_below(str(ROOT)):
         if (library := Path(crate.folder, "out", "rlib")).is_dir():
             (library / "stamp").write_text(crate.stamp(), encoding="utf-8")
-    PROGRAM.touch()
+    for program in (PROGRAM, TESTS):
+        program.touch()
 
 
 def run(program, script, *arguments):
