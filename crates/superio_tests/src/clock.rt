@@ -390,24 +390,6 @@ fn writes_to_no_register_change_nothing_and_are_reported(rt: HostRuntime) {
     assert!(rt; clock.state() == RtcState::default());
 }
 
-#[test]
-fn of_all_offsets_39_are_readable_and_5_writable(rt: HostRuntime) {
-    let mut clock = fresh();
-    for offset in 0..=65_535u16 {
-        let before = clock.events().invalid_read_count();
-        let value = read_into(&mut clock, 1_000, offset, 0x7B);
-        assert!(rt;
-            clock.events().invalid_read_count() == before || value == 0x7B,
-            "{offset:#x}"
-        );
-    }
-    assert!(rt; invalid(&clock) == [65_497, 0]);
-    for offset in 0..=65_535u16 {
-        make(&rt, &mut clock, &[Write(1_000, offset, 2)]);
-    }
-    assert!(rt; invalid(&clock) == [65_497, 65_531]);
-}
-
 // ---- states
 
 /// `test_state`

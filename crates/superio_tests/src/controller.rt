@@ -33,18 +33,3 @@ fn a_refusal_of_the_reset_line_is_returned(rt: HostRuntime) {
     assert!(rt; device.write(4, 0xFE) == Ok(()));
     assert!(rt; device.reset_evt().calls() == 2);
 }
-
-#[test]
-fn of_all_writes_one_resets_and_all_reads_are_0(rt: HostRuntime) {
-    let mut device = controller(0);
-    for offset in 0..=255u8 {
-        for value in 0..=255u8 {
-            assert!(rt; device.write(offset, value).is_ok());
-        }
-    }
-    assert!(rt; device.reset_evt().calls() == 1);
-    for offset in 0..=255u8 {
-        assert!(rt; device.read(offset) == 0, "{offset}");
-    }
-    assert!(rt; device.reset_evt().calls() == 1);
-}
