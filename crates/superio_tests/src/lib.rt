@@ -16,13 +16,27 @@ mod objects;
 #[cfg(test)]
 mod printed;
 #[cfg(test)]
+mod public_calls;
+#[cfg(test)]
 mod reference_model;
 #[cfg(test)]
 mod refused_memory;
 #[cfg(test)]
 mod runs;
 #[cfg(test)]
+mod saved_forms;
+#[cfg(test)]
 mod scripts;
+#[cfg(test)]
+mod serial_interrupts;
+#[cfg(test)]
+mod serial_objects;
+#[cfg(test)]
+mod serial_output;
+#[cfg(test)]
+mod serial_registers;
+#[cfg(test)]
+mod serial_states;
 #[cfg(test)]
 mod sessions;
 #[cfg(test)]

@@ -1,89 +1,334 @@
-//! Runs: a list of calls as one call, over restores that succeed and one that does not.
-use std::alloc::Global;
+//! Runs: each record of a list of calls, and the objects after it.
+use crate::runs::Plain::{CharacterTimeout, Enqueue, Read, Restore, Write};
+use crate::runs::Row::{Asks, Quiet, Sends};
+use crate::runs::Shown::{Byte, Enqueued, NotRestored, Restored, TimedOut, Wrote};
+use crate::serial_objects::{Fields, IER, IIR, LSR, Narrow, Port, RBR, THR, fresh, restored};
+use std::alloc::{AllocError, Global};
+use std::io;
+use std::io::ErrorKind;
 use std::test::Fail;
-use superio_script::{Counts, Line, LineRefused, Output};
-use vm_superio::Serial;
-use vm_superio::run::{Act, Asked, Call, Reply, Sent, run};
-use vm_superio::serial::{Error, Refused, SerialState};
+use superio_script::{Counts, Line, LineRefused};
+use vm_superio::SerialState;
+use vm_superio::run::{Act, Asked, Call, Done, Reply, Sent, run};
+use vm_superio::serial::Error;
 
-type PortCall = Call<Line, Counts, Output>;
+// ---- rows
 
-type Port = Serial<Line, Counts, Output>;
-
-/// A restore over a line that refuses the calls of this mask.
-fn restore(mask: u64) -> PortCall {
-    Call::Restore(Line::new(mask), Counts::new(), Output::new())
+/// A call, with the mask of the calls that the line of a restore refuses.
+#[derive(Clone, Copy)]
+enum Plain {
+    Read(u8),
+    Write(u8, u8),
+    Enqueue(&'static [u8]),
+    CharacterTimeout,
+    Restore(u64),
 }
 
-/// A port of this state over a line that refuses none.
-fn restored(alloc: Global, state: &SerialState) -> Result<Port, Error<LineRefused>> {
-    let made = Serial::from_state(alloc, state, Line::new(0), Counts::new(), Output::new());
-    made.map_err(Refused::into_error)
+/// Why a call failed.
+#[derive(Clone, Copy, PartialEq, Eq)]
+enum Cause {
+    Refused,
+    Lost(ErrorKind),
+    Full,
+    Memory,
 }
+
+/// What a reply shows, without its objects.
+#[derive(Clone, Copy, PartialEq, Eq)]
+enum Shown {
+    Byte(u8),
+    Wrote(Result<(), Cause>),
+    Enqueued(Result<usize, Cause>),
+    TimedOut(Result<(), Cause>),
+    Restored,
+    NotRestored(Cause),
+}
+
+/// A call, and what its record has to show.
+#[derive(Clone, Copy)]
+enum Row {
+    /// The call neither asks for an interrupt nor sends a byte.
+    Quiet(Plain, Shown),
+    /// The call asks for interrupts, with these answers, and sends no byte.
+    Asks(Asked, Plain, Shown),
+    /// The call sends a byte, with this outcome, and asks for no interrupt.
+    Sends(Sent, Plain, Shown),
+}
+
+/// The call, the answers of the trigger, the outcome of a byte and the reply of a row.
+fn columns(row: Row) -> (Plain, Asked, Sent, Shown) {
+    match row {
+        Quiet(call, reply) => (call, Asked::Nothing, Sent::Nothing, reply),
+        Asks(asked, call, reply) => (call, asked, Sent::Nothing, reply),
+        Sends(sent, call, reply) => (call, Asked::Nothing, sent, reply),
+    }
+}
+
+// ---- runs of rows
+
+/// A call. `None` if it is a restore and no writer is left for it.
+fn call_of<W>(
+    alloc: Global,
+    call: Plain,
+    spare: &mut Option<W>,
+) -> Result<Option<Call<Line, Counts, W>>, AllocError> {
+    Ok(match call {
+        Read(offset) => Some(Call::Read(offset)),
+        Write(offset, value) => Some(Call::Write(offset, value)),
+        Enqueue(bytes) => Some(Call::Enqueue(bytes.to_vec(alloc)?)),
+        CharacterTimeout => Some(Call::CharacterTimeout),
+        Restore(mask) => match spare.take() {
+            Some(out) => Some(Call::Restore(Line::new(mask), Counts::new(), out)),
+            None => None,
+        },
+    })
+}
+
+/// Runs the calls of these rows, of which one may be a restore over a spare writer.
+fn records<W: io::Write + Drop>(
+    alloc: Global,
+    port: &mut Port<W>,
+    rows: &[Row],
+    spare: Option<W>,
+) -> Result<Vec<Done<Line, Counts, W>>, AllocError> {
+    let mut spare = spare;
+    let mut calls = Vec::new(alloc);
+    for row in rows {
+        let (call, _, _, _) = columns(*row);
+        if let Some(call) = call_of(alloc, call, &mut spare)? {
+            calls.push(call)?;
+        }
+    }
+    run(alloc, port, calls)
+}
+
+/// Why a call failed.
+fn cause_of(error: &Error<LineRefused>) -> Cause {
+    match error {
+        Error::Trigger(LineRefused) => Cause::Refused,
+        Error::IOError(fault) => Cause::Lost(fault.kind()),
+        Error::FullFifo => Cause::Full,
+        Error::Memory => Cause::Memory,
+    }
+}
+
+/// What a reply shows.
+fn shown_by<W: io::Write>(reply: &Reply<Line, Counts, W>) -> Shown {
+    match reply {
+        Reply::Byte(byte) => Byte(*byte),
+        Reply::Wrote(Ok(())) => Wrote(Ok(())),
+        Reply::Wrote(Err(error)) => Wrote(Err(cause_of(error))),
+        Reply::Enqueued(Ok(count)) => Enqueued(Ok(*count)),
+        Reply::Enqueued(Err(error)) => Enqueued(Err(cause_of(error))),
+        Reply::TimedOut(Ok(())) => TimedOut(Ok(())),
+        Reply::TimedOut(Err(error)) => TimedOut(Err(cause_of(error))),
+        Reply::Restored(_) => Restored,
+        Reply::NotRestored(refused) => NotRestored(cause_of(&refused.error)),
+    }
+}
+
+/// Whether an act is that of a call.
+fn is_act_of(act: &Act, call: Plain) -> bool {
+    match (act, call) {
+        (Act::Read(made), Read(offset)) => *made == offset,
+        (Act::Write(made, written), Write(offset, value)) => *made == offset && *written == value,
+        (Act::Enqueue(made), Enqueue(bytes)) => made.as_slice() == bytes,
+        (Act::CharacterTimeout, CharacterTimeout) | (Act::Restore, Restore(_)) => true,
+        _ => false,
+    }
+}
+
+/// Whether a record shows what it has to.
+fn shows<W: io::Write>(record: &Done<Line, Counts, W>, row: Row) -> bool {
+    let (call, asked, sent, reply) = columns(row);
+    is_act_of(&record.act, call)
+        && record.asked == asked
+        && record.sent == sent
+        && shown_by(&record.reply) == reply
+}
+
+/// The number of the first row, from 0, whose record is missing or does not show what it has to.
+fn first_wrong<W: io::Write>(done: &[Done<Line, Counts, W>], rows: &[Row]) -> Option<usize> {
+    for (number, row) in rows.iter().enumerate() {
+        match done.get(number) {
+            Some(record) if shows(record, *row) => {}
+            _ => return Some(number),
+        }
+    }
+    None
+}
+
+/// Whether a restore replaced a port that holds these bytes, has sent none, and has called its trigger so often.
+fn replaced(alloc: Global, reply: &Reply<Line, Counts, Narrow>, held: &[u8], calls: u64) -> bool {
+    match reply {
+        Reply::Restored(old) => match old.state(alloc) {
+            Ok(state) => {
+                state.in_buffer.as_slice() == held
+                    && old.interrupt_evt().calls() == calls
+                    && old.writer().bytes().is_empty()
+            }
+            Err(_) => false,
+        },
+        _ => false,
+    }
+}
+
+/// Whether a restore handed back a line of this mask that was called so often, and a writer with this room.
+fn handed_back(reply: &Reply<Line, Counts, Narrow>, mask: u64, calls: u64, room: usize) -> bool {
+    match reply {
+        Reply::NotRestored(refused) => {
+            refused.trigger.mask() == mask
+                && refused.trigger.calls() == calls
+                && refused.out.room() == room
+        }
+        _ => false,
+    }
+}
+
+// ---- tests
 
 #[test]
-fn a_run_goes_on_over_a_restore(rt: HostRuntime) -> Result<(), Fail> {
+fn a_run_of_no_calls_changes_nothing(rt: HostRuntime) -> Result<(), Fail> {
     let alloc = rt.alloc();
-    let mut serial = restored(alloc, &SerialState::default(alloc))?;
-    let bytes = b"a".to_vec(alloc)?;
-    let calls: Vec<PortCall> = vec![in alloc;
-        Call::Write(1, 0x01),
-        Call::Enqueue(bytes),
-        Call::Read(2),
-        restore(0),
-        Call::Read(0),
-        Call::Read(5),
-    ]?;
-    let done = run(alloc, &mut serial, calls)?;
-    assert!(rt; done.len() == 6);
-    assert!(rt; done[0].act == Act::Write(1, 0x01) && done[3].act == Act::Restore);
-    assert!(rt; matches!(done[0].reply, Reply::Wrote(Ok(()))));
-    assert!(rt; matches!(done[1].reply, Reply::Enqueued(Ok(1))));
-    assert!(rt; matches!(done[2].reply, Reply::Byte(0xC4)));
-    assert!(rt; matches!(done[4].reply, Reply::Byte(b'a')));
-    assert!(rt; matches!(done[5].reply, Reply::Byte(0x60)));
-    for (index, record) in done.iter().enumerate() {
-        assert!(rt; (record.asked == Asked::Took) == (index == 1) && record.sent == Sent::Nothing);
-        assert!(rt; (record.asked == Asked::Nothing) == (index != 1));
-    }
-    assert!(rt; serial.interrupt_evt().calls() == 0);
-    // The old port still holds the byte, and its trigger was called.
-    let Reply::Restored(old) = &done[3].reply else {
-        return Err(Fail::from("the port stayed"));
-    };
-    assert!(rt; old.fifo_capacity() == 63 && old.interrupt_evt().calls() == 1);
-    assert!(rt; old.state(alloc)?.in_buffer.as_slice() == b"a".as_slice());
+    let mut port = fresh(alloc, 0, Vec::new(alloc))?;
+    assert!(rt; run(alloc, &mut port, Vec::new(alloc))?.is_empty());
+    assert!(rt; port.state(alloc)? == SerialState::default(alloc));
+    assert!(rt; port.interrupt_evt().calls() == 0 && port.writer().is_empty());
     Ok(())
 }
 
 #[test]
-fn a_refused_restore_of_a_run_leaves_the_port(rt: HostRuntime) -> Result<(), Fail> {
+fn a_run_records_each_read_write_and_enqueue(rt: HostRuntime) -> Result<(), Fail> {
     let alloc = rt.alloc();
-    // Both conditions are pending and enabled, and a byte is held.
-    let mut state = SerialState::default(alloc);
-    state.interrupt_identification = 0x06;
-    state.interrupt_enable = 0x03;
-    state.line_status = 0x61;
-    state.in_buffer.push(b'a')?;
-    let mut serial = restored(alloc, &state)?;
-    assert!(rt; serial.interrupt_evt().calls() == 2);
-    assert!(rt; serial.state(alloc)? == state.clone(alloc)?);
-    // The second call of the new line is refused, and so is one of a port of this state.
-    let made = Serial::from_state(alloc, &state, Line::new(0x02), Counts::new(), Output::new());
-    let Err(refused) = made else {
-        return Err(Fail::from("a port was made"));
+    let mut port = fresh(alloc, 0, Vec::new(alloc))?;
+    let rows = [
+        Asks(Asked::Took, Write(IER, 0x03), Wrote(Ok(()))),
+        Sends(Sent::Out, Write(THR, 0x41), Wrote(Ok(()))),
+        Asks(Asked::Took, Enqueue(&[0x61, 0x62]), Enqueued(Ok(2))),
+        Quiet(Read(IIR), Byte(0xC6)),
+        Quiet(Read(RBR), Byte(0x61)),
+        Quiet(Read(LSR), Byte(0x61)),
+        Quiet(Read(IIR), Byte(0xC1)),
+    ];
+    let done = records(alloc, &mut port, &rows, None)?;
+    assert_eq!(rt; first_wrong(&done, &rows), None);
+    assert!(rt; done.len() == 7 && port.interrupt_evt().calls() == 2);
+    assert!(rt; port.writer().as_slice() == [0x41].as_slice());
+    Ok(())
+}
+
+#[test]
+fn a_lost_byte_and_a_restore_change_no_read(rt: HostRuntime) -> Result<(), Fail> {
+    let alloc = rt.alloc();
+    let mut port = fresh(alloc, 0, Narrow::with_room(0))?;
+    let lost = Wrote(Err(Cause::Lost(ErrorKind::WriteZero)));
+    let rows = [
+        Asks(Asked::Took, Write(IER, 0x03), Wrote(Ok(()))),
+        Sends(Sent::Lost, Write(THR, 0x41), lost),
+        Asks(Asked::Took, Enqueue(&[0x61, 0x62]), Enqueued(Ok(2))),
+        Quiet(Restore(0), Restored),
+        Quiet(Read(IIR), Byte(0xC6)),
+        Quiet(Read(RBR), Byte(0x61)),
+        Quiet(Read(LSR), Byte(0x61)),
+        Quiet(Read(IIR), Byte(0xC1)),
+    ];
+    let done = records(alloc, &mut port, &rows, Some(Narrow::with_room(0)))?;
+    assert_eq!(rt; first_wrong(&done, &rows), None);
+    assert!(rt; done.len() == 8 && port.interrupt_evt().calls() == 2);
+    Ok(())
+}
+
+#[test]
+fn a_restore_in_a_run_hands_out_the_old_port(rt: HostRuntime) -> Result<(), Fail> {
+    let alloc = rt.alloc();
+    let mut port = fresh(alloc, 0, Narrow::with_room(0))?;
+    let rows = [
+        Quiet(Write(IER, 0x01), Wrote(Ok(()))),
+        Asks(Asked::Took, Enqueue(&[0x61]), Enqueued(Ok(1))),
+        Quiet(Read(IIR), Byte(0xC4)),
+        Quiet(Restore(0), Restored),
+        Quiet(Read(RBR), Byte(0x61)),
+        Quiet(Read(LSR), Byte(0x60)),
+    ];
+    let done = records(alloc, &mut port, &rows, Some(Narrow::with_room(1)))?;
+    assert_eq!(rt; first_wrong(&done, &rows), None);
+    // The new port has the new objects.
+    assert!(rt; done.len() == 6 && port.interrupt_evt().calls() == 0);
+    assert!(rt; port.write(THR, 0x41).is_ok());
+    assert!(rt; replaced(alloc, &done[3].reply, &[0x61], 1));
+    Ok(())
+}
+
+#[test]
+fn a_refused_restore_in_a_run_leaves_the_port(rt: HostRuntime) -> Result<(), Fail> {
+    let alloc = rt.alloc();
+    // Both conditions are pending and enabled.
+    let fields = Fields {
+        iir: 0x06,
+        ier: 0x03,
+        lsr: 0x61,
+        held: &[0x61],
     };
-    assert!(rt; refused.trigger.calls() == 2);
-    assert!(rt; matches!(refused.into_error(), Error::Trigger(LineRefused)));
-    let calls: Vec<PortCall> = vec![in alloc; restore(0x02), Call::Read(2)]?;
-    let done = run(alloc, &mut serial, calls)?;
-    assert!(rt; done.len() == 2);
-    let Reply::NotRestored(refused) = &done[0].reply else {
-        return Err(Fail::from("the port was restored"));
+    let mut port = restored(alloc, &fields.state(alloc)?, 0, Narrow::with_room(0))?;
+    let rows = [
+        Quiet(Restore(0b10), NotRestored(Cause::Refused)),
+        Quiet(Read(IIR), Byte(0xC6)),
+    ];
+    let done = records(alloc, &mut port, &rows, Some(Narrow::with_room(1)))?;
+    assert_eq!(rt; first_wrong(&done, &rows), None);
+    assert!(rt; done.len() == 2 && port.interrupt_evt().calls() == 2);
+    // The port has its own objects, and the reply the new ones.
+    assert!(rt; port.write(THR, 0x41).is_err());
+    assert!(rt; handed_back(&done[0].reply, 0b10, 2, 1));
+    Ok(())
+}
+
+#[test]
+fn a_run_records_what_the_trigger_answered(rt: HostRuntime) -> Result<(), Fail> {
+    let alloc = rt.alloc();
+    // The line refuses THRE once, and then RDA.
+    let mut port = fresh(alloc, 0b11000, Narrow::with_room(0))?;
+    let refused = Wrote(Err(Cause::Refused));
+    let rows = [
+        Quiet(Enqueue(&[0x61]), Enqueued(Ok(1))),
+        Asks(Asked::TookTook, Write(IER, 0x03), Wrote(Ok(()))),
+        Quiet(Read(IIR), Byte(0xC6)),
+        Asks(Asked::TookRefused, Write(IER, 0x03), refused),
+        Quiet(Read(IIR), Byte(0xC6)),
+        Asks(Asked::Refused, Write(IER, 0x03), refused),
+        Quiet(Read(IIR), Byte(0xC4)),
+    ];
+    let done = records(alloc, &mut port, &rows, None)?;
+    assert_eq!(rt; first_wrong(&done, &rows), None);
+    assert!(rt; done.len() == 7 && port.interrupt_evt().calls() == 5);
+    Ok(())
+}
+
+#[test]
+fn a_run_records_character_timeouts(rt: HostRuntime) -> Result<(), Fail> {
+    let alloc = rt.alloc();
+    // A byte is held for which the trigger was not called.
+    let fields = Fields {
+        iir: 0x01,
+        ier: 0x01,
+        lsr: 0x61,
+        held: &[0x61],
     };
-    assert!(rt; matches!(refused.error, Error::Trigger(LineRefused)));
-    assert!(rt; refused.trigger.calls() == 2 && refused.trigger.mask() == 0x02);
-    assert!(rt; done[0].asked == Asked::Nothing);
-    assert!(rt; matches!(done[1].reply, Reply::Byte(0xC6)));
+    let mut port = restored(alloc, &fields.state(alloc)?, 0b10, Narrow::with_room(0))?;
+    let rows = [
+        Asks(Asked::Took, CharacterTimeout, TimedOut(Ok(()))),
+        // RDA is pending already.
+        Quiet(CharacterTimeout, TimedOut(Ok(()))),
+        Quiet(Read(IIR), Byte(0xC4)),
+        Asks(
+            Asked::Refused,
+            CharacterTimeout,
+            TimedOut(Err(Cause::Refused)),
+        ),
+        Quiet(Read(IIR), Byte(0xC4)),
+    ];
+    let done = records(alloc, &mut port, &rows, None)?;
+    assert_eq!(rt; first_wrong(&done, &rows), None);
+    assert!(rt; done.len() == 5 && port.interrupt_evt().calls() == 2);
     Ok(())
 }
