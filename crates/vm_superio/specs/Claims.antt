@@ -7,9 +7,19 @@ pub use Rattle.superio_core.specs.I8042.{is_reset_command}
 pub use Rattle.superio_core.specs.Rtc.{fresh_clock, read, write}
 pub use Rattle.superio_core.specs.Rtc.Step.{clock_step}
 pub use Rattle.superio_core.specs.Serial.{Coherent, State, fresh_state, not_empty, SameSettings}
-pub use Rattle.vm_superio.specs.Serial.{Port}
+pub use Rattle.superio_core.specs.Serial.Operations.{Op, Read, Write, Enqueue, CharacterTimeout, Restore}
+pub use Rattle.superio_core.specs.declared.serial.Asked.{Asked}
+pub use Rattle.superio_core.specs.declared.serial.registers.Condition.{Condition}
+pub use Rattle.superio_core.specs.declared.serial.registers.Condition.TheVariants.{Rda, Thre}
+pub use Rattle.superio_core.specs.declared.serial.registers.Register.{Register}
+pub use Rattle.superio_core.specs.declared.serial.registers.Register.TheVariants.{Dll, Dlm, RbrThr, Ier, Iir, Lcr, Mcr, Lsr, Msr, Scr, Unassigned}
+pub use Rattle.superio_core.specs.Serial.Step.{step}
+pub use Rattle.vm_superio.specs.Links.{all_ok}
 pub use Rattle.vm_superio.specs.Saved.{state_of}
-use Rattle.vm_superio.specs.Serial.{Rda, is_dlab, is_loopback, ier_bit, iir_bit}
+pub use Rattle.vm_superio.specs.Serial.{Port, restore_calls}
+pub use Rattle.vm_superio.specs.Serial.Run.{Call, Done, acknowledged_in, answers_in_records}
+pub use Rattle.vm_superio.specs.Serial.Step.{acknowledged_at, pending_count, transmitter, turned_on_count}
+use Rattle.vm_superio.specs.Serial.{is_dlab, is_loopback, ier_bit, iir_bit}
 
 module _ {T EV W : Type 0} (port : Port T EV W) where
   -- a port in the state of a new one

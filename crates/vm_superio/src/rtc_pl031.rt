@@ -6,10 +6,11 @@
 //!
 //! The match register is an alarm. It raises bit 0 of the raw interrupt status at the first access at which guest time
 //! has reached a match that was not past when written. The clock calls no trigger: ask [`Rtc::interrupt_line`].
-ghost use Rattle.std.specs.Prelude.{◌≡◌, ◌↔◌, ◌<◌, ◌^◌, List, [], ◌∷◌, ◌++◌, IfSome, is_some, not, false};
+ghost use Rattle.std.specs.Prelude.{◌≡◌, ◌↔◌, ◌<◌, ◌^◌, ◌-ℤ◌, pos, List, [], ◌∷◌, ◌++◌, IfSome, is_some, not, false};
 ghost use Rattle.std.specs.Bool.{OnTrue, OnFalse};
 ghost use Rattle.std.proofs.Common.{◌∙◌};
-ghost use Rattle.superio_core.specs.Rtc.Step.{is_line_up, IsAlarmDue, after_alarm, clock_response, clock_step};
+ghost use Rattle.std.specs.Int.{w32, from_le_bytes, to_le_bytes};
+ghost use Rattle.superio_core.specs.Rtc.Step.{guest_time_in, is_line_up, IsAlarmDue, after_alarm, clock_response, clock_step};
 ghost use Rattle.vm_superio.specs.Rtc.{RtcEvent, invalid_read, invalid_write, ClockDevice, clock_events, ReadsByHistory, GoesOnByHistory};
 ghost use Rattle.superio_core.specs.Rtc.{state_of_clock, read, write, write_of, clock_register_at, is_readable, is_writable, host_time, bytes_left, fresh_clock};
 
@@ -228,6 +229,9 @@ impl<EV: RtcEvents> Rtc<EV> {
         ensures invalid { OnFalse (is_writable (clock_register_at offset))
             (self.new.state ≡ after_alarm self.old.state (host_time now)) }
         ensures history { GoesOnByHistory self.old.state (write_of offset bytes.now now) self.new.state }
+        // After a write of RTCLR guest time is ahead of the host's by the value less the moment.
+        ensures set { offset ≡ 0x008 →
+            self.new.state.offset ≡ pos (from_le_bytes w32 bytes.now) -ℤ pos (host_time now) }
 
         // The events object hears only of an invalid write.
         ensures events { EV.link self.old.events (clock_events (write_of offset bytes.now now)) self.new.events }
@@ -253,6 +257,8 @@ impl<EV: RtcEvents> Rtc<EV> {
         ensures response { bytes.new ≡ bytes_left (clock_response self.old.state (read offset now)) bytes.old }
         ensures invalid { OnFalse (is_readable (clock_register_at offset)) (bytes.new ≡ bytes.old) }
         ensures response_by_history { ReadsByHistory self.old.state offset now bytes.old bytes.new }
+        // RTCDR shows guest time.
+        ensures time { offset ≡ 0x000 → bytes.new ≡ to_le_bytes w32 (guest_time_in self.old.state (host_time now)) }
 
         ensures state { self.new.state ≡ after_alarm self.old.state (host_time now) }
         ensures history { GoesOnByHistory self.old.state (read offset now) self.new.state }

@@ -1,8 +1,8 @@
 //! Runs: a list of calls to a serial port as one call, with a record of each.
-ghost use Rattle.std.specs.Prelude.{◌≡◌, IfOk, OnErr};
+ghost use Rattle.std.specs.Prelude.{◌≡◌, ◌≤◌, ◌+◌, IfOk, OnErr};
 ghost use Rattle.superio_core.specs.Serial.{Coherent};
 ghost use Rattle.vm_superio.specs.Links.Writer.{port_links};
-ghost use Rattle.vm_superio.specs.Serial.Run.{act_of};
+ghost use Rattle.vm_superio.specs.Serial.Run.{act_of, acknowledged_in, answers_in_records};
 ghost use Rattle.vm_superio.specs.Serial.Run.Steps.{IsCallStep, IsRun, by_steps};
 ghost use Rattle.vm_superio.specs.Serial.Run.Segments.{SegmentsAre};
 ghost use Rattle.vm_superio.specs.Serial.Run.HistoryTheorem.{HistoryTheorem};
@@ -100,6 +100,8 @@ pub fn run<T: Trigger + Drop, EV: SerialEvents + Drop, W: Write + Drop>(
         serial.old calls.items done.items serial.new) }
     ensures history { IfOk result (λ done. Coherent serial.old.state →
         HistoryTheorem (port_links T.link EV.link W.contents) serial.old calls.items done.items serial.new) }
+    // Two for what was not pending at first, and one for each condition that a read acknowledges.
+    ensures bound { IfOk result (λ done. answers_in_records done.items ≤ 2 + acknowledged_in calls.items) }
     ensures refused { OnErr result (serial.new ≡ serial.old) }
 {
     let mut done = Vec::with_capacity(alloc, calls.len())?;

@@ -85,6 +85,7 @@ impl<T: Trigger, EV: SerialEvents, W: Write> Serial<T, EV, W> {
     ghost use Rattle.vm_superio.specs.Serial.{Other, Read, SameSettings, ShowsHeldBytes, Write, enqueued_bytes, is_dlab, kind_in_state, sends_byte, sent_by};
     ghost use Rattle.vm_superio.specs.Serial.Step.{with_trigger, with_events, with_writer};
     ghost use Rattle.vm_superio.specs.Serial.Step.{IsReadStep, IsWriteStep, IsEnqueueStep, IsTimeoutStep, IsRetryStep};
+    ghost use Rattle.vm_superio.specs.Serial.Step.{SameElsewhere, acknowledged_at, pending_count, transmitter, turned_on_count};
     ghost use Rattle.vm_superio.specs.Serial.Step.{WriteFate, EnqueueFate, TimeoutFate};
 
     /// Makes a serial port as `new` does, but reports events to `serial_evts`. Calls neither the trigger nor the events
@@ -278,6 +279,11 @@ impl<T: Trigger, EV: SerialEvents, W: Write> Serial<T, EV, W> {
         ensures silent { sends_byte self.old.state (Write offset value) ≡ false → self.new.out ≡ self.old.out }
         // What stands after an error.
         ensures fate { IfErr result (λ error. WriteFate offset value error self.old.state self.new.state) }
+        // What belongs to another offset stays.
+        ensures elsewhere { SameElsewhere offset self.old.state self.new.state }
+        ensures transmitter { transmitter self.new.state ≡ transmitter self.old.state }
+        ensures keeps_pending { pending_count self.new.state
+            ≡ pending_count self.old.state + turned_on_count self.old.state self.new.state }
         ensures coherent { Coherent self.old.state → Coherent self.new.state }
     {
         self.recorded_write(offset, value).reply
@@ -302,6 +308,10 @@ impl<T: Trigger, EV: SerialEvents, W: Write> Serial<T, EV, W> {
         ensures data { offset ≡ 0 → is_dlab self.old.state.line_control ≡ false →
             0 < length self.old.state.in_buffer → result ∷ self.new.state.in_buffer ≡ self.old.state.in_buffer }
         ensures settings { SameSettings self.old.state self.new.state }
+        ensures transmitter { transmitter self.new.state ≡ transmitter self.old.state }
+        // A read of IIR acknowledges at most both conditions, one of RBR at most one, and no other any.
+        ensures keeps_pending { pending_count self.old.state
+            ≤ pending_count self.new.state + acknowledged_at offset }
         // A read of any register but RBR and IIR.
         ensures rest_unchanged { kind_in_state self.old.state (Read offset) ≡ Other → self.new ≡ self.old }
         ensures at_most_64 { length self.new.state.in_buffer ≤ 64 }
@@ -384,6 +394,9 @@ impl<T: Trigger, EV: SerialEvents, W: Write> Serial<T, EV, W> {
         ensures step { IsEnqueueStep T.link EV.link W.contents input.now result self.old self.new }
         ensures held { self.new.state.in_buffer ≡ self.old.state.in_buffer ++ enqueued_bytes self.old.state input.now }
         ensures settings { SameSettings self.old.state self.new.state }
+        ensures transmitter { transmitter self.new.state ≡ transmitter self.old.state }
+        ensures keeps_pending { pending_count self.new.state
+            ≡ pending_count self.old.state + turned_on_count self.old.state self.new.state }
         ensures full { result ≡ Err Error.FullFifo → self.new ≡ self.old }
         // What stands after an error.
         ensures fate { IfErr result (λ error. EnqueueFate input.now error self.old.state self.new.state) }
@@ -405,6 +418,9 @@ impl<T: Trigger, EV: SerialEvents, W: Write> Serial<T, EV, W> {
         ensures step { IsTimeoutStep T.link EV.link W.contents result self.old self.new }
         // No byte waits without an interrupt.
         ensures pending { ShowsHeldBytes self.new.state }
+        ensures transmitter { transmitter self.new.state ≡ transmitter self.old.state }
+        ensures keeps_pending { pending_count self.new.state
+            ≡ pending_count self.old.state + turned_on_count self.old.state self.new.state }
         // What stands after an error.
         ensures fate { IfErr result (λ error. TimeoutFate error self.old.state self.new.state) }
         ensures quiet { self.old.state.interrupt_enable ≡ 0 → self.new.trigger ≡ self.old.trigger }

@@ -1,4 +1,5 @@
 -- What a step of a port says about the trigger's calls.
+pub mod Kept
 pub mod Laws
 pub mod Run
 pub mod Step

@@ -2,13 +2,14 @@
 pub mod HistoryTheorem
 pub mod Segments
 pub mod Steps
-use Rattle.std.specs.Prelude.{◌≡◌, ⊤, List, [], ◌∷◌, Bool, true, false, not, Option, None, filter}
+use Rattle.std.specs.Prelude.{◌≡◌, ⊤, ℕ, List, [], ◌∷◌, Bool, true, false, not, Option, None, filter, sum_by}
 pub use Rattle.vm_superio.specs.declared.run.Act.{Act}
 pub use Rattle.vm_superio.specs.declared.run.Reply.{Reply}
 pub use Rattle.vm_superio.specs.declared.run.Reply.TheVariants.{Byte, Wrote, Enqueued, TimedOut, Restored, NotRestored}
 pub use Rattle.vm_superio.specs.declared.run.Call.{Call}
 pub use Rattle.vm_superio.specs.declared.run.Done.{Done}
-use Rattle.vm_superio.specs.Serial.{write_response, enqueue_response, timeout_response, refusal_in_result, Op, Read, Write, Enqueue, CharacterTimeout, Restore, TraceEntry, Response, ByteRead, NoResponse, Trace, State}
+use Rattle.vm_superio.specs.Serial.{write_response, enqueue_response, timeout_response, refusal_in_result, Op, Read, Write, Enqueue, CharacterTimeout, Restore, TraceEntry, Response, ByteRead, NoResponse, Trace, State, answer_count}
+use Rattle.vm_superio.specs.Serial.Step.{acknowledged_at}
 use Rattle.vm_superio.specs.Serial.History.{guest_read}
 
 abbrev pub op_of : (act : Act) → Op
@@ -93,3 +94,20 @@ module _ {T E EV W : Type 0} where
   ReadsAre start trace [] = ⊤
   ReadsAre start trace (done ∷ later) =
       ReadIs start trace done.act done.reply × ReadsAre start (entry_of done ∷ trace) later
+
+-- ---- how often the trigger is called, restores apart
+
+module _ {T E EV W : Type 0} where
+  -- the answers of the trigger in some records. That of a restore has none
+  abbrev pub answers_in_records : (records : List (Done T EV W E)) → ℕ
+  answers_in_records records = sum_by (λ (done : Done T EV W E). answer_count done.asked) records
+
+module _ {T EV W : Type 0} where
+  -- the most that a call acknowledges
+  abbrev pub acknowledged_by : (call : Call T EV W) → ℕ
+  acknowledged_by (Call.Read offset) = acknowledged_at offset
+  acknowledged_by _ = 0
+
+  -- two for each `Read(2)`, and one for each `Read(0)`
+  abbrev pub acknowledged_in : (calls : List (Call T EV W)) → ℕ
+  acknowledged_in calls = sum_by acknowledged_by calls

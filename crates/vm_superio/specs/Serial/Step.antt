@@ -1,7 +1,8 @@
 -- One call of a port, as its contract states it: its step, with the calls that each object had; why a restore is
 -- refused; and what stands after a call that failed.
-use Rattle.std.specs.Prelude.{◌≡◌, ℕ, ◌+◌, Bool, not, ◌&&◌, length, List, IsTrue, Option, None, Result, is_some, ◌<◌, ◌≤◌, ◌-◌, ◌++◌, take}
-use Rattle.vm_superio.specs.Serial.{Error, Port, write_response, enqueue_response, timeout_response, refusal_in_result, FullFifo, Trigger, IOError, Asked, Sent, Op, Read, Write, Enqueue, CharacterTimeout, Restore, Response, ByteRead, NoResponse, Event, ends_in_refusal, count_if, has_bits, State, Rda, Thre, iir_bit, step, step_response, step_events, is_admissible, sends_byte, restore_calls}
+use Rattle.std.specs.Prelude.{◌≡◌, ℕ, ◌+◌, Bool, not, ◌&&◌, ◌==◌, if◌then◌else◌, length, List, IsTrue, Option, None, Result, is_some, ◌<◌, ◌≤◌, ◌-◌, ◌++◌, take}
+use Rattle.std.specs.Bool.{OnFalse}
+use Rattle.vm_superio.specs.Serial.{Error, Port, write_response, enqueue_response, timeout_response, refusal_in_result, FullFifo, Trigger, IOError, Asked, Sent, Op, Read, Write, Enqueue, CharacterTimeout, Restore, Response, ByteRead, NoResponse, Event, ends_in_refusal, count_if, has_bits, only_bits, State, Rda, Thre, iir_bit, step, step_response, step_events, is_admissible, sends_byte, restore_calls}
 use Rattle.vm_superio.specs.Links.{Link, TriggerAnswer, Contents, answers_of, RefusesOwnState}
 use Rattle.vm_superio.specs.Links.Writer.{PortLinks, port_links, bytes_sent, outcome_of, WriterLink}
 
@@ -41,6 +42,30 @@ abbrev pub turned_on_count : (old new : State) → ℕ
 turned_on_count old new =
     count_if (turns_on (iir_bit Rda) old.interrupt_identification new.interrupt_identification)
     + count_if (turns_on (iir_bit Thre) old.interrupt_identification new.interrupt_identification)
+
+-- how many of the two conditions are pending
+abbrev pub pending_count : (s : State) → ℕ
+pending_count s =
+    count_if (has_bits s.interrupt_identification (iir_bit Rda))
+    + count_if (has_bits s.interrupt_identification (iir_bit Thre))
+
+-- the most that a read acknowledges: both conditions at IIR, and one at RBR
+abbrev pub acknowledged_at : (offset : ℕ) → ℕ
+acknowledged_at offset = if offset == 2 then 2 else (if offset == 0 then 1 else 0)
+
+-- ---- what a call keeps
+
+-- a write keeps what belongs to other offsets: the received bytes to 0, IER to 1, LCR to 3, MCR to 4 and SCR to 7
+pub record SameElsewhere (offset : ℕ) (old new : State) : Type 0 where
+  pub held : OnFalse (offset == 0) (new.in_buffer ≡ old.in_buffer)
+  pub enable : OnFalse (offset == 1) (new.interrupt_enable ≡ old.interrupt_enable)
+  pub line_control : OnFalse (offset == 3) (new.line_control ≡ old.line_control)
+  pub modem_control : OnFalse (offset == 4) (new.modem_control ≡ old.modem_control)
+  pub scratch : OnFalse (offset == 7) (new.scratch ≡ old.scratch)
+
+-- LSR's bits for an empty transmitter
+abbrev pub transmitter : (s : State) → ℕ
+transmitter s = only_bits s.line_status 0x60
 
 -- ---- the calls
 

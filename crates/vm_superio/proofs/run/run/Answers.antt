@@ -2,6 +2,7 @@
 use Rattle.std.proofs.Common.{◌∷◌, refl, append_assoc, append-nil, arith, []}
 use Rattle.std.proofs.lemmas.List.{nil_from_length}
 use Rattle.vm_superio.specs.Links.Writer.{port_links}
+use Rattle.vm_superio.proofs.Lemmas.Serial.Kept.{run-bound}
 use Rattle.vm_superio.proofs.Lemmas.Serial.Run.{IsRun-step, HistoryTheorem-run, SegmentsAre-steps}
 use Rattle.vm_superio.proofs.run.run.Goals as goal
 
@@ -29,6 +30,11 @@ returns-clause-run g c =
     let before = c.loop-call.invariant in
     let none = nil_from_length c.loop-call.calls.items (omega (arith, c.in_default.ensures.cases, c.loop-call.calls.ok.0)) in
     rw (← append-nil c.loop-call.done.items) (before.whole [] _ (rw none refl))
+
+pub returns-clause-bound : goal.returns-clause-bound
+returns-clause-bound g c =
+    run-bound (port_links g.T.Trigger.link g.EV.SerialEvents.link g.W.Write.contents)
+    c.args.calls.items c.loop-call.done.items _ _ (returns-clause-run g c)
 
 pub returns-clause-history : goal.returns-clause-history
 returns-clause-history g c =

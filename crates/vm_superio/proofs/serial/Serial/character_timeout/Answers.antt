@@ -5,6 +5,7 @@ use Rattle.superio_core.proofs.Lemmas.Serial.Step.{shows_held_bytes}
 use Rattle.vm_superio.specs.Serial.Step.{IsPortStep}
 use Rattle.vm_superio.specs.Links.Writer.{port_links}
 use Rattle.vm_superio.proofs.Lemmas.Serial.{length-answers_of-step}
+use Rattle.vm_superio.proofs.Lemmas.Serial.Kept.{transmitter-kept, pending-kept}
 use Rattle.vm_superio.proofs.Lemmas.Serial.Step.{quiet, silent, keeps_coherent, timeout_fate}
 use Rattle.vm_superio.proofs.serial.Serial.character_timeout.Goals as goal
 
@@ -34,6 +35,16 @@ returns-clause-events g c = sym ((g.met.EV.SerialEvents.no_event _ _).0 c.record
 
 pub returns-clause-out : goal.returns-clause-out
 returns-clause-out g c = silent c.recorded_timeout.ensures.step refl
+
+pub returns-clause-transmitter : goal.returns-clause-transmitter
+returns-clause-transmitter g c =
+    let call = c.recorded_timeout in
+    rw call.ensures.step.state (transmitter-kept c.args.self.now.state CharacterTimeout call.result.asked)
+
+pub returns-clause-keeps_pending : goal.returns-clause-keeps_pending
+returns-clause-keeps_pending g c =
+    let call = c.recorded_timeout in
+    rw call.ensures.step.state (pending-kept c.args.self.now.state CharacterTimeout call.result.asked refl)
 
 pub returns-clause-coherent : goal.returns-clause-coherent
 returns-clause-coherent g c = keeps_coherent c.recorded_timeout.ensures.step

@@ -1,7 +1,8 @@
 -- The clauses follow from the step.
 use Rattle.std.proofs.Common.{ap, ◌∙◌}
-use Rattle.vm_superio.specs.Serial.{State, enqueued_bytes}
+use Rattle.vm_superio.specs.Serial.{State, Enqueue, enqueued_bytes}
 use Rattle.vm_superio.proofs.Lemmas.Serial.{length-answers_of-step}
+use Rattle.vm_superio.proofs.Lemmas.Serial.Kept.{transmitter-kept, pending-enqueued}
 use Rattle.vm_superio.proofs.Lemmas.Serial.Laws.OneCall.{received_bytes}
 use Rattle.vm_superio.proofs.Lemmas.Serial.Step.{quiet, settings_kept, keeps_coherent, enqueue_fate}
 use Rattle.vm_superio.proofs.serial.Serial.enqueue_raw_bytes.Goals as goal
@@ -30,6 +31,14 @@ returns-clause-quiet g c =
     let made = c.recorded_enqueue.ensures in
     let enable = ap (λ (s : State). s.interrupt_enable) (made.state ∙ settings_kept (enqueued_bytes old c.args.input.now) old) in
     λ off. quiet made g.met.T.Trigger.no_call (enable ∙ off)
+
+pub returns-clause-transmitter : goal.returns-clause-transmitter
+returns-clause-transmitter g c =
+    rw c.recorded_enqueue.ensures.state (transmitter-kept c.args.self.now.state (Enqueue c.args.input.now) c.recorded_enqueue.result.asked)
+
+pub returns-clause-keeps_pending : goal.returns-clause-keeps_pending
+returns-clause-keeps_pending g c =
+    rw c.recorded_enqueue.ensures.state (pending-enqueued c.args.self.now.state c.args.input.now c.recorded_enqueue.result.asked)
 
 pub returns-clause-coherent : goal.returns-clause-coherent
 returns-clause-coherent g c = keeps_coherent c.recorded_enqueue.ensures

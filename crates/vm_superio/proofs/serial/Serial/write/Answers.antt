@@ -1,5 +1,7 @@
 -- The clauses follow from the step.
+use Rattle.vm_superio.specs.Serial.{is_dlab, Write}
 use Rattle.vm_superio.proofs.Lemmas.Serial.{length-answers_of-step}
+use Rattle.vm_superio.proofs.Lemmas.Serial.Kept.{elsewhere, transmitter-kept, pending-written}
 use Rattle.vm_superio.proofs.Lemmas.Serial.Step.{quiet, silent, sends, keeps_coherent, write_fate}
 use Rattle.vm_superio.proofs.serial.Serial.write.Goals as goal
 
@@ -19,6 +21,19 @@ returns-clause-silent g c = silent c.recorded_write.ensures
 
 pub returns-clause-fate : goal.returns-clause-fate
 returns-clause-fate g c = write_fate c.recorded_write.result.reply c.recorded_write.ensures
+
+pub returns-clause-elsewhere : goal.returns-clause-elsewhere
+returns-clause-elsewhere g c =
+    let s = c.args.self.now.state in
+    rw c.recorded_write.ensures.state (elsewhere (is_dlab s.line_control) c.args.offset c.args.value c.recorded_write.result.asked s)
+
+pub returns-clause-transmitter : goal.returns-clause-transmitter
+returns-clause-transmitter g c =
+    rw c.recorded_write.ensures.state (transmitter-kept c.args.self.now.state (Write c.args.offset c.args.value) c.recorded_write.result.asked)
+
+pub returns-clause-keeps_pending : goal.returns-clause-keeps_pending
+returns-clause-keeps_pending g c =
+    rw c.recorded_write.ensures.state (pending-written c.args.self.now.state c.args.offset c.args.value c.recorded_write.result.asked)
 
 pub returns-clause-coherent : goal.returns-clause-coherent
 returns-clause-coherent g c = keeps_coherent c.recorded_write.ensures
