@@ -30,6 +30,14 @@ abbrev pub clock_events : (access : Access) → List RtcEvent
 clock_events (read offset now) = if is_readable (clock_register_at offset) then [] else invalid_read ∷ []
 clock_events (write offset value now) = if is_writable (clock_register_at offset) then [] else invalid_write ∷ []
 
+-- ---- a clock that was set
+
+-- guest time is a value at one moment and goes on from there, at every moment at which 32 bits hold both times
+abbrev pub GoesOnFrom : (state : RtcState) (value now : ℕ) → Type 0
+GoesOnFrom state value now =
+    (seconds : ℕ) → now + seconds < 2 ^ 32 → value + seconds < 2 ^ 32
+    → guest_time_in state (host_time (now + seconds)) ≡ value + seconds
+
 -- ---- the laws by which the steps and the history of a clock agree
 
 -- for each history of the state before an access, the access responds as the history says

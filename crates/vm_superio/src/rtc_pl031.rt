@@ -6,12 +6,12 @@
 //!
 //! The match register is an alarm. It raises bit 0 of the raw interrupt status at the first access at which guest time
 //! has reached a match that was not past when written. The clock calls no trigger: ask [`Rtc::interrupt_line`].
-ghost use Rattle.std.specs.Prelude.{◌≡◌, ◌↔◌, ◌<◌, ◌^◌, ◌-ℤ◌, pos, List, [], ◌∷◌, ◌++◌, IfSome, is_some, not, false};
+ghost use Rattle.std.specs.Prelude.{◌≡◌, ◌↔◌, ◌<◌, ◌^◌, ◌==◌, ◌||◌, ℕ, List, [], ◌∷◌, ◌++◌, IfSome, is_some, not, false};
 ghost use Rattle.std.specs.Bool.{OnTrue, OnFalse};
 ghost use Rattle.std.proofs.Common.{◌∙◌};
-ghost use Rattle.std.specs.Int.{w32, from_le_bytes, to_le_bytes};
+ghost use Rattle.std.specs.Int.{w32, to_le_bytes};
 ghost use Rattle.superio_core.specs.Rtc.Step.{guest_time_in, is_line_up, IsAlarmDue, after_alarm, clock_response, clock_step};
-ghost use Rattle.vm_superio.specs.Rtc.{RtcEvent, invalid_read, invalid_write, ClockDevice, clock_events, ReadsByHistory, GoesOnByHistory};
+ghost use Rattle.vm_superio.specs.Rtc.{RtcEvent, invalid_read, invalid_write, ClockDevice, clock_events, GoesOnFrom, ReadsByHistory, GoesOnByHistory};
 ghost use Rattle.superio_core.specs.Rtc.{state_of_clock, read, write, write_of, clock_register_at, is_readable, is_writable, host_time, bytes_left, fresh_clock};
 
 use std::marker::Model;
@@ -229,9 +229,12 @@ impl<EV: RtcEvents> Rtc<EV> {
         ensures invalid { OnFalse (is_writable (clock_register_at offset))
             (self.new.state ≡ after_alarm self.old.state (host_time now)) }
         ensures history { GoesOnByHistory self.old.state (write_of offset bytes.now now) self.new.state }
-        // After a write of RTCLR guest time is ahead of the host's by the value less the moment.
+        // A write of RTCLR sets the clock.
         ensures set { offset ≡ 0x008 →
-            self.new.state.offset ≡ pos (from_le_bytes w32 bytes.now) -ℤ pos (host_time now) }
+            (value : ℕ) → bytes.now ≡ to_le_bytes w32 value → GoesOnFrom self.new.state value now }
+        // Only RTCLR and RTCCR set it.
+        ensures keeps_time { OnFalse ((offset == 0x008) || (offset == 0x00C))
+            (self.new.state.offset ≡ self.old.state.offset) }
 
         // The events object hears only of an invalid write.
         ensures events { EV.link self.old.events (clock_events (write_of offset bytes.now now)) self.new.events }
@@ -259,6 +262,7 @@ impl<EV: RtcEvents> Rtc<EV> {
         ensures response_by_history { ReadsByHistory self.old.state offset now bytes.old bytes.new }
         // RTCDR shows guest time.
         ensures time { offset ≡ 0x000 → bytes.new ≡ to_le_bytes w32 (guest_time_in self.old.state (host_time now)) }
+        ensures keeps_time { self.new.state.offset ≡ self.old.state.offset }
 
         ensures state { self.new.state ≡ after_alarm self.old.state (host_time now) }
         ensures history { GoesOnByHistory self.old.state (read offset now) self.new.state }
