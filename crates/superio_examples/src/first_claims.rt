@@ -14,7 +14,7 @@ use std::convert::Infallible;
 use std::io::Write;
 use vm_superio::rtc_pl031::RtcEvents;
 use vm_superio::serial::{Error, Refused, SerialEvents};
-use vm_superio::{I8042Device, Rtc, Serial, Trigger, laws};
+use vm_superio::{I8042Device, Rtc, Serial, Trigger};
 
 // ---- received bytes
 
@@ -254,7 +254,6 @@ pub fn clock_goes_on<EV: RtcEvents>(clock: &mut Rtc<EV>, value: u32, now: u64) -
     requires value { value + 7 < 2 ^ 32 }
     ensures { result ≡ to_le_bytes w32 (value + 7) }
 {
-    laws::set_time();
     clock.write(0x008, &value.to_le_bytes(), now);
     let mut bytes = [0; 4];
     clock.read(0x000, &mut bytes, now + 7);

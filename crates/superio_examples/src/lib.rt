@@ -4,6 +4,7 @@
 
 pub mod bus;
 pub mod first_claims;
+pub mod many_calls;
 pub mod mmio;
 pub mod monitor;
 pub mod queues;

@@ -1,10 +1,11 @@
 //! Triggers: the usual one, a file descriptor that the host's kernel watches, such as an eventfd that is the irqfd of
-//! an interrupt line; and one that counts its calls, for a monitor that injects interrupts itself.
-ghost use Rattle.std.specs.Prelude.{◌≡◌, [], ◌∷◌, OnOk};
+//! an interrupt line; one that counts its calls, for a monitor that injects interrupts itself; and one that has room for
+//! some interrupts and refuses the others, with a link of its own.
+ghost use Rattle.std.specs.Prelude.{◌≡◌, ◌≤◌, ◌-◌, ◌==◌, not, [], ◌∷◌, OnOk, OnErr};
 ghost use Rattle.std.specs.Io.KnownBytes.{Appends};
 ghost use Rattle.vm_superio.specs.Links.ForAnyObject.{FoldsEvents, FoldsEvents-nil, FoldsEvents-append};
 ghost use Rattle.vm_superio.specs.Links.ForAnyObject.{Unspecified, Unspecified-nil, Unspecified-append};
-ghost use Rattle.superio_examples.specs.Triggers.{after_call};
+ghost use Rattle.superio_examples.specs.Triggers.{after_call, TakesCalls, TakesCalls-nil, TakesCalls-append};
 
 use std::convert::Infallible;
 use std::io;
@@ -89,6 +90,76 @@ impl Trigger for Counter {
     {
         let calls = &mut self.calls;
         *calls = calls.saturating_add(1);
+        Ok(())
+    }
+}
+
+/// A line into a controller that keeps interrupts until the guest takes them, up to a limit. It counts those that wait,
+/// and refuses a call while there is no room.
+///
+/// Its link is its own: one more interrupt waits for each call that was taken.
+#[derive(Drop)]
+pub struct Line {
+    waiting: u32,
+    limit: u32,
+}
+
+/// A line's answer while it has no room.
+#[derive(Debug, Drop)]
+pub struct NoRoom;
+
+impl Line {
+    /// A line on which no interrupt waits.
+    pub fn new(limit: u32) -> Line
+        ensures waiting { result.waiting ≡ 0 }
+        ensures limit { result.limit ≡ limit }
+    {
+        Line { waiting: 0, limit }
+    }
+
+    /// How many interrupts wait.
+    pub fn waiting(&self) -> u32
+        ensures { result ≡ self.now.waiting }
+    {
+        self.waiting
+    }
+
+    /// The guest takes an interrupt. Returns whether one waited.
+    pub fn deliver(&mut self) -> bool
+        ensures delivered { result ≡ not (self.old.waiting == 0) }
+        ensures waiting { self.new.waiting ≡ self.old.waiting - 1 }
+        ensures limit { self.new.limit ≡ self.old.limit }
+    {
+        if self.waiting == 0 {
+            return false;
+        }
+        self.waiting -= 1;
+        true
+    }
+}
+
+impl Trigger for Line {
+    type E = NoRoom;
+
+    ghost link = { TakesCalls };
+
+    ghost no_call = { TakesCalls-nil };
+
+    ghost joined = { TakesCalls-append };
+
+    /// One more interrupt waits, if there is room.
+    ///
+    /// # Errors
+    ///
+    /// Returns `NoRoom` if as many wait as the limit allows: retry once the guest has taken one.
+    fn trigger(&mut self) -> Result<(), NoRoom>
+        ensures link { TakesCalls self.old (result ∷ []) self.new }
+        ensures refused { OnErr result (self.old.limit ≤ self.old.waiting) }
+    {
+        if self.waiting >= self.limit {
+            return Err(NoRoom);
+        }
+        self.waiting += 1;
         Ok(())
     }
 }

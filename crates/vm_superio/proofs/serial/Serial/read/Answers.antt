@@ -1,6 +1,6 @@
 -- What a step keeps.
 use Rattle.std.proofs.Common.{◌≡◌, ◌≤◌, ◌+◌, sym, ap, ◌∙◌, subst}
-use Rattle.vm_superio.specs.Serial.{State, Read, Asked, Coherent, read_step, state_with}
+use Rattle.vm_superio.specs.Serial.{Read, Asked, Coherent, read_step, state_with}
 use Rattle.superio_core.proofs.Lemmas.Serial.Coherence.{coherence_law}
 use Rattle.vm_superio.proofs.Lemmas.Serial.Kept.{transmitter-kept, pending-read}
 use Rattle.vm_superio.specs.Serial.Step.{transmitter, pending_count, acknowledged_at}
