@@ -6,7 +6,8 @@
 ghost use Rattle.vm_superio.specs.Serial.Laws.{RegisterLaw, HeldBytesLaw, LineStatusLaw, InterruptLaw, CoherenceLaw, StateLaw, ResponseLaw, StepLaw, CallLaw, RetryLaw, WholeRunLaw};
 ghost use Rattle.vm_superio.specs.Serial.Laws.Consequences.{PendingByPrefixesLaw, TriggerBoundLaw, WaitingBytesLaw, SameReadsLaw, TakenThenHeldLaw, ReadsAreTakenLaw, ReadThenHeldLaw, OutputLaw, PollingDriverLaw, DriverGetsAllLaw, PollsAfterDataReadyLaw};
 ghost use Rattle.vm_superio.specs.Serial.Laws.Line.{NoByteWaitsLaw, TimeoutCallsLaw, TimeoutsShowLaw, OwedAfterRunLaw, TakenAfterRunsLaw, LineAfterLaw, UpAfterCallLaw, GoesUpLaw, StaysUpLaw, LineOfHistoryLaw};
-ghost use Rattle.vm_superio.specs.Serial.Laws.Transmit.{StaysPendingLaw, IerWriteAsksLaw, ThrWriteAsksLaw, CalledSinceLaw, AskedAgainLaw, SentAfterRunsLaw, HandledLaw, HandledIsRunLaw};
+ghost use Rattle.vm_superio.specs.Serial.Laws.Transmit.{IerWriteAsksLaw, ThrWriteAsksLaw, RefusedWriteLaw, RetriedLaw, CalledSinceLaw};
+ghost use Rattle.vm_superio.specs.Serial.Laws.Console.{AskedToTakeLaw, AskedToSendLaw, TakenInRunsLaw, SentInRunsLaw, HandlerRunLaw, HandlerEndsLaw};
 ghost use Rattle.vm_superio.specs.Links.Writer.{KnownOutputLaw};
 ghost use Rattle.vm_superio.specs.Rtc.{ClockIsHistory, RawBitsByHistory, AlarmDueByHistory, SetTimeLaw};
 ghost use Rattle.vm_superio.specs.Serial.Laws.PortRun.{PortRunLaw, PortOutputLaw, PortBoundLaw};
@@ -137,29 +138,38 @@ pub fn interrupt_driver()
     ensures taken { TakenAfterRunsLaw }
 {}
 
-/// From any start, an IER write that enables THRE, and each THR write outside loopback while IER enables it, leave THRE
-/// pending until IIR is read. If it was not pending, the trigger is called once. What is pending after a read of IIR
-/// has had its trigger call since.
-#[tactic(auto, using(crate::proofs::Lemmas::Serial::Laws::Transmit::asks_for_more_laws))]
-pub fn asks_for_more()
-    ensures pending { StaysPendingLaw }
+/// From any start, an IER write that enables THRE, and each THR write outside loopback while IER enables it, raise THRE,
+/// and call the trigger once if it was not pending. The exception is an IER write whose call for RDA is refused. Then
+/// RDA is pending, and a retry calls the trigger for it, as for each condition that is pending and enabled. What is
+/// pending after a read of IIR has had its trigger call since.
+pub fn transmitter_interrupt()
     ensures ier_write { IerWriteAsksLaw }
     ensures thr_write { ThrWriteAsksLaw }
+    ensures refused_write { RefusedWriteLaw }
+    ensures retried { RetriedLaw }
     ensures called { CalledSinceLaw }
 {}
 
-/// From any start, for any driver that at each interrupt sends at least one of the bytes that it has left, one of them
-/// after its last read of IIR: the interrupt is asked for again as long as it has bytes left, and the byte with i bytes
-/// before it is sent within i + 1 runs, whatever is received and whatever timeouts are made meanwhile. A handler that
-/// goes on until IIR shows nothing pending, as Linux's does, sends all its bytes in one run. It also leaves no received
-/// byte, unless its last turn took as many as it takes in one; those wait for a character timeout. Such a run is also
-/// one in the sense of [`interrupt_driver`].
-#[tactic(auto, using(crate::proofs::Lemmas::Serial::Laws::Transmit::transmit_laws))]
-pub fn sending_driver()
-    ensures asked_again { AskedAgainLaw }
-    ensures sent { SentAfterRunsLaw }
-    ensures handled { HandledLaw }
-    ensures run { HandledIsRunLaw }
+/// From any start, for any driver of a console. At each interrupt it takes at least one held byte. It also sends at
+/// least one byte between two reads of IIR, if it has one and flow control does not stop it, and reads IIR until nothing
+/// is pending, as Linux and Xen do; or it sends at least one after its last read of IIR. The monitor makes a character
+/// timeout after each read of IIR that shows nothing pending, and in each turn of its event loop. Then after each run
+/// the interrupt is asked for as long as bytes are left to take or to send. A byte with i before it in its direction is
+/// through within i + 1 runs, in order, whatever arrives, and whatever the driver is given, meanwhile.
+pub fn console_driver()
+    ensures asked_to_take { AskedToTakeLaw }
+    ensures asked_to_send { AskedToSendLaw }
+    ensures taken { TakenInRunsLaw }
+    ensures sent { SentInRunsLaw }
+{}
+
+/// From any start, for a handler of Linux's shape: it reads IIR until nothing is pending, and after each read sends, and
+/// takes bytes until none is left or it has taken as many as a limit. Its runs are those of [`console_driver`]. Where it
+/// reads that nothing is pending, it has sent all its bytes, unless it is stopped, and taken all, unless its last turn
+/// came to the limit: the others wait for the character timeout.
+pub fn console_handler()
+    ensures run { HandlerRunLaw }
+    ensures ends { HandlerEndsLaw }
 {}
 
 /// One call in any state, and the level of the interrupt line. A call that calls the trigger, which may refuse, leaves

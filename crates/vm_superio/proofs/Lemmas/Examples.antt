@@ -1,4 +1,5 @@
 -- Worked examples of words that laws and contracts only assume, or bound by, since with a wrong one they would say less.
+mod Console
 use Rattle.std.proofs.Common.{◌≡◌, ℕ, ◌≤◌, true, false, List, [], ◌∷◌, ◌++◌, length, map, count_by, replicate, refl, sym, subst, ap, ◌∙◌, arith, inl, Ok, append-nil}
 use Rattle.std.proofs.lemmas.Bool.{false≢true}
 use Rattle.vm_superio.specs.Serial.{Asked, Sent, Coherent, State, fresh_state, Port, Memory, Op, Read, Write, Enqueue, Response, ByteRead, WriteOk, EnqueueOk, Trace, TraceEntry, IerWrite, ThrWrite, is_iir_read, is_rbr_read, Rda, Thre, restore_calls, step, is_dlab, is_loopback, has_bits, only_bits, with_bits}
@@ -7,7 +8,6 @@ use Rattle.vm_superio.specs.Links.{Link, TriggerAnswer, all_ok}
 use Rattle.vm_superio.specs.Serial.History.{NoneAcknowledges, acknowledges, held_bytes, taken_bytes, op_kinds, shows_waiting_bytes}
 use Rattle.vm_superio.specs.Serial.Laws.Consequences.{polls, polls_after_data_ready}
 use Rattle.vm_superio.specs.Serial.Laws.Line.{RunsAtInterrupts, TakenAfterRunsLaw, may_lower_line}
-use Rattle.vm_superio.specs.Serial.Laws.Transmit.{IsHandled}
 use Rattle.vm_superio.proofs.Lemmas.Serial.Laws.Consequences.{none_more, nowhere}
 use Rattle.vm_superio.specs.Serial.Laws.PortRun.{PortCall, PortCallsFollow, ops_of_calls, trace_with, interrupts_told, PortBoundLaw}
 use Rattle.vm_superio.specs.Serial.Run.{Act, Call, Done, Reply, Byte, Wrote, Restored, NotRestored, entry_of, without_restores}
@@ -109,93 +109,6 @@ as_many_runs : TakenAfterRunsLaw → (start : State) (before after : Trace)
     → RunsAtInterrupts start (length (held_bytes start before)) before after
     → (more : List ℕ) × (taken_bytes start after ≡ taken_bytes start before ++ held_bytes start before ++ more)
 as_many_runs law start before after runs = law start (length (held_bytes start before)) before after runs (omega arith)
-
--- ---- a handler that takes a byte and sends two, in two turns
-
-abbrev entry : (op : Op) (asked : Asked) (sent : Sent) → TraceEntry
-entry op asked sent = record { op = op; asked = asked; sent = sent }
-
-abbrev iir : TraceEntry
-iir = entry (Read 2) Asked.Nothing Sent.Nothing
-
-abbrev lsr : TraceEntry
-lsr = entry (Read 5) Asked.Nothing Sent.Nothing
-
--- the driver opens the port, and a byte arrives
-abbrev opened : Trace
-opened = entry (Enqueue (0x61 ∷ [])) Asked.Took Sent.Nothing ∷ entry (Write 1 0x03) Asked.Took Sent.Nothing ∷ []
-
--- its first turn, newest first: it takes the byte, sees that none is left, and sends two
-abbrev first_send : TraceEntry
-first_send = entry (Write 0 0x41) Asked.Took Sent.Out
-
-abbrev second_send : TraceEntry
-second_send = entry (Write 0 0x42) Asked.Nothing Sent.Out
-
-abbrev rbr : TraceEntry
-rbr = entry (Read 0) Asked.Nothing Sent.Nothing
-
-abbrev turn : Trace
-turn = second_send ∷ first_send ∷ lsr ∷ rbr ∷ lsr ∷ []
-
-abbrev no_iir : (newest trace : Trace) → Type 0
-no_iir newest trace = NoneAcknowledges fresh_state (acknowledges Thre) newest trace
-
-first_unread : no_iir turn (iir ∷ opened)
-unfolding has_bits only_bits with_bits
-first_unread =
-    let point : Trace = iir ∷ opened in
-    let more = none_more fresh_state (acknowledges Thre) in
-    more (first_send ∷ lsr ∷ rbr ∷ lsr ∷ []) point second_send refl
-    (more (lsr ∷ rbr ∷ lsr ∷ []) point first_send refl
-    (more (rbr ∷ lsr ∷ []) point lsr refl
-    (more (lsr ∷ []) point rbr refl (more [] point lsr refl (nowhere fresh_state (acknowledges Thre) point)))))
-
-second_unread : no_iir (lsr ∷ []) (iir ∷ turn ++ iir ∷ opened)
-unfolding has_bits only_bits with_bits
-second_unread =
-    let point : Trace = iir ∷ turn ++ iir ∷ opened in
-    none_more fresh_state (acknowledges Thre) [] point lsr refl (nowhere fresh_state (acknowledges Thre) point)
-
-handled_in_two_turns : IsHandled fresh_state 256 1 opened (lsr ∷ iir ∷ turn ++ iir ∷ []) (0x41 ∷ 0x42 ∷ []) []
-unfolding has_bits only_bits with_bits
-handled_in_two_turns = (
-  iir,
-  turn,
-  lsr ∷ iir ∷ [],
-  [],
-  refl,
-  refl,
-  record {
-    unread = first_unread;
-    sends = record {
-      sends = refl;
-      asks = λ some. record {
-        later = [];
-        entry = second_send;
-        earlier = first_send ∷ lsr ∷ rbr ∷ lsr ∷ [];
-        value = 0x42;
-        place = refl;
-        writes = refl;
-        enabled = refl;
-        unread = nowhere fresh_state (acknowledges Thre) (turn ++ iir ∷ opened);
-      };
-    };
-    takes = inl (record { later = []; earlier = turn; place = refl; none = refl; unread = nowhere fresh_state (acknowledges Rda) (turn ++ iir ∷ opened) });
-  },
-  (
-    iir,
-    lsr ∷ [],
-    refl,
-    refl,
-    record {
-      unread = second_unread;
-      sends = record { sends = refl; asks = λ some. absurd (false≢true some) };
-      takes = inl (record { later = []; earlier = lsr ∷ []; place = refl; none = refl; unread = nowhere fresh_state (acknowledges Rda) (lsr ∷ iir ∷ turn ++ iir ∷ opened) });
-    },
-    (refl, refl),
-  ),
-)
 
 sending_lowers_no_line : may_lower_line (ThrWrite 0x61) ≡ false
 sending_lowers_no_line = refl

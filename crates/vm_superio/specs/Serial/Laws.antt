@@ -1,4 +1,5 @@
 -- The laws by which steps and history agree: after any trace, both describe the same port.
+pub mod Console
 pub mod Consequences
 pub mod Line
 pub mod OneCall

@@ -1,4 +1,5 @@
 -- The register law: one call leaves in each register what it wrote there, and otherwise what was there.
+pub mod Console
 pub mod Consequences
 pub mod InterruptDriver
 pub mod Interrupts

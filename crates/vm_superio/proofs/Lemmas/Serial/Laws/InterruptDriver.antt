@@ -74,7 +74,7 @@ owed_after_run_law start before run asked is some enabled =
 abbrev pub Begins : (bytes all : List ℕ) → Type 0
 Begins bytes all = (more : List ℕ) × (all ≡ bytes ++ more)
 
-begins_then : (bytes middle all : List ℕ) → Begins bytes middle → Begins middle all → Begins bytes all
+pub begins_then : (bytes middle all : List ℕ) → Begins bytes middle → Begins middle all → Begins bytes all
 begins_then bytes middle all (one, first) (two, second) =
     (one ++ two, second ∙ ap (λ list. list ++ two) first ∙ append_assoc bytes one two)
 
@@ -83,7 +83,7 @@ taken_grows start [] before = ([], sym (append-nil _))
 taken_grows start (entry ∷ run) before =
     begins_then (taken_bytes start before) (taken_bytes start (run ++ before)) (taken_bytes start (entry ∷ run ++ before)) (taken_grows start run before) (_, refl)
 
-accepted_grows : (start : State) (run before : Trace) → Begins (accepted_bytes start before) (accepted_bytes start (run ++ before))
+pub accepted_grows : (start : State) (run before : Trace) → Begins (accepted_bytes start before) (accepted_bytes start (run ++ before))
 accepted_grows start [] before = ([], sym (append-nil _))
 accepted_grows start (entry ∷ run) before =
     begins_then (accepted_bytes start before) (accepted_bytes start (run ++ before)) (accepted_bytes start (entry ∷ run ++ before)) (accepted_grows start run before) (_, refl)
@@ -94,7 +94,7 @@ accepted_grows start (entry ∷ run) before =
 abbrev pub all_bytes : (start : State) (trace : Trace) → List ℕ
 all_bytes start trace = start.in_buffer ++ accepted_bytes start trace
 
-some_held : (held : List ℕ) → 0 < length held → IsTrue (not_empty held)
+pub some_held : (held : List ℕ) → 0 < length held → IsTrue (not_empty held)
 some_held held none = grind arith
 
 pub longer : (bytes all : List ℕ) → Begins bytes all → length bytes ≤ length all
@@ -113,6 +113,12 @@ pub counted : (start : State) (trace : Trace)
     → length (taken_bytes start trace) + length (held_bytes start trace) ≡ length (all_bytes start trace)
 counted start trace = sym (length-append (taken_bytes start trace) (held_bytes start trace)) ∙ ap length (taken_then_held start trace)
 
+-- one run more: it takes a byte, if one is held
+pub enough_next : (most taken held all runs taken_next : ℕ) → taken + held ≡ all → taken ≤ taken_next → (0 < held → taken < taken_next)
+    → most ≤ all → most ≤ taken + suc runs → most ≤ taken_next + runs
+enough_next most taken zero all runs taken_next count grows takes few enough = omega (arith, count, grows, few)
+enough_next most taken (suc held) all runs taken_next count grows takes few enough = omega (arith, takes (omega arith), enough)
+
 -- if `most` bytes are to be taken in all, and the runs are enough for them
 after_runs : (start : State) (most runs : ℕ) (before after : Trace) → RunsAtInterrupts start runs before after
     → most ≤ length (all_bytes start before) → most ≤ length (taken_bytes start before) + runs
@@ -126,11 +132,7 @@ after_runs start most (suc runs) before after (run, asked, is, later) few enough
     after_runs start most runs next after later
     (omega (arith, few, all_grow start (timeout_entry asked ∷ run) before))
     (enough_next most (length (taken_bytes start before)) (length (held_bytes start before)) (length (all_bytes start before)) runs (length (taken_bytes start next))
-    (counted start before) grown (λ some. omega (arith, timeout, is.takes (some_held (held_bytes start before) some))) few enough) where
-      enough_next : (most taken held all runs taken_next : ℕ) → taken + held ≡ all → taken ≤ taken_next → (0 < held → taken < taken_next)
-          → most ≤ all → most ≤ taken + suc runs → most ≤ taken_next + runs
-      enough_next most taken zero all runs taken_next count grows takes few enough = omega (arith, count, grows, few)
-      enough_next most taken (suc held) all runs taken_next count grows takes few enough = omega (arith, takes (omega arith), enough)
+    (counted start before) grown (λ some. omega (arith, timeout, is.takes (some_held (held_bytes start before) some))) few enough)
 
 extended : (start : State) (runs : ℕ) (before after : Trace) → RunsAtInterrupts start runs before after
     → (later : Trace) × (after ≡ later ++ before)
@@ -140,7 +142,7 @@ extended start (suc runs) before after (run, asked, is, rest) =
     (later ++ timeout_entry asked ∷ run, whole ∙ sym (append_assoc later (timeout_entry asked ∷ run) before))
 
 -- a list that begins with the second and is as long as the first begins with the first if both begin a third
-begins_first : (first second third : List ℕ) → Begins first third → Begins second third → length first ≤ length second → Begins first second
+pub begins_first : (first second third : List ℕ) → Begins first third → Begins second third → length first ≤ length second → Begins first second
 begins_first first second third (more, one) (rest, two) few =
     let n = length first in (
       drop n second,
