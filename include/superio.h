@@ -306,6 +306,10 @@ superio_serial_enqueue_effects superio_serial_enqueue(superio_serial *port,
  * - once in each turn of your event loop. For a guest whose handler does not
  *   read IIR until nothing is pending, a timer has to make turns while bytes
  *   are held.
+ *
+ * With these calls no byte waits for ever in either direction, if in each run
+ * the driver takes a held byte, and sends one of its own while it has any: the
+ * law console_driver in docs/THEOREM.md states this exactly.
  */
 uint8_t superio_serial_character_timeout(superio_serial *port)
     SUPERIO_MUST_USE SUPERIO_NONNULL SUPERIO_ACCESS(read_write, 1);
