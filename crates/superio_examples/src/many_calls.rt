@@ -10,7 +10,7 @@ ghost use Rattle.vm_superio.specs.Serial.History.{accepted_bytes, bytes_read};
 ghost use Rattle.vm_superio.specs.Serial.Run.{entries_of, trace_of};
 ghost use Rattle.superio_examples.specs.ManyCalls.{acknowledged_by, acknowledged_in};
 
-use crate::triggers::Line;
+use crate::triggers::InterruptLine;
 use std::alloc::{AllocError, Global};
 use std::io::Write;
 use vm_superio::run::{Call, Done, run};
@@ -28,7 +28,10 @@ pub enum Access {
 
 /// Makes the accesses in order, whatever the calls answer. However many they are, at most two more interrupts wait, and
 /// one more for each condition that a read acknowledges. LSR goes on showing the transmitter as it was.
-pub fn make_all<EV: SerialEvents, W: Write>(serial: &mut Serial<Line, EV, W>, accesses: &[Access])
+pub fn make_all<EV: SerialEvents, W: Write>(
+    serial: &mut Serial<InterruptLine, EV, W>,
+    accesses: &[Access],
+)
     ensures interrupts { serial.new.trigger.waiting
         ≤ serial.old.trigger.waiting + 2 + acknowledged_in accesses.now }
     ensures transmitter { transmitter serial.new.state ≡ transmitter serial.old.state }
@@ -39,7 +42,7 @@ pub fn make_all<EV: SerialEvents, W: Write>(serial: &mut Serial<Line, EV, W>, ac
 }
 
 /// Makes an access: what becomes pending and was not acknowledged bounds the interrupts that wait.
-fn make_one<EV: SerialEvents, W: Write>(serial: &mut Serial<Line, EV, W>, access: Access)
+fn make_one<EV: SerialEvents, W: Write>(serial: &mut Serial<InterruptLine, EV, W>, access: Access)
     ensures interrupts { serial.new.trigger.waiting + pending_count serial.old.state
         ≤ serial.old.trigger.waiting + pending_count serial.new.state + acknowledged_by access }
     ensures transmitter { transmitter serial.new.state ≡ transmitter serial.old.state }

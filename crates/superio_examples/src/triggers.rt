@@ -1,7 +1,7 @@
 //! Triggers: the usual one, a file descriptor that the host's kernel watches, such as an eventfd that is the irqfd of
 //! an interrupt line; one that counts its calls, for a monitor that injects interrupts itself; and one that has room for
 //! some interrupts and refuses the others, with a link of its own.
-ghost use Rattle.std.specs.Prelude.{◌≡◌, ◌≤◌, ◌-◌, ◌==◌, not, [], ◌∷◌, OnOk, OnErr};
+ghost use Rattle.std.specs.Prelude.{◌≡◌, ◌<◌, ◌≤◌, ◌-◌, ◌==◌, not, [], ◌∷◌, OnOk, OnErr};
 ghost use Rattle.std.specs.Io.KnownBytes.{Appends};
 ghost use Rattle.vm_superio.specs.Links.ForAnyObject.{FoldsEvents, FoldsEvents-nil, FoldsEvents-append};
 ghost use Rattle.vm_superio.specs.Links.ForAnyObject.{Unspecified, Unspecified-nil, Unspecified-append};
@@ -99,7 +99,7 @@ impl Trigger for Counter {
 ///
 /// Its link is its own: one more interrupt waits for each call that was taken.
 #[derive(Drop)]
-pub struct Line {
+pub struct InterruptLine {
     waiting: u32,
     limit: u32,
 }
@@ -108,13 +108,13 @@ pub struct Line {
 #[derive(Debug, Drop)]
 pub struct NoRoom;
 
-impl Line {
+impl InterruptLine {
     /// A line on which no interrupt waits.
-    pub fn new(limit: u32) -> Line
+    pub fn new(limit: u32) -> InterruptLine
         ensures waiting { result.waiting ≡ 0 }
         ensures limit { result.limit ≡ limit }
     {
-        Line { waiting: 0, limit }
+        InterruptLine { waiting: 0, limit }
     }
 
     /// How many interrupts wait.
@@ -138,7 +138,7 @@ impl Line {
     }
 }
 
-impl Trigger for Line {
+impl Trigger for InterruptLine {
     type E = NoRoom;
 
     ghost link = { TakesCalls };
@@ -154,6 +154,7 @@ impl Trigger for Line {
     /// Returns `NoRoom` if as many wait as the limit allows: retry once the guest has taken one.
     fn trigger(&mut self) -> Result<(), NoRoom>
         ensures link { TakesCalls self.old (result ∷ []) self.new }
+        ensures taken { OnOk result (self.old.waiting < self.old.limit) }
         ensures refused { OnErr result (self.old.limit ≤ self.old.waiting) }
     {
         if self.waiting >= self.limit {

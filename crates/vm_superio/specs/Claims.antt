@@ -1,5 +1,6 @@
 -- Words for a caller's claims. A first contract needs two `ghost use` lines: one of this file, and one of the signs,
--- which come from `Rattle.std.specs.Prelude`.
+-- which come from `Rattle.std.specs.Prelude`. A type of this crate's sources is imported by its file, as `Call` by
+-- `use Rattle.vm_superio.specs.declared.run.Call.{Call}`, and its variants by `.. Call.TheVariants.{Read, Write}`.
 use Rattle.std.specs.Prelude.{◌≡◌, ℕ, Bool, true, false, List}
 pub use Rattle.superio_core.specs.declared.rtc_pl031.saved_form.RtcState.{RtcState}
 pub use Rattle.superio_core.specs.Bits.{has_bits}
@@ -17,7 +18,7 @@ pub use Rattle.superio_core.specs.Serial.Step.{step}
 pub use Rattle.vm_superio.specs.Links.{all_ok}
 pub use Rattle.vm_superio.specs.Saved.{state_of}
 pub use Rattle.vm_superio.specs.Serial.{Port, restore_calls}
-pub use Rattle.vm_superio.specs.Serial.Run.{Call, Done, acknowledged_in, answers_in_records}
+pub use Rattle.vm_superio.specs.Serial.Run.{acknowledged_in, answers_in_records}
 pub use Rattle.vm_superio.specs.Serial.Step.{acknowledged_at, pending_count, transmitter, turned_on_count}
 use Rattle.vm_superio.specs.Serial.{is_dlab, is_loopback, ier_bit, iir_bit}
 
