@@ -210,11 +210,10 @@ impl Registers {
     pub fn at(&self, offset: u8) -> Register
         ensures { result ≡ register_at (is_dlab self.now.line_control) offset }
     {
-        let is_divisor_shown = has_bits(self.line_control, LCR_DLAB_BIT);
         match offset {
-            DATA_OFFSET if is_divisor_shown => Register::Dll,
+            DATA_OFFSET if self.is_divisor_shown() => Register::Dll,
             DATA_OFFSET => Register::RbrThr,
-            IER_OFFSET if is_divisor_shown => Register::Dlm,
+            IER_OFFSET if self.is_divisor_shown() => Register::Dlm,
             IER_OFFSET => Register::Ier,
             IIR_OFFSET => Register::Iir,
             LCR_OFFSET => Register::Lcr,
@@ -224,6 +223,14 @@ impl Registers {
             SCR_OFFSET => Register::Scr,
             _ => Register::Unassigned,
         }
+    }
+
+    /// Whether LCR's DLAB puts the divisor latch at offsets 0 and 1.
+    #[inline(always)]
+    fn is_divisor_shown(&self) -> bool
+        ensures { result ≡ is_dlab self.now.line_control }
+    {
+        has_bits(self.line_control, LCR_DLAB_BIT)
     }
 
     /// Whether loopback is on.
