@@ -11,7 +11,8 @@ abbrev pub after_call : {E : Type 0} → (line : Counter) (answer : Result (Unit
 after_call line answer = record line { calls = min (line.calls + 1) (2 ^ 64 - 1) }
 
 -- a link: one more interrupt waits for each call that was taken, and the limit stays
-pub record TakesCalls {E : Type 0} (old : InterruptLine) (answers : List (Result (Unit {0}) E)) (new : InterruptLine) : Type 0 where
+pub record TakesCalls
+    {E : Type 0} (old : InterruptLine) (answers : List (Result (Unit {0}) E)) (new : InterruptLine) : Type 0 where
   pub waiting : new.waiting ≡ old.waiting + count_by is_ok answers
   pub limit : new.limit ≡ old.limit
 
@@ -20,7 +21,8 @@ pub TakesCalls-nil : {E : Type 0} (old new : InterruptLine) → TakesCalls {E = 
 TakesCalls-nil old new = (λ silent. grind arith, λ same. grind arith)
 
 -- the law `joined`: calls that follow each other are one list of calls
-pub TakesCalls-append : {E : Type 0} (old between new : InterruptLine) (first second : List (Result (Unit {0}) E))
+pub TakesCalls-append :
+    {E : Type 0} (old between new : InterruptLine) (first second : List (Result (Unit {0}) E))
     → TakesCalls old first between → TakesCalls between second new → TakesCalls old (first ++ second) new
 TakesCalls-append {E} old between new first second to_between to_new = record {
   waiting = omega (arith, to_between.waiting, to_new.waiting, sum_by-append (λ (answer : Result (Unit {0}) E). if is_ok answer then 1 else 0) first second);
