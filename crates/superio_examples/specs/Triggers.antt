@@ -24,7 +24,9 @@ TakesCalls-nil old new = (λ silent. grind arith, λ same. grind arith)
 pub TakesCalls-append :
     {E : Type 0} (old between new : InterruptLine) (first second : List (Result (Unit {0}) E))
     → TakesCalls old first between → TakesCalls between second new → TakesCalls old (first ++ second) new
-TakesCalls-append {E} old between new first second to_between to_new = record {
-  waiting = omega (arith, to_between.waiting, to_new.waiting, sum_by-append (λ (answer : Result (Unit {0}) E). if is_ok answer then 1 else 0) first second);
-  limit = grind arith;
-}
+TakesCalls-append {E} old between new first second to_between to_new =
+    let counted = sum_by-append (λ (answer : Result (Unit {0}) E). if is_ok answer then 1 else 0) first second in
+    record {
+      waiting = omega (arith, to_between.waiting, to_new.waiting, counted);
+      limit = grind arith;
+    }

@@ -55,7 +55,7 @@ acknowledged_at offset = if offset == 2 then 2 else (if offset == 0 then 1 else 
 
 -- ---- what a call keeps
 
--- a write keeps what belongs to other offsets: the received bytes to 0, IER to 1, LCR to 3, MCR to 4 and SCR to 7
+-- a write keeps what other offsets have: 0 has the received bytes, 1 IER, 3 LCR, 4 MCR and 7 SCR
 pub record SameElsewhere (offset : ℕ) (old new : State) : Type 0 where
   pub held : OnFalse (offset == 0) (new.in_buffer ≡ old.in_buffer)
   pub enable : OnFalse (offset == 1) (new.interrupt_enable ≡ old.interrupt_enable)
@@ -63,7 +63,7 @@ pub record SameElsewhere (offset : ℕ) (old new : State) : Type 0 where
   pub modem_control : OnFalse (offset == 4) (new.modem_control ≡ old.modem_control)
   pub scratch : OnFalse (offset == 7) (new.scratch ≡ old.scratch)
 
--- LSR's bits for an empty transmitter
+-- the two bits of LSR that say that the transmitter is empty
 abbrev pub transmitter : (s : State) → ℕ
 transmitter s = only_bits s.line_status 0x60
 
