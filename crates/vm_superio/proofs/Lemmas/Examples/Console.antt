@@ -1,10 +1,10 @@
 -- Worked examples of a console: runs as its laws assume them, a driver that stalls, and a trigger that refuses.
 use Rattle.std.proofs.Common.{◌≡◌, ℕ, Bool, true, false, not, ◌==◌, ◌&&◌, ◌||◌, if◌then◌else◌, nat_le, inl, inr, [], ◌∷◌, ◌++◌, length, refl, sym, subst, arith, IsTrue, ◌⊎◌}
 use Rattle.std.proofs.lemmas.Bool.{and_parts, false≢true}
-use Rattle.vm_superio.specs.Serial.{Asked, Sent, State, fresh_state, Op, Read, Write, Enqueue, Trace, TraceEntry, OpKind, IirRead, is_iir_read, is_rbr_read, Rda, Thre, has_bits, only_bits, with_bits}
-use Rattle.vm_superio.specs.Serial.History.{NoneAcknowledges, kind_at, is_raised, is_pending, trigger_calls, restore_calls_due, guest_read}
+use Rattle.vm_superio.specs.Serial.{Asked, is_refused_at_once, Sent, State, fresh_state, Op, Read, Write, Enqueue, Trace, TraceEntry, OpKind, IirRead, is_iir_read, is_rbr_read, Rda, Thre, has_bits, only_bits, with_bits}
+use Rattle.vm_superio.specs.Serial.History.{NoneAcknowledges, interrupt_enable, kind_at, raises_thre, is_call_due, is_raised, is_pending, trigger_calls, restore_calls_due, guest_read}
 use Rattle.vm_superio.specs.Serial.Laws.Line.{timeout_entry}
-use Rattle.vm_superio.specs.Serial.Laws.Console.{Driver, sent, left, has_to_send, AsksWhenGiven, SentInOrder, ShowsNone, IsHandlerRun, IsConsoleRun, TimeoutAfterNone, after_runs, free_runs}
+use Rattle.vm_superio.specs.Serial.Laws.Console.{Driver, sent, left, has_to_send, EnablesThre, SendsEnabled, AsksWhenGiven, SentInOrder, ShowsNone, IsHandlerRun, IsConsoleRun, TimeoutAfterNone, after_runs, free_runs}
 
 -- ---- what holds at each place of some entries, as a test
 
@@ -37,11 +37,23 @@ none_by start reads newest before all later earlier entry place =
     not_true (reads (kind_at start (earlier ++ before) entry.op))
     (each_place (λ earlier entry. not (reads (kind_at start (earlier ++ before) entry.op))) newest all later earlier entry place)
 
-either : (now before raised : Bool) → IsTrue (not now || before || raised) → IsTrue now → IsTrue before ⊎ IsTrue raised
-either now true raised all is = inl refl
-either now false true all is = inr refl
-either true false false all is = absurd (false≢true all)
-either false false false all is = absurd (false≢true is)
+raised_by : (start : State) (before : Trace) (entry : TraceEntry) (kind : OpKind) → kind_at start before entry.op ≡ kind
+    → IsTrue (raises_thre kind (interrupt_enable start before) (is_call_due Rda start before entry && is_refused_at_once entry.asked))
+    → EnablesThre start before entry ⊎ SendsEnabled start before entry
+raised_by start before entry (OpKind.IerWrite value) is raised =
+    let refused = is_call_due Rda start before entry && is_refused_at_once entry.asked in
+    let both = and_parts (has_bits value 0x02) (not refused) raised in
+    inl (value, is, both.0, not_true refused both.1)
+raised_by start before entry (OpKind.ThrWrite value) is raised = inr (value, is, raised)
+raised_by start before entry _ is raised = absurd (false≢true raised)
+
+either : (start : State) (earlier : Trace) (entry : TraceEntry) (now before raised : Bool)
+    → is_raised Thre start earlier entry ≡ raised → IsTrue (not now || before || raised) → IsTrue now
+    → IsTrue before ⊎ EnablesThre start earlier entry ⊎ SendsEnabled start earlier entry
+either start earlier entry now true raised same all is = inl refl
+either start earlier entry now false true same all is = inr (raised_by start earlier entry _ refl same)
+either start earlier entry true false false same all is = absurd (false≢true all)
+either start earlier entry false false false same all is = absurd (false≢true is)
 
 abbrev asks_at : (driver : Driver) (start : State) (before earlier : Trace) (entry : TraceEntry) → Bool
 asks_at driver start before earlier entry =
@@ -51,7 +63,8 @@ asks_at driver start before earlier entry =
 asks_by : (driver : Driver) (start : State) (before newest : Trace) → IsTrue (all_places (asks_at driver start before) newest)
     → AsksWhenGiven driver start before newest
 asks_by driver start before newest all later earlier entry place has =
-    either _ _ _ (each_place (asks_at driver start before) newest all later earlier entry place) has
+    either start (earlier ++ before) entry _ (has_to_send driver start (earlier ++ before)) _ refl
+    (each_place (asks_at driver start before) newest all later earlier entry place) has
 
 -- an entry that reads no IIR that shows nothing pending
 abbrev shows_some : (start : State) (before earlier : Trace) (entry : TraceEntry) → Bool

@@ -1,8 +1,8 @@
 -- The laws of a console: a driver takes received bytes and sends its own when an interrupt runs it, and a monitor
 -- makes character timeouts. No byte waits for ever, in either direction.
 use Rattle.std.specs.Prelude.{◌≡◌, ⊤, ℕ, ◌+◌, ◌<◌, ◌≤◌, Bool, false, not, ◌&&◌, ◌||◌, if◌then◌else◌, List, [], ◌∷◌, ◌++◌, length, take, drop, ◌⊎◌, IsTrue}
-use Rattle.vm_superio.specs.Serial.{Asked, count_if, TraceEntry, Trace, IirRead, ThrWrite, is_iir_read, is_rbr_read, sent_by, has_bits, State, not_empty, Rda, Thre, Condition, ier_bit}
-use Rattle.vm_superio.specs.Serial.History.{interrupt_enable, held_bytes, taken_bytes, kind_at, is_raised, is_pending, NoneAcknowledges}
+use Rattle.vm_superio.specs.Serial.{Asked, is_refused_at_once, count_if, TraceEntry, Trace, IirRead, IerWrite, ThrWrite, is_iir_read, is_rbr_read, sent_by, has_bits, State, not_empty, Rda, Thre, Condition, ier_bit}
+use Rattle.vm_superio.specs.Serial.History.{interrupt_enable, held_bytes, taken_bytes, kind_at, is_call_due, is_pending, NoneAcknowledges}
 use Rattle.vm_superio.specs.Serial.Laws.Line.{timeout_entry}
 use Rattle.vm_superio.specs.Serial.Laws.Transmit.{IsRetried, CallsFor}
 
@@ -40,13 +40,26 @@ SentInOrder driver start trace = given driver trace ≡ sent driver start trace 
 abbrev pub has_to_send : (driver : Driver) (start : State) (trace : Trace) → Bool
 has_to_send driver start trace = not_empty (left driver start trace) && not (driver.is_stopped trace)
 
+-- an IER write that enables THRE, and whose call for RDA, if one is due, is not refused
+abbrev pub EnablesThre : (start : State) (before : Trace) (entry : TraceEntry) → Type 0
+EnablesThre start before entry =
+    (value : ℕ) × (kind_at start before entry.op ≡ IerWrite value) × IsTrue (has_bits value (ier_bit Thre))
+    × ((is_call_due Rda start before entry && is_refused_at_once entry.asked) ≡ false)
+
+-- a THR write outside loopback while IER enables THRE
+abbrev pub SendsEnabled : (start : State) (before : Trace) (entry : TraceEntry) → Type 0
+SendsEnabled start before entry =
+    (value : ℕ) × (kind_at start before entry.op ≡ ThrWrite value)
+    × IsTrue (has_bits (interrupt_enable start before) (ier_bit Thre))
+
 -- in these entries after `before`, newest first: whoever gives the driver bytes while it has none, or lets it go on
--- after a stop, enables THRE. It comes to have bytes to send only at an entry that raises THRE
+-- after a stop, enables THRE or sends a byte. It comes to have bytes to send only at such an entry
 abbrev pub AsksWhenGiven : (driver : Driver) (start : State) (before newest : Trace) → Type 0
 AsksWhenGiven driver start before newest =
     (later earlier : Trace) (entry : TraceEntry) → newest ≡ later ++ entry ∷ earlier
     → IsTrue (has_to_send driver start (entry ∷ earlier ++ before))
-    → IsTrue (has_to_send driver start (earlier ++ before)) ⊎ IsTrue (is_raised Thre start (earlier ++ before) entry)
+    → IsTrue (has_to_send driver start (earlier ++ before))
+    ⊎ EnablesThre start (earlier ++ before) entry ⊎ SendsEnabled start (earlier ++ before) entry
 
 -- ---- a driver's run
 

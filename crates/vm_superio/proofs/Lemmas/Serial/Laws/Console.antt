@@ -3,14 +3,14 @@ use Rattle.std.proofs.Common.{◌≡◌, ℕ, ◌<◌, ◌≤◌, ◌+◌, ◌-�
 use Rattle.std.proofs.lemmas.Bool.{and_parts, false≢true}
 use Rattle.std.proofs.lemmas.List.{take-append-drop}
 use Rattle.std.specs.Bool.{IsFalse}
-use Rattle.vm_superio.specs.Serial.{Rda, Thre, Condition, State, not_empty, TraceEntry, Trace, is_refused_at_once, count_if, OpKind, ThrWrite, sent_by, has_bits, ier_bit}
-use Rattle.vm_superio.specs.Serial.History.{kind_at, interrupt_enable, held_bytes, accepted_bytes, taken_bytes, accepted_by, taken_by, acknowledges, raises_thre, rda_raised, rda_pending, is_raised, is_pending, NoneAcknowledges, shows_waiting_bytes}
+use Rattle.vm_superio.specs.Serial.{Rda, Thre, Condition, State, not_empty, TraceEntry, Trace, count_if, OpKind, IirRead, IerWrite, ThrWrite, sent_by, has_bits, ier_bit}
+use Rattle.vm_superio.specs.Serial.History.{kind_at, interrupt_enable, held_bytes, accepted_bytes, taken_bytes, accepted_by, taken_by, acknowledges, is_raised, is_pending, NoneAcknowledges, shows_waiting_bytes}
 use Rattle.vm_superio.specs.Serial.Laws.Line.{timeout_entry}
-use Rattle.vm_superio.specs.Serial.Laws.Console.{Driver, given, sent, left, has_to_send, AsksWhenGiven, SendsOne, Rests, EndsAtNone, EndsInTurn, IsAskedFor, AskedToTakeLaw, AskedToSendLaw, AreConsoleRuns, after_runs, is_free, free_runs, TakenInRunsLaw, SentInRunsLaw, TakesUntilNone, TakesMost, HandlerRunLaw, HandlerEndsLaw}
+use Rattle.vm_superio.specs.Serial.Laws.Console.{Driver, given, sent, left, has_to_send, EnablesThre, SendsEnabled, AsksWhenGiven, SendsOne, Rests, EndsAtNone, EndsInTurn, IsAskedFor, AskedToTakeLaw, AskedToSendLaw, AreConsoleRuns, after_runs, is_free, free_runs, TakenInRunsLaw, SentInRunsLaw, TakesUntilNone, TakesMost, HandlerRunLaw, HandlerEndsLaw}
 use Rattle.vm_superio.proofs.Lemmas.Serial.Laws.{taken_then_held}
 use Rattle.vm_superio.proofs.Lemmas.Serial.Laws.Consequences.{none_more, nowhere, waiting_bytes_law}
 use Rattle.vm_superio.proofs.Lemmas.Serial.Laws.InterruptDriver.{Begins, begins_then, begins_first, all_bytes, some_held, taken_grows, accepted_grows, longer, counted, all_grow, enough_next}
-use Rattle.vm_superio.proofs.Lemmas.Serial.Laws.Transmit.{thr_raises, raised_stays, retried_law, called_since_law}
+use Rattle.vm_superio.proofs.Lemmas.Serial.Laws.Transmit.{ier_raises, thr_raises, raised_stays, retried_law, called_since_law}
 
 -- ---- parts of some entries
 
@@ -33,7 +33,7 @@ asks_within : (driver : Driver) (start : State) (newest later middle earlier bef
     → AsksWhenGiven driver start (earlier ++ before) middle
 asks_within driver start newest later middle earlier before whole asks first rest entry place =
     subst (λ (trace : Trace). IsTrue (has_to_send driver start (entry ∷ trace))
-    → IsTrue (has_to_send driver start trace) ⊎ IsTrue (is_raised Thre start trace entry)) (append_assoc rest earlier before)
+    → IsTrue (has_to_send driver start trace) ⊎ EnablesThre start trace entry ⊎ SendsEnabled start trace entry) (append_assoc rest earlier before)
     (asks (later ++ first) (rest ++ earlier) entry (whole ∙ within later middle earlier entry first rest place))
 
 not_iir : (kind : OpKind) → IsFalse (acknowledges Rda kind) → IsFalse (acknowledges Thre kind)
@@ -52,14 +52,21 @@ Waits driver start trace = IsTrue (has_to_send driver start trace) → IsTrue (i
 kept_on : (raised acknowledged before : Bool) → IsFalse acknowledged → IsTrue before → IsTrue (raised || (not acknowledged && before))
 kept_on raised acknowledged before none was = grind arith
 
+now_pending : (start : State) (trace : Trace) (entry : TraceEntry) → IsTrue (is_raised Thre start trace entry)
+    → IsTrue (is_pending Thre start (entry ∷ trace))
+now_pending start trace entry raised =
+    ap (λ raised. raised || (not (acknowledges Thre (kind_at start trace entry.op)) && is_pending Thre start trace)) raised
+
 waits_next : (driver : Driver) (start : State) (trace : Trace) (entry : TraceEntry)
     → IsFalse (acknowledges Thre (kind_at start trace entry.op)) → Waits driver start trace
-    → IsTrue (has_to_send driver start trace) ⊎ IsTrue (is_raised Thre start trace entry)
+    → IsTrue (has_to_send driver start trace) ⊎ EnablesThre start trace entry ⊎ SendsEnabled start trace entry
     → IsTrue (is_pending Thre start (entry ∷ trace))
 waits_next driver start trace entry none was (inl earlier) =
     kept_on (is_raised Thre start trace entry) (acknowledges Thre (kind_at start trace entry.op)) _ none (was earlier)
-waits_next driver start trace entry none was (inr raised) =
-    ap (λ raised. raised || (not (acknowledges Thre (kind_at start trace entry.op)) && is_pending Thre start trace)) raised
+waits_next driver start trace entry none was (inr (inl (value, kind, enabled, kept))) =
+    now_pending start trace entry (ier_raises start trace entry value kind enabled kept)
+waits_next driver start trace entry none was (inr (inr (value, kind, enabled))) =
+    now_pending start trace entry (thr_raises start trace entry value kind enabled)
 
 stays_waiting : (driver : Driver) (start : State) (newest before : Trace) → NoneAcknowledges start (acknowledges Thre) newest before
     → AsksWhenGiven driver start before newest → Waits driver start before → Waits driver start (newest ++ before)
@@ -115,20 +122,20 @@ module _ (driver : Driver) (start : State) (before run : Trace) (asks : AsksWhen
     has_none_at_end =
         has_none _ _ (turn_waits driver start opened ends.turn ends.is_turn.unread asks_in_turn ends.is_turn.sends) ends.shows_none.0
 
-    raises_none : is_raised Thre start end ends.none ≡ false
-    raises_none =
-        let refused = rda_raised start end ends.none && not (rda_pending start end) && is_refused_at_once ends.none.asked in
-        ap (λ (kind : OpKind). raises_thre kind (interrupt_enable start end) refused) ends.reads_none
-
     has_none_after : Waits driver start (ends.none ∷ end)
     has_none_after some =
         let nested : (ends.turn ++ ends.iir ∷ ends.earlier) ++ before ≡ end = append_assoc ends.turn (ends.iir ∷ ends.earlier) before in
         absurd (not_either (subst (λ (trace : Trace). IsTrue (has_to_send driver start (ends.none ∷ trace))
-        → IsTrue (has_to_send driver start trace) ⊎ IsTrue (is_raised Thre start trace ends.none)) nested
+        → IsTrue (has_to_send driver start trace) ⊎ EnablesThre start trace ends.none ⊎ SendsEnabled start trace ends.none) nested
         (asks ends.tail (ends.turn ++ ends.iir ∷ ends.earlier) ends.none ends.place) some)) where
-          not_either : IsTrue (has_to_send driver start end) ⊎ IsTrue (is_raised Thre start end ends.none) → ⊥
+          not_either : IsTrue (has_to_send driver start end) ⊎ EnablesThre start end ends.none ⊎ SendsEnabled start end ends.none → ⊥
           not_either (inl has) = false≢true (sym has_none_at_end ∙ has)
-          not_either (inr raised) = false≢true (sym raises_none ∙ raised)
+          not_either (inr (inl (value, kind, enabled, kept))) = reads_not (sym ends.reads_none ∙ kind) where
+            reads_not : IirRead ≡ IerWrite value → ⊥
+            reads_not e = cc
+          not_either (inr (inr (value, kind, enabled))) = reads_not (sym ends.reads_none ∙ kind) where
+            reads_not : IirRead ≡ ThrWrite value → ⊥
+            reads_not e = cc
 
     asks_in_tail : AsksWhenGiven driver start (ends.none ∷ end) ends.tail
     asks_in_tail =

@@ -23,11 +23,16 @@ asks start before entry well_formed raised = record {
       ∙ ap (λ raised. count_if (is_call_due Rda start before entry) + count_if (raised && not (is_pending Thre start before))) raised;
 }
 
+pub ier_raises : (start : State) (before : Trace) (entry : TraceEntry) (value : ℕ) → kind_at start before entry.op ≡ IerWrite value
+    → IsTrue (has_bits value (ier_bit Thre)) → (is_call_due Rda start before entry && is_refused_at_once entry.asked) ≡ false
+    → IsTrue (is_raised Thre start before entry)
+ier_raises start before entry value kind enabled kept =
+    let refused = rda_raised start before entry && not (rda_pending start before) && is_refused_at_once entry.asked in
+    ap (λ k. raises_thre k (interrupt_enable start before) refused) kind ∙ both_true enabled (ap not kept)
+
 pub ier_write_asks_law : IerWriteAsksLaw
 ier_write_asks_law start before entry value well_formed kind enabled kept =
-    let refused = rda_raised start before entry && not (rda_pending start before) && is_refused_at_once entry.asked in
-    asks start before entry well_formed
-    (ap (λ k. raises_thre k (interrupt_enable start before) refused) kind ∙ both_true enabled (ap not kept))
+    asks start before entry well_formed (ier_raises start before entry value kind enabled kept)
 
 pub thr_raises : (start : State) (before : Trace) (entry : TraceEntry) (value : ℕ) → kind_at start before entry.op ≡ ThrWrite value
     → IsTrue (has_bits (interrupt_enable start before) (ier_bit Thre)) → IsTrue (is_raised Thre start before entry)
