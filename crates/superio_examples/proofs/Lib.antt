@@ -1,2 +1,3 @@
+pub mod EchoLemmas
 pub mod MonitorLemmas
 pub mod QueueLemmas

@@ -1,4 +1,5 @@
 pub mod Bus
+pub mod Echo
 pub mod ManyCalls
 pub mod Mmio
 pub mod Monitor

@@ -3,6 +3,7 @@
 #![tactic(auto)]
 
 pub mod bus;
+pub mod echo;
 pub mod first_claims;
 pub mod many_calls;
 pub mod mmio;
