@@ -150,12 +150,18 @@ pub fn transmitter_interrupt()
     ensures called { CalledSinceLaw }
 {}
 
-/// From any start, for any driver of a console. At each interrupt it takes at least one held byte. It also sends at
-/// least one byte between two reads of IIR, if it has one and flow control does not stop it, and reads IIR until nothing
-/// is pending, as Linux and Xen do; or it sends at least one after its last read of IIR. The monitor makes a character
-/// timeout after each read of IIR that shows nothing pending, and in each turn of its event loop. Then after each run
-/// the interrupt is asked for as long as bytes are left to take or to send. A byte with i before it in its direction is
-/// through within i + 1 runs, in order, whatever arrives, and whatever the driver is given, meanwhile.
+/// From any start, for any driver of a console. At each interrupt it takes at least one held byte. Either it reads IIR
+/// until nothing is pending and sends at least one byte between two reads, as Linux and Xen do, or it sends at least one
+/// after its last read of IIR, unless it has none left or flow control stops it. Whoever gives it bytes while it has
+/// none, or lets it go on, enables THRE. The monitor makes a character timeout after each read of IIR that shows nothing
+/// pending, and in each turn of its event loop.
+///
+/// Then after each run the interrupt is asked for as long as bytes are left to take or to send. A byte with i before it
+/// in its direction is through within i + 1 runs, in order, whatever arrives, and whatever the driver is given,
+/// meanwhile. For what it sends, only the runs count in which it was not stopped.
+///
+/// A driver that has bytes left and ends its run with a read of IIR that shows THRE is not asked again, neither here nor
+/// by a 16550A.
 pub fn console_driver()
     ensures asked_to_take { AskedToTakeLaw }
     ensures asked_to_send { AskedToSendLaw }

@@ -8,12 +8,13 @@ use Rattle.vm_superio.specs.Serial.Laws.Transmit.{IsRetried, CallsFor}
 
 -- ---- a driver's own bytes
 
--- what a trace does not show of a driver. At each call: the bytes that it is given to send, and whether a THR write
--- sends one of them, and not a byte of another, such as a message printed by polling. And at each point: whether
--- flow control has stopped it
+-- what a trace does not show of a driver
 pub record Driver : Type 0 where
+  -- the bytes that it is given to send, with a call at this point
   pub given_at : Trace → TraceEntry → List ℕ
+  -- a THR write at this point sends one of them, and not a byte of another, such as a message printed by polling
   pub sends_own : Trace → TraceEntry → Bool
+  -- flow control has stopped it at this point
   pub is_stopped : Trace → Bool
 
 -- all bytes that it has been given so far, in order
@@ -68,8 +69,8 @@ abbrev pub NoIirRead : (start : State) (newest trace : Trace) → Type 0
 NoIirRead start newest trace = NoneAcknowledges start is_iir_read newest trace
 
 -- neither IIR nor RBR is read in these entries
-abbrev pub NoDataRead : (start : State) (newest trace : Trace) → Type 0
-NoDataRead start newest trace = NoneAcknowledges start (λ kind. is_iir_read kind || is_rbr_read kind) newest trace
+abbrev pub NoIirOrRbrRead : (start : State) (newest trace : Trace) → Type 0
+NoIirOrRbrRead start newest trace = NoneAcknowledges start (λ kind. is_iir_read kind || is_rbr_read kind) newest trace
 
 -- in these entries the driver sends one of its bytes by a THR write outside loopback, while IER enables THRE
 pub record SendsOne (driver : Driver) (start : State) (before newest : Trace) : Type 0 where
@@ -110,7 +111,7 @@ pub record EndsAtNone (driver : Driver) (start : State) (before run : Trace) : T
   pub is_turn : IsTurn driver start (iir ∷ earlier ++ before) turn
   pub reads_none : kind_at start (turn ++ (iir ∷ earlier ++ before)) none.op ≡ IirRead
   pub shows_none : ShowsNone start (turn ++ (iir ∷ earlier ++ before))
-  pub untouched : NoDataRead start tail (none ∷ (turn ++ (iir ∷ earlier ++ before)))
+  pub untouched : NoIirOrRbrRead start tail (none ∷ (turn ++ (iir ∷ earlier ++ before)))
 
 -- a run that ends in a turn, as of a driver that reads IIR once. After it the monitor's event loop makes a
 -- character timeout, and neither IIR nor RBR is read later
@@ -123,7 +124,7 @@ pub record EndsInTurn (driver : Driver) (start : State) (before run : Trace) : T
   pub place : run ≡ tail ++ timeout_entry asked ∷ (turn ++ iir ∷ earlier)
   pub reads : kind_at start (earlier ++ before) iir.op ≡ IirRead
   pub is_turn : IsTurn driver start (iir ∷ earlier ++ before) turn
-  pub untouched : NoDataRead start tail (timeout_entry asked ∷ (turn ++ (iir ∷ earlier ++ before)))
+  pub untouched : NoIirOrRbrRead start tail (timeout_entry asked ∷ (turn ++ (iir ∷ earlier ++ before)))
 
 -- entries after `before`, newest first: those of a driver's run, and of others meanwhile, such as the host. The
 -- driver takes a byte if one is held at first, and ends in one of the two ways
@@ -217,7 +218,7 @@ pub record TakesUntilNone (start : State) (before newest : Trace) : Type 0 where
   pub earlier : Trace
   pub place : newest ≡ later ++ earlier
   pub none : held_bytes start (earlier ++ before) ≡ []
-  pub unread : NoDataRead start later (earlier ++ before)
+  pub unread : NoIirOrRbrRead start later (earlier ++ before)
 
 -- in these entries as many bytes as `most` are taken
 abbrev pub TakesMost : (start : State) (most : ℕ) (before newest : Trace) → Type 0
