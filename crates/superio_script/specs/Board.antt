@@ -25,8 +25,8 @@ pub record IsAfter (mask : ℕ) (trace : Trace) (port : Port Line Counts Output)
   pub well_formed : IsTrue (is_well_formed fresh_state trace)
   pub within_room : out_before_loss (outcomes_of trace) ≤ 256
 
--- a board between two lines: some trace led to the serial port, and some accesses to the clock. The reset line was never
--- called, since a fresh controller replaces one that was reset
+-- a board between two lines: some trace led to the serial port, and some accesses to the clock. The reset line was
+-- never called, since a fresh controller replaces one that was reset
 pub record IsBetweenLines
     (port : Port Line Counts Output) (rtc : ClockDevice Counts) (reset_line : Line) :
     Type 0 where

@@ -1,5 +1,5 @@
--- The serial port's part of a script: the replies to its lines, by the history. They depend on these lines alone, on the
--- mask, and on what a script leaves open: which bytes are lost, and what `so` prints once one was.
+-- The serial port's part of a script: the replies to its lines, by the history. They depend on these lines alone, on
+-- the mask, and on what a script leaves open: which bytes are lost, and what `so` prints once one was.
 use Rattle.std.specs.Prelude.{ℕ, zero, suc, ◌+◌, ◌-◌, Bool, true, false, not, if◌then◌else◌, List, [], ◌∷◌, ◌++◌, length, drop, count_by, codes, nat_le}
 use Rattle.std.specs.List.{list_all}
 use Rattle.vm_superio.specs.Serial.{Asked, Sent, Op, Read, Write, Enqueue, Restore, TraceEntry, Trace, answer_count, ends_in_refusal, sent_by, Event, buffer_read, out_byte, tx_lost_byte, in_buffer_empty, fresh_state, not_empty}
