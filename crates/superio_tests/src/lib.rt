@@ -8,6 +8,8 @@ mod clock;
 #[cfg(test)]
 mod controller;
 #[cfg(test)]
+mod examples;
+#[cfg(test)]
 mod hostile;
 #[cfg(test)]
 mod object_calls;

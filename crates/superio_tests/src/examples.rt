@@ -1,0 +1,86 @@
+//! The smaller programs to copy at work: a console that echoes, claims over many calls, and a line that refuses.
+ghost use Rattle.std.specs.Prelude.{◌<◌, IfOk};
+ghost use Rattle.vm_superio.specs.Claims.{Coherent};
+
+use std::alloc::{AllocError, Global};
+use std::test::Fail;
+use superio_examples::echo::{echo, over_serial};
+use superio_examples::many_calls::{Access, make_all, make_by_run};
+use superio_examples::triggers::InterruptLine;
+use vm_superio::run::{Call, Reply};
+use vm_superio::serial::NoEvents;
+use vm_superio::{Serial, Trigger};
+
+type Port = Serial<InterruptLine, NoEvents, Vec<u8>>;
+
+/// A new port over a line with room for eight interrupts.
+fn port(alloc: Global) -> Result<Port, AllocError>
+    ensures coherent { IfOk result (λ serial. Coherent serial.state) }
+{
+    match Serial::new(alloc, InterruptLine::new(8), Vec::new(alloc)) {
+        Ok(serial) => Ok(serial),
+        Err(_) => Err(AllocError),
+    }
+}
+
+/// Whether both consoles send back all of this input, and nothing else, if their handlers take so many bytes at most.
+fn is_echoed(alloc: Global, bound: usize, input: &[u8]) -> Result<bool, Fail>
+    requires { 0 < bound }
+{
+    let pieces = [0, 1, 64, 65, 5];
+    let sent = echo(alloc, bound, input, &pieces)?;
+    let written = over_serial::echo(alloc, Vec::new(alloc), bound, input, &pieces)?;
+    Ok(sent.as_slice() == input && written.as_slice() == input)
+}
+
+#[test]
+fn a_console_echoes_its_input(rt: HostRuntime) -> Result<(), Fail> {
+    let input = b"0123456789".repeat(rt.alloc(), 30)?;
+    assert!(rt; is_echoed(rt.alloc(), 1, &input)?);
+    assert!(rt; is_echoed(rt.alloc(), 20, &input)?);
+    assert!(rt; is_echoed(rt.alloc(), 256, &input)?);
+    assert!(rt; is_echoed(rt.alloc(), 1, b"")?);
+    Ok(())
+}
+
+#[test]
+fn a_line_refuses_what_has_no_room(rt: HostRuntime) {
+    let mut line = InterruptLine::new(1);
+    assert!(rt; line.trigger().is_ok() && line.waiting() == 1);
+    assert!(rt; line.trigger().is_err() && line.waiting() == 1);
+    assert!(rt; line.deliver() && line.waiting() == 0);
+    assert!(rt; !line.deliver() && line.trigger().is_ok());
+}
+
+#[test]
+fn accesses_in_a_loop_reach_the_port(rt: HostRuntime) -> Result<(), Fail> {
+    let mut serial = port(rt.alloc())?;
+    let accesses = [
+        Access::Write(1, 0x02),
+        Access::Read(2),
+        Access::Write(0, b'x'),
+        Access::Read(5),
+    ];
+    make_all(&mut serial, &accesses);
+    assert!(rt; serial.interrupt_evt().waiting() == 2);
+    assert!(rt; serial.writer().as_slice() == b"x".as_slice());
+    Ok(())
+}
+
+#[test]
+fn a_run_of_calls_gives_their_replies(rt: HostRuntime) -> Result<(), Fail> {
+    let alloc = rt.alloc();
+    let mut serial = port(alloc)?;
+    let calls = vec![in alloc;
+        Call::Write(1, 0x01),
+        Call::Enqueue(b"ab".to_vec(alloc)?),
+        Call::Read(2),
+        Call::Read(0),
+    ]?;
+    let done = make_by_run(alloc, &mut serial, calls)?;
+    assert!(rt; done.len() == 4);
+    assert!(rt; matches!(done[2].reply, Reply::Byte(0xC4)));
+    assert!(rt; matches!(done[3].reply, Reply::Byte(b'a')));
+    assert!(rt; serial.interrupt_evt().waiting() == 1);
+    Ok(())
+}
