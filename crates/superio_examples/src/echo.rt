@@ -5,7 +5,7 @@
 //! pieces, and runs it only while an interrupt is due.
 #![tactic(auto, unfolding(superio_core::specs::Bits::has_bits, superio_core::specs::Bits::only_bits, superio_core::specs::Bits::with_bits, superio_core::specs::Bits::without_bits))]
 
-ghost use Rattle.std.specs.Prelude.{◌≡◌, ◌++◌, ◌<◌, ◌≤◌, ◌==◌, ℕ, not, length, min, take, drop, true, false, [], IfOk, if◌then◌else◌};
+ghost use Rattle.std.specs.Prelude.{◌≡◌, ◌++◌, ◌<◌, length, min, take, true, false, [], IfOk, if◌then◌else◌};
 ghost use Rattle.superio_core.specs.Serial.{CoherentPort, state_of_port, not_empty};
 ghost use Rattle.superio_core.specs.Serial.Operations.{count_if};
 ghost use Rattle.superio_examples.specs.Echo.{IsOpen, held, pending};

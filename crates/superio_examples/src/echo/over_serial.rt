@@ -1,5 +1,5 @@
 //! The same console over `Serial`, with a trigger that counts its calls. A writer takes what the guest sends.
-ghost use Rattle.std.specs.Prelude.{◌≡◌, ◌<◌, ◌≤◌, ◌-◌, ◌++◌, length, min, take, true, false, [], OnOk, IfOk, if◌then◌else◌};
+ghost use Rattle.std.specs.Prelude.{◌≡◌, ◌<◌, length, min, take, true, false, [], OnOk, IfOk, if◌then◌else◌};
 ghost use Rattle.std.specs.Io.KnownBytes.{Appends, Keeps, append_known};
 ghost use Rattle.vm_superio.specs.Claims.{held, Coherent, not_empty};
 ghost use Rattle.vm_superio.specs.Serial.{count_if};

@@ -4,7 +4,7 @@ use Rattle.std.proofs.lemmas.Bool.{and_parts, false≢true}
 use Rattle.vm_superio.specs.Serial.{Asked, is_refused_at_once, Sent, State, fresh_state, Op, Read, Write, Enqueue, Trace, TraceEntry, OpKind, IirRead, is_iir_read, is_rbr_read, Rda, Thre, has_bits, only_bits, with_bits}
 use Rattle.vm_superio.specs.Serial.History.{NoneAcknowledges, interrupt_enable, kind_at, raises_thre, is_call_due, is_raised, is_pending, trigger_calls, restore_calls_due, guest_read}
 use Rattle.vm_superio.specs.Serial.Laws.Line.{timeout_entry}
-use Rattle.vm_superio.specs.Serial.Laws.Console.{Driver, sent, left, has_to_send, EnablesThre, SendsEnabled, AsksWhenGiven, SentInOrder, ShowsNone, IsHandlerRun, IsConsoleRun, TimeoutAfterNone, after_runs, free_runs}
+use Rattle.vm_superio.specs.Serial.Laws.Console.{Driver, sent, left, has_to_send, EnablesThre, SendsEnabled, AsksWhenGiven, SentInOrder, ShowsNone, IsHandlerRun, IsConsoleRun, TimeoutAfterNone, IsAskedFor, AskedToTakeLaw, AskedToSendLaw, after_runs, free_runs}
 
 -- ---- what holds at each place of some entries, as a test
 
@@ -74,6 +74,11 @@ shows_some start before earlier entry =
 
 shown : (kind : OpKind) (thre rda : Bool) → kind ≡ IirRead → thre ≡ false → rda ≡ false → IsTrue (not (is_iir_read kind) || thre || rda) → ⊥
 shown kind thre rda reads no_thre no_rda some = grind arith
+
+no_none_by : (start : State) (before newest : Trace) → IsTrue (all_places (shows_some start before) newest)
+    → TimeoutAfterNone start before newest
+no_none_by start before newest all after earlier entry place reads none =
+    absurd (shown _ _ _ reads none.0 none.1 (each_place (shows_some start before) newest all after earlier entry place))
 
 rule_by : (start : State) (before others : Trace) (read : TraceEntry) (asked : Asked) → IsTrue (all_places (shows_some start before) others)
     → TimeoutAfterNone start before (timeout_entry asked ∷ read ∷ others)
@@ -238,6 +243,14 @@ reads_iir_once = record {
   });
   asks = asks_by plain fresh_state begun plain_run refl;
 }
+
+-- it has a byte left in each direction, and both are asked for
+is_asked_for_both : AskedToTakeLaw → AskedToSendLaw → IsAskedFor Rda fresh_state begun plain_run × IsAskedFor Thre fresh_state begun plain_run
+unfolding has_bits only_bits with_bits
+is_asked_for_both takes sends = (
+  takes plain fresh_state begun plain_run reads_iir_once (no_none_by fresh_state begun plain_run refl) refl refl,
+  sends plain fresh_state begun plain_run reads_iir_once refl,
+)
 
 -- ---- a driver that stalls
 
