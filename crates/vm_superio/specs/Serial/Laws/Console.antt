@@ -41,7 +41,8 @@ SentInOrder driver start trace = given driver trace ≡ sent driver start trace 
 abbrev pub has_to_send : (driver : Driver) (start : State) (trace : Trace) → Bool
 has_to_send driver start trace = not_empty (left driver start trace) && not (driver.is_stopped trace)
 
--- an IER write that enables THRE, and whose call for RDA, if one is due, is not refused
+-- an IER write that enables THRE, and whose call for RDA, if one is due, is not refused. After a refusal a retry asks
+-- (`RefusedWriteLaw`)
 abbrev pub EnablesThre : (start : State) (before : Trace) (entry : TraceEntry) → Type 0
 EnablesThre start before entry =
     (value : ℕ) × (kind_at start before entry.op ≡ IerWrite value) × IsTrue (has_bits value (ier_bit Thre))
