@@ -1,12 +1,8 @@
-//! The worked cases of each device and of scripts, and tests of what no contract shows: printed text, calls that objects
-//! get, a writer's own faults, refused memory, and the modules of superio_examples at work. The hostile cases compare
-//! the devices with slow models that share nothing with their definitions.
+//! The worked cases of scripts, and tests of what no contract shows: printed text, calls that objects get, a writer's own
+//! faults, refused memory, and the modules of superio_examples at work. The hostile cases compare the devices with slow
+//! models that share nothing with their definitions.
 #![tactic(auto)]
 
-#[cfg(test)]
-mod clock;
-#[cfg(test)]
-mod controller;
 #[cfg(test)]
 mod examples;
 #[cfg(test)]
@@ -18,27 +14,11 @@ mod objects;
 #[cfg(test)]
 mod printed;
 #[cfg(test)]
-mod public_calls;
-#[cfg(test)]
 mod reference_model;
 #[cfg(test)]
 mod refused_memory;
 #[cfg(test)]
-mod runs;
-#[cfg(test)]
-mod saved_forms;
-#[cfg(test)]
 mod scripts;
-#[cfg(test)]
-mod serial_interrupts;
-#[cfg(test)]
-mod serial_objects;
-#[cfg(test)]
-mod serial_output;
-#[cfg(test)]
-mod serial_registers;
-#[cfg(test)]
-mod serial_states;
 #[cfg(test)]
 mod sessions;
 #[cfg(test)]

@@ -1,0 +1,24 @@
+//! The worked cases of each device through its public calls: the serial port, runs of calls, the clock, the controller and
+//! saved states, and the signatures of the calls.
+#![tactic(auto)]
+
+#[cfg(test)]
+mod clock;
+#[cfg(test)]
+mod controller;
+#[cfg(test)]
+mod public_calls;
+#[cfg(test)]
+mod runs;
+#[cfg(test)]
+mod saved_forms;
+#[cfg(test)]
+mod serial_interrupts;
+#[cfg(test)]
+mod serial_objects;
+#[cfg(test)]
+mod serial_output;
+#[cfg(test)]
+mod serial_registers;
+#[cfg(test)]
+mod serial_states;
