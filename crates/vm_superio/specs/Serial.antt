@@ -4,7 +4,7 @@ pub mod History
 pub mod Laws
 pub mod Run
 pub mod Step
-use Rattle.std.specs.Prelude.{ℕ, Option, Some, None, Result, Ok, Err, List, ◌++◌, codes, option_map}
+use Rattle.std.specs.Prelude.{ℕ, ◌==◌, if◌then◌else◌, Option, Some, None, Result, Ok, Err, List, ◌++◌, codes, option_map}
 pub use Rattle.vm_superio.specs.declared.serial.errors.Error.{Error}
 pub use Rattle.vm_superio.specs.declared.serial.errors.Error.TheVariants.{Trigger, IOError, FullFifo, Memory}
 unfoldable pub use Rattle.superio_core.specs.Bits.{has_bits, only_bits, with_bits}
@@ -65,3 +65,7 @@ text_of output (Trigger cause) = option_map (λ text. codes "Failed to trigger i
 text_of output (IOError cause) = None
 text_of output FullFifo = Some (codes "No space left in FIFO")
 text_of output Memory = Some (codes "Out of memory")
+
+-- the most that a read acknowledges: both conditions at IIR, and one at RBR
+abbrev pub acknowledged_at : (offset : ℕ) → ℕ
+acknowledged_at offset = if offset == 2 then 2 else (if offset == 0 then 1 else 0)

@@ -130,8 +130,8 @@ pub fn no_byte_waits()
 }
 
 /// From any start, for any driver that takes at least one held byte at each interrupt and ends its run with a read of
-/// IIR: if a character timeout follows the run, and bytes are held, the interrupt is asked for again. After as many
-/// runs as bytes are held, the driver has taken all of these, in order, whatever arrives meanwhile.
+/// IIR: if a character timeout follows the run, bytes are held and IER enables RDA, the interrupt is asked for again.
+/// After as many runs as bytes are held, all of these are taken, in order, whatever arrives meanwhile.
 #[tactic(auto, using(crate::proofs::Lemmas::Serial::Laws::InterruptDriver::interrupt_driver_laws))]
 pub fn interrupt_driver()
     ensures owed { OwedAfterRunLaw }
@@ -152,13 +152,15 @@ pub fn transmitter_interrupt()
 
 /// From any start, for any driver of a console. At each interrupt it takes at least one held byte. Either it reads IIR
 /// until nothing is pending and sends at least one byte between two reads, as Linux and Xen do, or it sends at least one
-/// after its last read of IIR, unless it has none left or flow control stops it. Whoever gives it bytes while it has
-/// none, or lets it go on, enables THRE. The monitor makes a character timeout after each read of IIR that shows nothing
-/// pending, and in each turn of its event loop.
+/// after its last read of IIR, unless it has none left or flow control stops it. It sends by THR writes outside loopback
+/// while IER enables THRE, its bytes in their order. It gets bytes while it has none, or goes on after a stop, only at
+/// such a THR write, or at an IER write that enables THRE and whose call for RDA is not refused. The monitor makes a
+/// character timeout after each read of IIR that shows nothing pending, and in each turn of its event loop.
 ///
-/// Then after each run the interrupt is asked for as long as bytes are left to take or to send. A byte with i before it
-/// in its direction is through within i + 1 runs, in order, whatever arrives, and whatever the driver is given,
-/// meanwhile. For what it sends, only the runs count in which it was not stopped.
+/// Then after each run the interrupt is asked for as long as bytes are held and IER enables RDA, or bytes are left to
+/// send and it is not stopped. Of the bytes held before some runs, the first are taken, in order, as many as there were
+/// runs; of those left to send, as many are sent as there were runs without a stop. So a byte with i before it in its
+/// direction is through within i + 1 such runs, whatever arrives, and whatever the driver is given, meanwhile.
 ///
 /// A driver that has bytes left and ends its run with a read of IIR that shows THRE is not asked again, neither here nor
 /// by a 16550A.
@@ -171,8 +173,8 @@ pub fn console_driver()
 
 /// From any start, for a handler of Linux's shape: it reads IIR until nothing is pending, and after each read sends, and
 /// takes bytes until none is left or it has taken as many as a limit. Its runs are those of [`console_driver`]. Where it
-/// reads that nothing is pending, it has sent all its bytes, unless it is stopped, and taken all, unless its last turn
-/// came to the limit: the others wait for the character timeout.
+/// reads that nothing is pending, it has sent all its bytes, unless it is stopped. If IER enables RDA there, it has also
+/// taken all, unless its last turn came to the limit: the others wait for the character timeout.
 pub fn console_handler()
     ensures run { HandlerRunLaw }
     ensures ends { HandlerEndsLaw }
@@ -214,10 +216,10 @@ pub fn reads_are_taken()
     ensures held { ReadThenHeldLaw }
 {}
 
-/// From any start, if only a driver that polls reads data: the bytes that it got, then those held, are those held at
-/// the start, then those accepted. If LSR does not show data ready in the end, it got all of these bytes. A driver
-/// polls if it reads RBR only after a read of LSR has shown data ready since its previous RBR read. Other calls in
-/// between do not matter.
+/// From any start, if calls respond as the history says, and only a driver that polls reads data: the bytes that it got,
+/// then those held, are those held at the start, then those accepted. If LSR does not show data ready in the end, it got
+/// all of these bytes. A driver polls if it reads RBR only after a read of LSR has shown data ready since its previous
+/// RBR read. Other calls in between do not matter.
 #[tactic(auto, using(crate::proofs::Lemmas::Serial::Laws::Reads::polling_driver_laws))]
 pub fn polling_driver()
     ensures bytes { PollingDriverLaw }
@@ -281,8 +283,8 @@ pub fn raw_bits_by_history()
     ensures { RawBitsByHistory }
 {}
 
-/// By the history, an alarm due in some seconds raises the interrupt at any access at that moment. No earlier access
-/// does, unless it writes a match itself. An earlier read changes nothing.
+/// By the history, an alarm due in some seconds raises the interrupt at any access at that moment, if the guest writes
+/// nothing until then. No earlier access does, unless it writes a match itself. An earlier read changes nothing.
 #[tactic(auto, using(crate::proofs::Lemmas::Rtc::alarm_due_law))]
 pub fn alarm_due_by_history()
     ensures { AlarmDueByHistory }

@@ -85,7 +85,8 @@ impl<T: Trigger, EV: SerialEvents, W: Write> Serial<T, EV, W> {
     ghost use Rattle.vm_superio.specs.Serial.{Other, Read, SameSettings, ShowsHeldBytes, Write, enqueued_bytes, is_dlab, kind_in_state, sends_byte, sent_by};
     ghost use Rattle.vm_superio.specs.Serial.Step.{with_trigger, with_events, with_writer};
     ghost use Rattle.vm_superio.specs.Serial.Step.{IsReadStep, IsWriteStep, IsEnqueueStep, IsTimeoutStep, IsRetryStep};
-    ghost use Rattle.vm_superio.specs.Serial.Step.{SameElsewhere, acknowledged_at, pending_count, transmitter, turned_on_count};
+    ghost use Rattle.vm_superio.specs.Serial.{acknowledged_at};
+    ghost use Rattle.vm_superio.specs.Serial.Step.{SameElsewhere, pending_count, transmitter, turned_on_count};
     ghost use Rattle.vm_superio.specs.Serial.Step.{WriteFate, EnqueueFate, TimeoutFate};
 
     /// Makes a serial port as `new` does, but reports events to `serial_evts`. Calls neither the trigger nor the events

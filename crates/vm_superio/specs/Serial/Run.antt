@@ -8,8 +8,7 @@ pub use Rattle.vm_superio.specs.declared.run.Reply.{Reply}
 pub use Rattle.vm_superio.specs.declared.run.Reply.TheVariants.{Byte, Wrote, Enqueued, TimedOut, Restored, NotRestored}
 pub use Rattle.vm_superio.specs.declared.run.Call.{Call}
 pub use Rattle.vm_superio.specs.declared.run.Done.{Done}
-use Rattle.vm_superio.specs.Serial.{write_response, enqueue_response, timeout_response, refusal_in_result, Op, Read, Write, Enqueue, CharacterTimeout, Restore, TraceEntry, Response, ByteRead, NoResponse, Trace, State, answer_count}
-use Rattle.vm_superio.specs.Serial.Step.{acknowledged_at}
+use Rattle.vm_superio.specs.Serial.{write_response, enqueue_response, timeout_response, refusal_in_result, Op, Read, Write, Enqueue, CharacterTimeout, Restore, TraceEntry, Response, ByteRead, NoResponse, Trace, State, answer_count, acknowledged_at}
 use Rattle.vm_superio.specs.Serial.History.{guest_read}
 
 abbrev pub op_of : (act : Act) → Op

@@ -49,15 +49,15 @@ pending_count s =
     count_if (has_bits s.interrupt_identification (iir_bit Rda))
     + count_if (has_bits s.interrupt_identification (iir_bit Thre))
 
--- the most that a read acknowledges: both conditions at IIR, and one at RBR
-abbrev pub acknowledged_at : (offset : ℕ) → ℕ
-acknowledged_at offset = if offset == 2 then 2 else (if offset == 0 then 1 else 0)
-
 -- ---- what a call keeps
 
--- a write keeps what other offsets have: 0 has the received bytes, 1 IER, 3 LCR, 4 MCR and 7 SCR
+-- what a write at one offset keeps of the others: received bytes and DLL are at 0, IER and DLM at 1, LCR at 3, MCR at 4
+-- and SCR at 7. MSR never changes. IIR and LSR may change
 pub record SameElsewhere (offset : ℕ) (old new : State) : Type 0 where
   pub held : OnFalse (offset == 0) (new.in_buffer ≡ old.in_buffer)
+  pub divisor_low : OnFalse (offset == 0) (new.baud_divisor_low ≡ old.baud_divisor_low)
+  pub divisor_high : OnFalse (offset == 1) (new.baud_divisor_high ≡ old.baud_divisor_high)
+  pub modem_status : new.modem_status ≡ old.modem_status
   pub enable : OnFalse (offset == 1) (new.interrupt_enable ≡ old.interrupt_enable)
   pub line_control : OnFalse (offset == 3) (new.line_control ≡ old.line_control)
   pub modem_control : OnFalse (offset == 4) (new.modem_control ≡ old.modem_control)

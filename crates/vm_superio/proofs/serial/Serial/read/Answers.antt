@@ -3,7 +3,8 @@ use Rattle.std.proofs.Common.{◌≡◌, ◌≤◌, ◌+◌, sym, ap, ◌∙◌,
 use Rattle.vm_superio.specs.Serial.{Read, Asked, Coherent, read_step, state_with}
 use Rattle.superio_core.proofs.Lemmas.Serial.Coherence.{coherence_law}
 use Rattle.vm_superio.proofs.Lemmas.Serial.Kept.{transmitter-kept, pending-read}
-use Rattle.vm_superio.specs.Serial.Step.{transmitter, pending_count, acknowledged_at}
+use Rattle.vm_superio.specs.Serial.{acknowledged_at}
+use Rattle.vm_superio.specs.Serial.Step.{transmitter, pending_count}
 use Rattle.vm_superio.proofs.serial.Serial.read.Goals as goal
 
 pub returns-clause-coherent : goal.returns-clause-coherent
