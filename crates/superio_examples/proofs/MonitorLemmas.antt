@@ -4,11 +4,11 @@ use Rattle.std.specs.Option.{option_map_or}
 use Rattle.std.proofs.lemmas.Bool.Decides.{nat_tests}
 use Rattle.circular_buffer.specs.Buffer.{Buffer}
 use Rattle.vm_superio.specs.Serial.{Asked, Sent, State, fresh_state, Op, enqueued_bytes, step, step_response, kind_in_state}
-use Rattle.vm_superio.specs.Serial.History.{byte_read, accepted_by}
+use Rattle.superio_laws.specs.Serial.History.{byte_read, accepted_by}
 use Rattle.superio_examples.specs.Queues.{Waiting, after_sent, after_byte, IsSplit}
 use Rattle.superio_examples.specs.Monitor.{Machine, call_of, asks_reset, after_call, typed_by, sent_at, act, noticed, is_open, takes_input, fed, after_event, answer_to, after, replies_to, in_each, is_reset_answer, is_reset_reply, left_at, looped_at, KeepsInput, KeepsOut, Event}
 use Rattle.superio_examples.proofs.QueueLemmas.{accepted-rest}
-use Rattle.vm_superio.proofs.Lemmas.Serial.Laws.OneCall.{one_read, received_bytes}
+use Rattle.superio_laws.proofs.Lemmas.Serial.Laws.OneCall.{one_read, received_bytes}
 
 -- ---- output
 

@@ -1,7 +1,8 @@
 -- A clock's window in a guest's memory.
 use Rattle.std.specs.Prelude.{◌≡◌, ℕ, ◌+◌, ◌-◌, ◌%◌, Bool, ◌&&◌, ◌||◌, ◌==◌, nat_le, nat_lt, not, if◌then◌else◌, List, [], ◌∷◌, length, take, drop, replicate}
 use Rattle.vm_superio.specs.Links.{Link}
-use Rattle.vm_superio.specs.Rtc.{RtcEvent, invalid_read, invalid_write, ClockDevice, clock_events, read, write_of, host_time, bytes_left, after_alarm, clock_response, clock_step}
+use Rattle.vm_superio.specs.Rtc.{RtcEvent, invalid_read, invalid_write, ClockDevice, clock_events}
+use Rattle.superio_laws.specs.Rtc.{read, write_of, host_time, bytes_left, after_alarm, clock_response, clock_step}
 
 -- in the 4096 bytes from `base` on
 abbrev pub is_inside : (base address : ℕ) → Bool

@@ -3,8 +3,8 @@ use Rattle.std.specs.Prelude.{◌≡◌, ◌≤◌, ℕ, ◌+◌, ◌-◌, Bool,
 use Rattle.std.specs.Option.{option_map, option_map_or}
 use Rattle.circular_buffer.specs.Buffer.{Buffer, buffer}
 use Rattle.vm_superio.specs.Serial.{Asked, Sent, State, fresh_state, not_empty, Op, Read, Write, Enqueue, CharacterTimeout, sent_by, state_of_port, step, step_response, kind_in_state, step_calls, restore_calls}
-use Rattle.vm_superio.specs.Rtc.{RtcState, is_line_up, clock_step, clock_response, Access, read, write, fresh_clock}
-use Rattle.vm_superio.specs.Serial.History.{byte_read, accepted_by}
+use Rattle.superio_laws.specs.Rtc.{RtcState, is_line_up, clock_step, clock_response, Access, read, write, fresh_clock}
+use Rattle.superio_laws.specs.Serial.History.{byte_read, accepted_by}
 use Rattle.superio_examples.specs.Bus.{serial_offset, other_byte, is_reset, Keyboard}
 use Rattle.superio_examples.specs.Mmio.{is_inside}
 use Rattle.superio_examples.specs.Queues.{room_in, shows_ready, Waiting, after_sent, IsSplit}

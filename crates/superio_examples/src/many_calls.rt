@@ -6,7 +6,7 @@
 ghost use Rattle.std.specs.Prelude.{◌≡◌, ◌+◌, ◌≤◌, ◌++◌, [], IfOk};
 ghost use Rattle.vm_superio.specs.Claims.{Coherent, held, pending_count, transmitter};
 ghost use Rattle.vm_superio.specs.Claims.{answers_in_records, acknowledged_in as acknowledged_by_calls};
-ghost use Rattle.vm_superio.specs.Serial.History.{accepted_bytes, bytes_read};
+ghost use Rattle.superio_laws.specs.Serial.History.{accepted_bytes, bytes_read};
 ghost use Rattle.vm_superio.specs.Serial.Run.{entries_of, trace_of};
 ghost use Rattle.superio_examples.specs.ManyCalls.{acknowledged_by, acknowledged_in};
 

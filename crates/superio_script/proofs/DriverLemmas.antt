@@ -5,8 +5,8 @@ use Rattle.std.specs.Int.Bits.{and_mask}
 use Rattle.vm_superio.specs.Links.{Link, TriggerAnswer, Contents}
 use Rattle.vm_superio.specs.Serial.{Port, has_bits, without_bits, State, not_empty, Coherent, RbrThr, register_at, is_dlab, register_read, identification_of, Read, Response, ByteRead, Event, buffer_read, in_buffer_empty, rbr_read, read_step, step, read_events, Asked}
 use Rattle.vm_superio.specs.Serial.Step.{IsReadStep}
-use Rattle.vm_superio.specs.Serial.Laws.{CoherenceLaw}
-use Rattle.vm_superio.specs.Serial.Laws.OneCall.{RbrDataReadyLaw}
+use Rattle.superio_laws.specs.Serial.Laws.{CoherenceLaw}
+use Rattle.superio_laws.specs.Serial.Laws.OneCall.{RbrDataReadyLaw}
 use Rattle.superio_script.specs.Driver.{IsReady, ReadsWhileReady, without_bytes, drain_events, TakesAll}
 
 -- ---- how many reads are to come

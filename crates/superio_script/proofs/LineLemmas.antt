@@ -6,7 +6,8 @@ use Rattle.std.specs.Io.KnownBytes.{Consumes}
 use Rattle.std.proofs.lemmas.List.{length-take-le, take-append-le, take_rest}
 use Rattle.std.proofs.Math.Seq.{take-append-add}
 use Rattle.vm_superio.specs.Links.ForAnyObject.{FoldsEvents}
-use Rattle.vm_superio.specs.Rtc.{invalid_write, GoesOnByHistory, RtcState, Access, fresh_clock, write, write_of, clock_of_history}
+use Rattle.vm_superio.specs.Rtc.{invalid_write}
+use Rattle.superio_laws.specs.Rtc.{GoesOnByHistory, RtcState, Access, fresh_clock, write, write_of, clock_of_history}
 use Rattle.superio_script.specs.Objects.{no_counts, counts_after_clock_event, Counts}
 use Rattle.superio_script.specs.ClockScript.{clock_after}
 use Rattle.std.specs.List.{position, position_from}

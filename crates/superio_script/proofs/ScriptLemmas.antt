@@ -6,10 +6,11 @@ use Rattle.std.proofs.lemmas.Bool.Decides.{nat_tests}
 use Rattle.std.proofs.lemmas.List.Folds.{list_all-append}
 use Rattle.std.specs.Io.KnownBytes.{Appends, Keeps}
 use Rattle.std.specs.List.{list_all}
-use Rattle.vm_superio.specs.Rtc.{ClockDevice, Access}
+use Rattle.vm_superio.specs.Rtc.{ClockDevice}
+use Rattle.superio_laws.specs.Rtc.{Access}
 use Rattle.vm_superio.specs.Serial.{Port, Trace}
 use Rattle.vm_superio.proofs.Lemmas.{Appends-nothing, Appends-append}
-use Rattle.vm_superio.proofs.Lemmas.Rtc.{fresh_clock-history}
+use Rattle.superio_laws.proofs.Lemmas.Rtc.{fresh_clock-history}
 use Rattle.superio_script.specs.Objects.{Line, Counts, Output}
 use Rattle.superio_script.specs.Command.{command_of, Command, Serial, Clock, Controller}
 use Rattle.superio_script.specs.SerialScript.{Outcome, outcomes_of, all_short, trace_after_line, prints_after_loss}

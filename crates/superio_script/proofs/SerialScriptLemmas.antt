@@ -8,12 +8,12 @@ use Rattle.std.proofs.lemmas.List.Sums.{sum_by-append}
 use Rattle.std.specs.Cmp.Derive.{both_true}
 use Rattle.superio_core.proofs.Lemmas.Serial.{fresh_coherent}
 use Rattle.vm_superio.specs.Serial.Step.{RefusesRestore, IsPortStep}
-use Rattle.vm_superio.specs.Serial.History.{none_lost, output, kind_at, held_bytes, dlab, state_of_history, history_events, calls_due, restore_calls_due, is_well_formed, is_well_formed_entry, trigger_calls}
-use Rattle.vm_superio.specs.Serial.Laws.{StepLaw, CallLaw, StateLaw, CoherenceLaw, CallAgrees, StepAgrees, state_after}
+use Rattle.superio_laws.specs.Serial.History.{none_lost, output, kind_at, held_bytes, dlab, state_of_history, history_events, calls_due, restore_calls_due, is_well_formed, is_well_formed_entry, trigger_calls}
+use Rattle.superio_laws.specs.Serial.Laws.{StepLaw, CallLaw, StateLaw, CoherenceLaw, CallAgrees, StepAgrees, state_after}
 use Rattle.vm_superio.specs.Links.{Contents, answers_of, all_ok, StopsAtRefusal}
-use Rattle.vm_superio.specs.Links.Writer.{PortLinks, port_links, bytes_sent, outcome_of, WriterLink}
+use Rattle.vm_superio.specs.Links.Writer.{PortLinks, port_links, WriterLink}
+use Rattle.vm_superio.specs.Serial.{bytes_sent, outcome_of, Port, OpKind, failure_response, Asked, Sent, Op, Read, Write, Enqueue, Trace, TraceEntry, Response, Event, buffer_read, out_byte, tx_lost_byte, in_buffer_empty, is_sent, is_lost, answer_count, ends_in_refusal, sent_by, State, not_empty, fresh_state, has_bits, only_bits, Coherent, Condition, is_dlab, pending_in_order, answers_all, is_admissible, step_events, step_calls, sends_byte, restore_calls}
 use Rattle.vm_superio.proofs.Lemmas.{known_output_law}
-use Rattle.vm_superio.specs.Serial.{Port, OpKind, failure_response, Asked, Sent, Op, Read, Write, Enqueue, Trace, TraceEntry, Response, Event, buffer_read, out_byte, tx_lost_byte, in_buffer_empty, is_sent, is_lost, answer_count, ends_in_refusal, sent_by, State, not_empty, fresh_state, has_bits, only_bits, Coherent, Condition, is_dlab, pending_in_order, answers_all, is_admissible, step_events, step_calls, sends_byte, restore_calls}
 use Rattle.vm_superio.specs.declared.serial.errors.Error.{Error}
 use Rattle.vm_superio.specs.declared.serial.errors.Error.TheVariants.{Trigger, IOError, FullFifo, Memory}
 use Rattle.vm_superio.specs.Links.ForAnyObject.{FoldsEvents}

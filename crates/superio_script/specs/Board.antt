@@ -1,8 +1,9 @@
 -- What a contract sees of a board, and of one line on it.
 use Rattle.std.specs.Prelude.{◌≡◌, ◌≤◌, ℕ, List, [], ◌∷◌, length, IsTrue}
 use Rattle.vm_superio.specs.Serial.{Port, Trace, fresh_state}
-use Rattle.vm_superio.specs.Serial.History.{state_of_history, none_lost, output, is_well_formed}
-use Rattle.vm_superio.specs.Rtc.{ClockDevice, RtcState, Access, fresh_clock}
+use Rattle.superio_laws.specs.Serial.History.{state_of_history, none_lost, output, is_well_formed}
+use Rattle.vm_superio.specs.Rtc.{ClockDevice}
+use Rattle.superio_laws.specs.Rtc.{RtcState, Access, fresh_clock}
 use Rattle.superio_script.specs.Objects.{fresh_interrupt_line, no_counts, written_bytes, Line, Counts, Output}
 use Rattle.superio_script.specs.Reply.{controller_reply}
 use Rattle.superio_script.specs.SerialScript.{calls_made, interrupt_line_after, events_reported, counts_of, Outcome, out_before_loss, outcomes_of, serial_reply, trace_after_line}

@@ -2,7 +2,7 @@
 -- clock's accesses.
 use Rattle.std.specs.Prelude.{ℕ, List, [], ◌∷◌, if◌then◌else◌, codes, Option, Some, None}
 use Rattle.std.specs.Int.{w32, to_be_bytes}
-use Rattle.vm_superio.specs.Rtc.{RtcState, Access, read, write, clock_register_at, is_writable, fresh_clock, clock_of_history, clock_history_response}
+use Rattle.superio_laws.specs.Rtc.{RtcState, Access, read, write, clock_register_at, is_writable, fresh_clock, clock_of_history, clock_history_response}
 use Rattle.superio_script.specs.Reply.{with_lf, digits_reply}
 use Rattle.superio_script.specs.declared.command.ClockCommand.{ClockCommand}
 use Rattle.superio_script.specs.declared.command.ClockCommand.TheVariants as clock

@@ -5,7 +5,7 @@ use Rattle.std.specs.Io.KnownBytes.{Appends, Consumes, IsAtEnd}
 use Rattle.superio_script.specs.Fields.{lines_of}
 use Rattle.superio_script.specs.Command.{command_of, mask_of, Command, Serial, Clock, Controller, SerialCommand, ClockCommand, ControllerCommand}
 use Rattle.superio_script.specs.Reply.{controller_reply}
-use Rattle.vm_superio.specs.Rtc.{Access}
+use Rattle.superio_laws.specs.Rtc.{Access}
 use Rattle.vm_superio.specs.Serial.{Trace}
 use Rattle.superio_script.specs.SerialScript.{Outcome, out_before_loss, all_short, serial_replies}
 use Rattle.superio_script.specs.ClockScript.{clock_replies}

@@ -3,7 +3,7 @@
 use Rattle.std.specs.Prelude.{ℕ, zero, suc, ◌+◌, ◌-◌, Bool, true, false, not, if◌then◌else◌, List, [], ◌∷◌, ◌++◌, length, drop, count_by, codes, nat_le}
 use Rattle.std.specs.List.{list_all}
 use Rattle.vm_superio.specs.Serial.{Asked, Sent, Op, Read, Write, Enqueue, Restore, TraceEntry, Trace, answer_count, ends_in_refusal, sent_by, Event, buffer_read, out_byte, tx_lost_byte, in_buffer_empty, fresh_state, not_empty}
-use Rattle.vm_superio.specs.Serial.History.{kind_at, dlab, held_bytes, guest_read, none_lost, output, history_events, history_response, calls_due, restore_calls_due}
+use Rattle.superio_laws.specs.Serial.History.{kind_at, dlab, held_bytes, guest_read, none_lost, output, history_events, history_response, calls_due, restore_calls_due}
 use Rattle.superio_script.specs.Objects.{is_call_refused, saturated, Line, Counts}
 use Rattle.superio_script.specs.Reply.{with_lf, response_reply, digits_reply, count_digits, counts_reply}
 use Rattle.superio_script.specs.declared.command.SerialCommand.{SerialCommand}

@@ -17,9 +17,9 @@ pub use Rattle.superio_core.specs.declared.serial.registers.Register.TheVariants
 pub use Rattle.superio_core.specs.Serial.Step.{step}
 pub use Rattle.vm_superio.specs.Links.{all_ok}
 pub use Rattle.vm_superio.specs.Saved.{state_of}
-pub use Rattle.vm_superio.specs.Serial.{Port, acknowledged_at, restore_calls}
+pub use Rattle.vm_superio.specs.Serial.{Port, acknowledged_at, restore_calls, turned_on_count}
 pub use Rattle.vm_superio.specs.Serial.Run.{acknowledged_in, answers_in_records}
-pub use Rattle.vm_superio.specs.Serial.Step.{pending_count, transmitter, turned_on_count}
+pub use Rattle.vm_superio.specs.Serial.Step.{pending_count, transmitter}
 use Rattle.vm_superio.specs.Serial.{is_dlab, is_loopback, ier_bit, iir_bit}
 
 module _ {T EV W : Type 0} (port : Port T EV W) where

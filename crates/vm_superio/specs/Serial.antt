@@ -1,27 +1,12 @@
 -- The serial port: what a contract sees of it and of what its calls return, with the words of superio_core that the
--- modules below use. They hold the step of one call, the history, runs, and the laws that join them.
-pub mod History
-pub mod Laws
+-- modules below use. They hold the step of one call, and runs.
 pub mod Run
 pub mod Step
 use Rattle.std.specs.Prelude.{ℕ, ◌==◌, if◌then◌else◌, Option, Some, None, Result, Ok, Err, List, ◌++◌, codes, option_map}
 pub use Rattle.vm_superio.specs.declared.serial.errors.Error.{Error}
 pub use Rattle.vm_superio.specs.declared.serial.errors.Error.TheVariants.{Trigger, IOError, FullFifo, Memory}
-unfoldable pub use Rattle.superio_core.specs.Bits.{has_bits, only_bits, with_bits}
-pub use Rattle.superio_core.specs.Bits.{without_bits}
-pub use Rattle.superio_core.specs.Serial.{SameSettings, State, fresh_state, not_empty, state_with, Coherent, ShowsHeldBytes, state_of_port, CoherentPort, register_read, is_asserted, is_line_up, restore_calls}
-pub use Rattle.superio_core.specs.Serial.RegisterMap.{ier_bits, lsr_dr_bit, lcr_dlab_bit, identification_of, ier_bit, iir_bit, is_dlab, is_loopback, pending_in_order, register_at}
-pub use Rattle.superio_core.specs.Serial.Operations.{Arrival, ByteRead, CharacterTimeout, Enqueue, EnqueueOk, Event, FifoFull, IerWrite, IirRead, NoResponse, Op, OpKind, Other, OutOfMemory, RbrRead, Read, Response, Restore, ThrWrite, Timeout, TimeoutOk, Trace, TraceEntry, TriggerRefused, Write, WriteOk, WriterFailed, answer_count, buffer_read, count_if, ends_in_refusal, events_of_read, in_buffer_empty, is_iir_read, is_lost, is_rbr_read, is_refused_at_once, is_sent, kind_of, out_byte, read_kind, recorded_write_response, sent_by, tx_lost_byte, write_kind}
-pub use Rattle.superio_core.specs.Serial.Step.{character_timeout, read_events, read_step, sent_events, step, step_events, step_response, thr_write, write_step, rbr_read, IsPortEnqueue, IsPortRead, IsPortTimeout, IsPortWrite, arrival_calls, kind_calls, kind_in_state, sends_byte, step_calls, timeout_calls, becomes_pending, bytes_that_fit, enqueued_bytes, raise, raise_rda_while_held, rda_becomes_pending, receive_bytes, iir_none_bit, answers_all, is_admissible}
-pub use Rattle.superio_core.specs.declared.serial.EnqueueEffects.{EnqueueEffects}
-pub use Rattle.superio_core.specs.declared.serial.ReadEffects.{ReadEffects}
-pub use Rattle.superio_core.specs.declared.serial.WriteEffects.{WriteEffects}
-pub use Rattle.superio_core.specs.declared.serial.registers.Condition.{Condition}
-pub use Rattle.superio_core.specs.declared.serial.registers.Condition.TheVariants.{Rda, Thre}
-pub use Rattle.superio_core.specs.declared.serial.registers.Register.{Register}
-pub use Rattle.superio_core.specs.declared.serial.registers.Register.TheVariants.{Ier, Iir, RbrThr, Unassigned}
-pub use Rattle.superio_core.specs.declared.serial.Asked.{Asked}
-pub use Rattle.superio_core.specs.declared.serial.Sent.{Sent}
+unfoldable pub use Rattle.superio_laws.specs.Serial.{has_bits, only_bits, with_bits}
+pub use Rattle.superio_laws.specs.Serial.{answer_count, answers_all, Arrival, arrival_calls, Asked, becomes_pending, buffer_read, ByteRead, bytes_sent, bytes_that_fit, character_timeout, CharacterTimeout, Coherent, CoherentPort, Condition, count_if, ends_in_refusal, Enqueue, enqueued_bytes, EnqueueEffects, EnqueueOk, Event, events_of_read, FifoFull, fresh_state, identification_of, Ier, ier_bit, ier_bits, IerWrite, Iir, iir_bit, iir_none_bit, IirRead, in_buffer_empty, is_admissible, is_asserted, is_dlab, is_iir_read, is_line_up, is_loopback, is_lost, is_rbr_read, is_refused_at_once, is_sent, IsPortEnqueue, IsPortRead, IsPortTimeout, IsPortWrite, kind_calls, kind_in_state, kind_of, lcr_dlab_bit, lsr_dr_bit, NoResponse, not_empty, Op, OpKind, Other, out_byte, outcome_of, OutOfMemory, pending_in_order, raise, raise_rda_while_held, rbr_read, RbrRead, RbrThr, Rda, rda_becomes_pending, Read, read_events, read_kind, read_step, ReadEffects, receive_bytes, recorded_write_response, Register, register_at, register_read, Response, Restore, restore_calls, SameSettings, sends_byte, Sent, sent_by, sent_events, ShowsHeldBytes, State, state_of_port, state_with, step, step_calls, step_events, step_response, thr_write, Thre, ThrWrite, Timeout, timeout_calls, TimeoutOk, Trace, trace_after, TraceEntry, TriggerRefused, turned_on_count, turns_on, tx_lost_byte, Unassigned, without_bits, Write, write_kind, write_step, WriteEffects, WriteOk, WriterFailed}
 
 -- the state, and the objects that the port owns
 pub record Port (T EV W : Type 0) : Type 0 where

@@ -11,7 +11,8 @@ ghost use Rattle.std.specs.Bool.{OnTrue, OnFalse};
 ghost use Rattle.std.proofs.Common.{◌∙◌};
 ghost use Rattle.std.specs.Int.{w32, to_le_bytes};
 ghost use Rattle.superio_core.specs.Rtc.Step.{guest_time_in, is_line_up, IsAlarmDue, after_alarm, clock_response, clock_step};
-ghost use Rattle.vm_superio.specs.Rtc.{RtcEvent, invalid_read, invalid_write, ClockDevice, clock_events, GoesOnFrom, ReadsByHistory, GoesOnByHistory};
+ghost use Rattle.vm_superio.specs.Rtc.{RtcEvent, invalid_read, invalid_write, ClockDevice, clock_events};
+ghost use Rattle.superio_laws.specs.Rtc.{GoesOnFrom, ReadsByHistory, GoesOnByHistory};
 ghost use Rattle.superio_core.specs.Rtc.{state_of_clock, read, write, write_of, clock_register_at, is_readable, is_writable, host_time, bytes_left, fresh_clock};
 
 use std::marker::Model;

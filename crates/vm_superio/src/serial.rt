@@ -82,12 +82,8 @@ impl<T: Trigger, EV: SerialEvents, W: Write> Serial<T, EV, W> {
     ghost use Rattle.std.specs.Borrow.{Lends, sem};
     ghost use Rattle.vm_superio.specs.contracts.serial.Serial.{the_row};
     ghost use Rattle.std.specs.Io.KnownBytes.{Appends};
-    ghost use Rattle.vm_superio.specs.Serial.{Other, Read, SameSettings, ShowsHeldBytes, Write, enqueued_bytes, is_dlab, kind_in_state, sends_byte, sent_by};
-    ghost use Rattle.vm_superio.specs.Serial.Step.{with_trigger, with_events, with_writer};
-    ghost use Rattle.vm_superio.specs.Serial.Step.{IsReadStep, IsWriteStep, IsEnqueueStep, IsTimeoutStep, IsRetryStep};
-    ghost use Rattle.vm_superio.specs.Serial.{acknowledged_at};
-    ghost use Rattle.vm_superio.specs.Serial.Step.{SameElsewhere, pending_count, transmitter, turned_on_count};
-    ghost use Rattle.vm_superio.specs.Serial.Step.{WriteFate, EnqueueFate, TimeoutFate};
+    ghost use Rattle.vm_superio.specs.Serial.{Other, Read, SameSettings, ShowsHeldBytes, Write, acknowledged_at, enqueued_bytes, is_dlab, kind_in_state, sends_byte, sent_by, turned_on_count};
+    ghost use Rattle.vm_superio.specs.Serial.Step.{EnqueueFate, IsEnqueueStep, IsReadStep, IsRetryStep, IsTimeoutStep, IsWriteStep, SameElsewhere, TimeoutFate, WriteFate, pending_count, transmitter, with_events, with_trigger, with_writer};
 
     /// Makes a serial port as `new` does, but reports events to `serial_evts`. Calls neither the trigger nor the events
     /// object.

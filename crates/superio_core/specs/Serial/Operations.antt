@@ -37,6 +37,11 @@ pub data Response : Type 0 where
   OutOfMemory : Response
   NoResponse : Response
 
+-- the trace with further entries, oldest first, each with its response
+abbrev pub trace_after : (trace : Trace) (later : List (TraceEntry × Response)) → Trace
+trace_after trace [] = trace
+trace_after trace (next ∷ later) = trace_after (next.0 ∷ trace) later
+
 -- the events that a port reports to its events object
 pub data Event : Type 0 where
   buffer_read : Event
@@ -83,6 +88,17 @@ is_sent _ = true
 abbrev pub is_lost : (sent : Sent) → Bool
 is_lost Sent.Lost = true
 is_lost _ = false
+
+-- the byte that a call sent: a write's value, if it was sent
+abbrev pub bytes_sent : (op : Op) (sent : Sent) → List ℕ
+bytes_sent (Write offset value) Sent.Nothing = []
+bytes_sent (Write offset value) _ = value ∷ []
+bytes_sent _ _ = []
+
+-- its outcome, if there is one
+abbrev pub outcome_of : (sent : Sent) → List Sent
+outcome_of Sent.Nothing = []
+outcome_of sent = sent ∷ []
 
 -- a write responds with a refusal of the trigger rather than with a failure of the writer
 abbrev pub recorded_write_response : (asked : Asked) (sent : Sent) → Response

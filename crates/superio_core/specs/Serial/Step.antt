@@ -249,3 +249,15 @@ pub record IsPortEnqueue (bytes : List ℕ) (effects : EnqueueEffects) (old new 
 pub record IsPortTimeout (due : ℕ) (old new : State) : Type 0 where
   pub interrupts : due ≡ step_calls old CharacterTimeout
   pub state : new ≡ step old CharacterTimeout Asked.Nothing
+
+-- ---- trigger calls, by the bits of IIR
+
+-- the bit goes from clear to set
+abbrev pub turns_on : (bit old new : ℕ) → Bool
+turns_on bit old new = not (has_bits old bit) && has_bits new bit
+
+-- how many of the two pending bits turn on
+abbrev pub turned_on_count : (old new : State) → ℕ
+turned_on_count old new =
+    count_if (turns_on (iir_bit Rda) old.interrupt_identification new.interrupt_identification)
+    + count_if (turns_on (iir_bit Thre) old.interrupt_identification new.interrupt_identification)

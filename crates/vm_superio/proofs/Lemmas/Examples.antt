@@ -1,32 +1,16 @@
--- Worked examples of words that laws and contracts only assume, or bound by, since with a wrong one they would say less.
-mod Console
-use Rattle.std.proofs.Common.{◌≡◌, ℕ, ◌≤◌, true, false, List, [], ◌∷◌, ◌++◌, length, map, count_by, replicate, refl, sym, subst, ap, ◌∙◌, arith, inl, Ok, append-nil}
+-- Worked examples of words that contracts only assume, or bound by, since with a wrong one they would say less.
+use Rattle.std.proofs.Common.{◌≡◌, ℕ, true, false, [], ◌∷◌, ◌++◌, replicate, refl, sym, subst, ap, ◌∙◌, arith, Ok, append-nil}
 use Rattle.std.proofs.lemmas.Bool.{false≢true}
-use Rattle.vm_superio.specs.Serial.{Asked, Sent, Coherent, State, fresh_state, Port, Memory, Op, Read, Write, Enqueue, Response, ByteRead, WriteOk, EnqueueOk, Trace, TraceEntry, IerWrite, ThrWrite, is_iir_read, is_rbr_read, Rda, Thre, restore_calls, step, is_dlab, is_loopback, has_bits, only_bits, with_bits}
+use Rattle.vm_superio.specs.Serial.{Asked, Sent, State, fresh_state, Port, Memory, Read, Write, restore_calls, step, is_dlab, is_loopback, has_bits}
 use Rattle.vm_superio.specs.Claims.{is_fresh, shows_data, is_outside, is_inside, is_masked}
 use Rattle.vm_superio.specs.Links.{Link, TriggerAnswer, all_ok}
-use Rattle.vm_superio.specs.Serial.History.{NoneAcknowledges, acknowledges, held_bytes, taken_bytes, op_kinds, shows_waiting_bytes}
-use Rattle.vm_superio.specs.Serial.Laws.Consequences.{polls, polls_after_data_ready}
-use Rattle.vm_superio.specs.Serial.Laws.Line.{RunsAtInterrupts, TakenAfterRunsLaw, may_lower_line}
-use Rattle.vm_superio.proofs.Lemmas.Serial.Laws.Consequences.{none_more, nowhere}
-use Rattle.vm_superio.specs.Serial.Laws.PortRun.{PortCall, PortCallsFollow, ops_of_calls, trace_with, interrupts_told, PortBoundLaw}
 use Rattle.vm_superio.specs.Serial.Run.{Act, Call, Done, Reply, Byte, Wrote, Restored, NotRestored, entry_of, without_restores}
 use Rattle.vm_superio.specs.Serial.Run.Segments.{Account, Segment, segments_of, SegmentsAre}
 use Rattle.vm_superio.specs.Serial.Run.Steps.{by_steps}
 use Rattle.vm_superio.specs.Links.Writer.{PortLinks, WriterLink}
 use Rattle.vm_superio.specs.declared.serial.errors.Refused.{Refused}
 use Rattle.vm_superio.specs.Serial.Step.{RefusesRestore}
-use Rattle.vm_superio.specs.Rtc.{Access, read, write, fresh_clock, guest_times_since_match, is_armed}
-
--- ---- the bound on interrupts that a caller is told
-
-five_told_with_two_reads : PortBoundLaw → (start end : State) (calls : List PortCall) → Coherent start
-    → PortCallsFollow start calls end
-    → count_by is_iir_read (op_kinds start (trace_with [] (ops_of_calls calls))) ≡ 1
-    → count_by is_rbr_read (op_kinds start (trace_with [] (ops_of_calls calls))) ≡ 1
-    → interrupts_told calls ≤ 5
-five_told_with_two_reads law start end calls coherent follow one taken =
-    omega (arith, law start end calls coherent follow, one, taken)
+use Rattle.superio_laws.specs.Rtc.{read}
 
 -- ---- the calls by which the reads of a run are determined
 
@@ -99,31 +83,12 @@ module _
         end_state = second.state ∙ ap (λ s. step s (Write 0 0x42) Asked.Nothing) (sym first.state);
       }
 
--- ---- what waiting bytes, drivers and the line are said of
-
-enabling_shows_them : shows_waiting_bytes (IerWrite 0x01) [] ≡ true
-enabling_shows_them = refl
-
--- as many runs as bytes are enough
-as_many_runs : TakenAfterRunsLaw → (start : State) (before after : Trace)
-    → RunsAtInterrupts start (length (held_bytes start before)) before after
-    → (more : List ℕ) × (taken_bytes start after ≡ taken_bytes start before ++ held_bytes start before ++ more)
-as_many_runs law start before after runs = law start (length (held_bytes start before)) before after runs (omega arith)
-
-sending_lowers_no_line : may_lower_line (ThrWrite 0x61) ≡ false
-sending_lowers_no_line = refl
-
 -- ---- restores
 
 -- it is refused with one byte more than 64
 one_more_is_full : {T E : Type 0} (link : Link T (TriggerAnswer E)) (old new : T)
     → RefusesRestore link (record fresh_state { in_buffer = replicate 65 0x61 }) Memory old new → ⊥
 one_more_is_full link old new refuses = omega (arith, refuses.0)
-
--- it calls for THRE first
-both_due : restore_calls (record fresh_state { interrupt_identification = 0x06; interrupt_enable = 0x03 }) ≡ Thre ∷ Rda ∷ []
-unfolding has_bits
-both_due = refl
 
 -- ---- words for claims
 
@@ -141,54 +106,3 @@ module _ {T EV W : Type 0} (port : Port T EV W) where
 
   inside_or_outside : is_inside port → is_outside port → ⊥
   inside_or_outside inside outside = false≢true (sym outside ∙ inside)
-
--- ---- a driver that polls, and one that reads RBR unasked
-
--- a call that calls no trigger and sends no byte, with its response
-abbrev call : Op → Response → TraceEntry × Response
-call op response = (record { op = op; asked = Asked.Nothing; sent = Sent.Nothing }, response)
-
-abbrev reads : (offset byte : ℕ) → TraceEntry × Response
-reads offset byte = call (Read offset) (ByteRead byte)
-
-abbrev enqueue : (bytes : List ℕ) → TraceEntry × Response
-enqueue bytes = call (Enqueue bytes) (EnqueueOk (length bytes))
-
--- after data ready it reads one byte; for the second it has not looked
-looks_before_it_reads :
-    map (polls_after_data_ready fresh_state [] false) (
-    (enqueue (0x61 ∷ []) ∷ reads 5 0x61 ∷ call (Write 7 0x12) WriteOk ∷ reads 0 0x61 ∷ reads 5 0x60 ∷ [])
-    ∷ (enqueue (0x61 ∷ 0x62 ∷ []) ∷ reads 5 0x61 ∷ reads 0 0x61 ∷ reads 0 0x62 ∷ [])
-    ∷ [])
-    ≡ true ∷ false ∷ []
-unfolding has_bits only_bits with_bits
-looks_before_it_reads = refl
-
--- both reads were made while data ready would show, though the driver did not look; and one while it would not
-reads_while_ready :
-    map (polls fresh_state []) (
-    (enqueue (0x61 ∷ 0x62 ∷ []) ∷ reads 0 0x61 ∷ reads 0 0x62 ∷ []) ∷ (reads 0 0x00 ∷ []) ∷ [])
-    ≡ true ∷ false ∷ []
-unfolding has_bits only_bits with_bits
-reads_while_ready = refl
-
--- ---- the alarm of the clock
-
--- newest first: a match write of 5 when guest time is 3, and reads at 4 and at 6
-abbrev reached_at_6 : List Access
-reached_at_6 = read 0x000 6 ∷ read 0x000 4 ∷ write 0x004 5 3 ∷ []
-
-reaches_its_match :
-    guest_times_since_match fresh_clock reached_at_6 ∷ guest_times_since_match fresh_clock (write 0x004 9 7 ∷ reached_at_6) ∷ []
-    ≡ (6 ∷ 4 ∷ []) ∷ [] ∷ []
-reaches_its_match = refl
-
--- the read at 4 leaves it armed, that at 6 reaches it, and a match write of a time to come sets it again
-armed_until_reached :
-    is_armed fresh_clock (read 0x000 4 ∷ write 0x004 5 3 ∷ [])
-    ∷ is_armed fresh_clock reached_at_6
-    ∷ is_armed fresh_clock (write 0x004 9 7 ∷ reached_at_6)
-    ∷ is_armed fresh_clock (write 0x004 7 7 ∷ reached_at_6)
-    ∷ []
-    ≡ true ∷ false ∷ true ∷ false ∷ []
-armed_until_reached = refl

@@ -1,14 +1,13 @@
 -- What a step of a port says about the trigger's calls.
 pub mod Kept
-pub mod Laws
 pub mod Run
 pub mod Step
 use Rattle.std.proofs.Common.{◌≡◌, length, Option, ap, sym, ◌∙◌, arith, is_some}
-use Rattle.vm_superio.specs.Serial.{Port, Asked, Sent, Op, Response, ends_in_refusal, answer_count}
+use Rattle.vm_superio.specs.Serial.{Port, Asked, Sent, Op, Response, ends_in_refusal, answer_count, turned_on_count}
 use Rattle.vm_superio.specs.Links.{answers_of}
 use Rattle.vm_superio.specs.Links.Writer.{PortLinks}
-use Rattle.vm_superio.specs.Serial.Step.{turned_on_count, IsPortStep}
-use Rattle.vm_superio.proofs.Lemmas.Serial.Laws.OneCall.{turned_bits_law}
+use Rattle.vm_superio.specs.Serial.Step.{IsPortStep}
+use Rattle.superio_laws.proofs.Lemmas.Serial.Laws.OneCall.{turned_bits_law}
 
 -- a record stands for as many answers as it counts, if it has the refusal that it ends in
 length-answers_of : {E : Type 0} (asked : Asked) (refusal : Option E) → is_some refusal ≡ ends_in_refusal asked → length (answers_of asked refusal) ≡ answer_count asked

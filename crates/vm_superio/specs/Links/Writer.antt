@@ -16,17 +16,6 @@ abbrev pub port_links :
     → PortLinks T E EV W
 port_links trigger events contents = record { trigger = trigger; events = events; contents = contents }
 
--- the byte that a call sent: a write's value, if it was sent
-abbrev pub bytes_sent : (op : Op) (sent : Sent) → List ℕ
-bytes_sent (Write offset value) Sent.Nothing = []
-bytes_sent (Write offset value) _ = value ∷ []
-bytes_sent _ _ = []
-
--- its outcome, if there is one
-abbrev pub outcome_of : (sent : Sent) → List Sent
-outcome_of Sent.Nothing = []
-outcome_of sent = sent ∷ []
-
 module _ {W : Type 0} (contents : Contents W) where
   -- a writer before and after it was sent these bytes, in order, with these outcomes: a byte that is out follows the
   -- bytes that it holds, where these are known. Nothing is known of it after it lost one

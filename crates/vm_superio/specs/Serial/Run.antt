@@ -8,8 +8,8 @@ pub use Rattle.vm_superio.specs.declared.run.Reply.{Reply}
 pub use Rattle.vm_superio.specs.declared.run.Reply.TheVariants.{Byte, Wrote, Enqueued, TimedOut, Restored, NotRestored}
 pub use Rattle.vm_superio.specs.declared.run.Call.{Call}
 pub use Rattle.vm_superio.specs.declared.run.Done.{Done}
-use Rattle.vm_superio.specs.Serial.{write_response, enqueue_response, timeout_response, refusal_in_result, Op, Read, Write, Enqueue, CharacterTimeout, Restore, TraceEntry, Response, ByteRead, NoResponse, Trace, State, answer_count, acknowledged_at}
-use Rattle.vm_superio.specs.Serial.History.{guest_read}
+use Rattle.vm_superio.specs.Serial.{write_response, enqueue_response, timeout_response, refusal_in_result, Op, Read, Write, Enqueue, CharacterTimeout, Restore, TraceEntry, Response, ByteRead, NoResponse, Trace, trace_after, State, answer_count, acknowledged_at}
+use Rattle.superio_laws.specs.Serial.History.{guest_read}
 
 abbrev pub op_of : (act : Act) → Op
 op_of (Act.Read offset) = Read offset
@@ -29,11 +29,6 @@ act_of (Call.Write offset value) = Act.Write offset value
 act_of (Call.Enqueue bytes) = Act.Enqueue bytes
 act_of Call.CharacterTimeout = Act.CharacterTimeout
 act_of (Call.Restore trigger events out) = Act.Restore
-
--- the trace with further entries, oldest first, each with its response
-abbrev pub trace_after : (trace : Trace) (later : List (TraceEntry × Response)) → Trace
-trace_after trace [] = trace
-trace_after trace (next ∷ later) = trace_after (next.0 ∷ trace) later
 
 module _ {T E EV W : Type 0} where
   -- a reply is of the kind that belongs to the act

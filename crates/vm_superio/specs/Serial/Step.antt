@@ -2,9 +2,9 @@
 -- refused; and what stands after a call that failed.
 use Rattle.std.specs.Prelude.{◌≡◌, ℕ, ◌+◌, Bool, not, ◌&&◌, ◌==◌, if◌then◌else◌, length, List, IsTrue, Option, None, Result, is_some, ◌<◌, ◌≤◌, ◌-◌, ◌++◌, take}
 use Rattle.std.specs.Bool.{OnFalse}
-use Rattle.vm_superio.specs.Serial.{Error, Port, write_response, enqueue_response, timeout_response, refusal_in_result, FullFifo, Trigger, IOError, Asked, Sent, Op, Read, Write, Enqueue, CharacterTimeout, Restore, Response, ByteRead, NoResponse, Event, ends_in_refusal, count_if, has_bits, only_bits, State, Rda, Thre, iir_bit, step, step_response, step_events, is_admissible, sends_byte, restore_calls}
+use Rattle.vm_superio.specs.Serial.{Error, Port, bytes_sent, outcome_of, turned_on_count, write_response, enqueue_response, timeout_response, refusal_in_result, FullFifo, Trigger, IOError, Asked, Sent, Op, Read, Write, Enqueue, CharacterTimeout, Restore, Response, ByteRead, NoResponse, Event, ends_in_refusal, count_if, has_bits, only_bits, State, Rda, Thre, iir_bit, step, step_response, step_events, is_admissible, sends_byte, restore_calls}
 use Rattle.vm_superio.specs.Links.{Link, TriggerAnswer, Contents, answers_of, RefusesOwnState}
-use Rattle.vm_superio.specs.Links.Writer.{PortLinks, port_links, bytes_sent, outcome_of, WriterLink}
+use Rattle.vm_superio.specs.Links.Writer.{PortLinks, port_links, WriterLink}
 
 -- a call takes a port from `old` to `new` by one step, with these answers of the trigger and this outcome of a byte. A
 -- refusal is that of the trigger's last call
@@ -31,17 +31,7 @@ with_trigger port trigger = record port { trigger = trigger }
 abbrev pub with_events : {T EV W : Type 0} → (port : Port T EV W) (object : EV) → Port T EV W
 with_events port object = record port { events = object }
 
--- ---- trigger calls, by the bits of IIR
-
--- the bit goes from clear to set
-abbrev pub turns_on : (bit old new : ℕ) → Bool
-turns_on bit old new = not (has_bits old bit) && has_bits new bit
-
--- how many of the two pending bits turn on
-abbrev pub turned_on_count : (old new : State) → ℕ
-turned_on_count old new =
-    count_if (turns_on (iir_bit Rda) old.interrupt_identification new.interrupt_identification)
-    + count_if (turns_on (iir_bit Thre) old.interrupt_identification new.interrupt_identification)
+-- ---- what is pending
 
 -- how many of the two conditions are pending
 abbrev pub pending_count : (s : State) → ℕ

@@ -2,12 +2,9 @@
 //! carries out its effects.
 ghost use Rattle.std.specs.Prelude.{◌≡◌, ◌≤◌, ℕ, List, Result, [], ◌∷◌, length, if◌then◌else◌, is_some, IsTrue, IfOk, IfErr, OnOk};
 ghost use Rattle.vm_superio.specs.Links.{answers_of, all_ok, StopsAtRefusal};
-ghost use Rattle.vm_superio.specs.Links.Writer.{port_links, WriterLink, outcome_of, bytes_sent};
+ghost use Rattle.vm_superio.specs.Links.Writer.{port_links, WriterLink};
+ghost use Rattle.vm_superio.specs.Serial.{outcome_of, bytes_sent, state_with, restore_calls, answers_all, events_of_read, sent_events, Write, Enqueue, CharacterTimeout, WriteOk, TriggerRefused, WriterFailed, FifoFull, EnqueueOk, is_sent, is_lost, ends_in_refusal, write_response, enqueue_response, timeout_response, refusal_in_result};
 ghost use Rattle.vm_superio.specs.Saved.{state_of};
-ghost use Rattle.vm_superio.specs.Serial.{state_with, restore_calls, answers_all, events_of_read, sent_events};
-ghost use Rattle.vm_superio.specs.Serial.{Write, Enqueue, CharacterTimeout, WriteOk, TriggerRefused, WriterFailed, FifoFull, EnqueueOk};
-ghost use Rattle.vm_superio.specs.Serial.{is_sent, is_lost, ends_in_refusal};
-ghost use Rattle.vm_superio.specs.Serial.{write_response, enqueue_response, timeout_response, refusal_in_result};
 ghost use Rattle.vm_superio.specs.Serial.Step.{RefusesRestore};
 
 use super::Serial;

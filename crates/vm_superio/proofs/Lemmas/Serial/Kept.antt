@@ -1,7 +1,7 @@
 -- What a call keeps: the registers of other offsets, the transmitter's bits, and what is pending.
 use Rattle.std.proofs.Common.{◌≡◌, ℕ, ◌+◌, ◌≤◌, Bool, false, ◌&&◌, ◌||◌, Option, List, [], ◌∷◌, refl, ap, ◌∙◌, arith, IsTrue, if◌then◌else◌}
-use Rattle.vm_superio.specs.Serial.{acknowledged_at, Port, State, Asked, Sent, Response, CharacterTimeout, answer_count, answers_all, kind_calls, step_calls, read_kind, Op, OpKind, Read, Write, Enqueue, Other, Arrival, is_iir_read, is_rbr_read, write_kind, Register, RbrThr, Iir, register_at, has_bits, with_bits, only_bits, without_bits, count_if, is_dlab, is_loopback, kind_in_state, step, read_step, write_step}
-use Rattle.vm_superio.specs.Serial.Step.{IsPortStep, SameElsewhere, transmitter, pending_count, turned_on_count, turns_on}
+use Rattle.vm_superio.specs.Serial.{acknowledged_at, Port, State, Asked, Sent, Response, CharacterTimeout, answer_count, answers_all, kind_calls, step_calls, read_kind, Op, OpKind, Read, Write, Enqueue, Other, Arrival, is_iir_read, is_rbr_read, write_kind, Register, RbrThr, Iir, register_at, has_bits, with_bits, only_bits, without_bits, count_if, is_dlab, is_loopback, kind_in_state, step, read_step, write_step, turned_on_count, turns_on}
+use Rattle.vm_superio.specs.Serial.Step.{IsPortStep, SameElsewhere, transmitter, pending_count}
 use Rattle.superio_core.proofs.Lemmas.{and-without-apart}
 use Rattle.superio_core.proofs.Lemmas.Serial.Step.{by_kind, next_by_kind}
 use Rattle.std.proofs.lemmas.List.Sums.{sum_by-cons}
@@ -10,7 +10,7 @@ use Rattle.vm_superio.specs.Links.Writer.{PortLinks}
 use Rattle.vm_superio.specs.Serial.Run.{Call, Done, Reply, Byte, Wrote, Enqueued, TimedOut, Restored, NotRestored, acknowledged_by, acknowledged_in, answers_in_records}
 use Rattle.vm_superio.specs.Serial.Run.Steps.{IsCallStep, IsRun}
 use Rattle.vm_superio.specs.declared.run.Call.TheVariants as call
-use Rattle.vm_superio.proofs.Lemmas.Serial.Laws.OneCall.{bits, turned_bits_law}
+use Rattle.superio_laws.proofs.Lemmas.Serial.Laws.OneCall.{bits, turned_bits_law}
 
 -- ---- the registers of other offsets
 

@@ -8,18 +8,18 @@ use Rattle.vm_superio.specs.Serial.Run.Segments.{segments_of, SegmentsAre}
 use Rattle.vm_superio.specs.Serial.Run.HistoryTheorem.{HistoryTheorem, by_history}
 use Rattle.vm_superio.proofs.Lemmas.Serial.Run.Segments.{EntryFollows, EntryFollows-call, by_steps-met, by_history-met, SegmentsAre-run, TakesOutput-all}
 use Rattle.vm_superio.specs.Links.{TriggerAnswer, answers_of, all_ok, RefusesOwnState}
-use Rattle.vm_superio.specs.Links.Writer.{PortLinks, WriterLink, outcome_of}
-use Rattle.vm_superio.specs.Serial.{Asked, Sent, Op, TraceEntry, Response, State, Coherent, Event, Port, sent_by, step, step_events, step_response, is_admissible, restore_calls}
+use Rattle.vm_superio.specs.Links.Writer.{PortLinks, WriterLink}
+use Rattle.vm_superio.specs.Serial.{outcome_of, Asked, Sent, Op, TraceEntry, Response, State, Coherent, Event, Port, sent_by, step, step_events, step_response, is_admissible, restore_calls}
 use Rattle.vm_superio.specs.Serial.Step.{IsPortStep}
-use Rattle.vm_superio.specs.Serial.History.{ResponsesAre, history_response, bytes_read, state_of_history, taken_bytes, restore_calls_due, kind_at, output}
-use Rattle.vm_superio.specs.Serial.Laws.{StepsFollow}
-use Rattle.vm_superio.specs.Serial.Laws.Consequences.{op_and_asked, ops_and_asked}
+use Rattle.superio_laws.specs.Serial.History.{ResponsesAre, history_response, bytes_read, state_of_history, taken_bytes, restore_calls_due, kind_at, output}
+use Rattle.superio_laws.specs.Serial.Laws.{StepsFollow}
+use Rattle.superio_laws.specs.Serial.Laws.Consequences.{op_and_asked, ops_and_asked}
 use Rattle.vm_superio.proofs.Lemmas.{WriterLink-append, known_output_law}
-use Rattle.vm_superio.proofs.Lemmas.Serial.Laws.StepsOfHistory.{whole_run_law, state_law, step_law, call_law}
-use Rattle.vm_superio.proofs.Lemmas.Serial.Laws.Consequences.{trigger_bound_law, waiting_bytes_law}
-use Rattle.vm_superio.proofs.Lemmas.Serial.Laws.{taken_then_held}
-use Rattle.vm_superio.proofs.Lemmas.Serial.Laws.Reads.{read_then_held, same_reads_law}
-use Rattle.vm_superio.proofs.Lemmas.Serial.Laws.InterruptDriver.{timeouts_show_law}
+use Rattle.superio_laws.proofs.Lemmas.Serial.Laws.StepsOfHistory.{whole_run_law, state_law, step_law, call_law}
+use Rattle.superio_laws.proofs.Lemmas.Serial.Laws.Consequences.{trigger_bound_law, waiting_bytes_law}
+use Rattle.superio_laws.proofs.Lemmas.Serial.Laws.{taken_then_held}
+use Rattle.superio_laws.proofs.Lemmas.Serial.Laws.Reads.{read_then_held, same_reads_law}
+use Rattle.superio_laws.proofs.Lemmas.Serial.Laws.InterruptDriver.{timeouts_show_law}
 use Rattle.vm_superio.specs.declared.run.Act.TheVariants as act
 use Rattle.superio_core.specs.Serial.Operations as operation
 

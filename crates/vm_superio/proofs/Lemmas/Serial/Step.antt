@@ -2,19 +2,19 @@
 use Rattle.std.proofs.Common.{◌≡◌, ℕ, Bool, true, false, ◌&&◌, List, [], refl, ap, sym, ◌∙◌, subst, IsTrue, Option, ◌↔◌, Result, Ok, Err, OnOk, ◌-◌, ◌<◌, min, ◌||◌, ◌==◌, ◌++◌, length, take, arith, Some, IfErr, nat_le, not, ◌∷◌, length-append, if◌then◌else◌, leb-true}
 use Rattle.std.specs.Bool.{beq}
 use Rattle.std.proofs.lemmas.List.{length-take, take_min}
-use Rattle.vm_superio.specs.Serial.{Coherent, is_line_up, Error, Port, write_response, enqueue_response, timeout_response, failure_response, refusal_in_result, Trigger, IOError, FullFifo, Memory, Asked, Sent, Op, Response, Write, Enqueue, CharacterTimeout, is_sent, is_lost, ends_in_refusal, WriteOk, TriggerRefused, WriterFailed, sent_by, write_kind, EnqueueOk, TimeoutOk, FifoFull, OutOfMemory, is_refused_at_once, has_bits, State, not_empty, SameSettings, Register, register_at, is_dlab, is_loopback, receive_bytes, bytes_that_fit, enqueued_bytes, step_calls, kind_in_state, answers_all, sends_byte, step, write_step}
+use Rattle.vm_superio.specs.Serial.{Coherent, is_line_up, Error, Port, write_response, enqueue_response, timeout_response, failure_response, refusal_in_result, Trigger, IOError, FullFifo, Memory, Asked, Sent, Op, Response, Write, Enqueue, CharacterTimeout, is_sent, is_lost, ends_in_refusal, WriteOk, TriggerRefused, WriterFailed, sent_by, write_kind, EnqueueOk, TimeoutOk, FifoFull, OutOfMemory, is_refused_at_once, has_bits, State, not_empty, SameSettings, Register, register_at, is_dlab, is_loopback, receive_bytes, bytes_that_fit, enqueued_bytes, step_calls, kind_in_state, answers_all, sends_byte, step, write_step, bytes_sent, outcome_of}
 use Rattle.std.specs.Io.KnownBytes.{Appends}
 use Rattle.std.specs.List.{list_all}
 use Rattle.vm_superio.specs.Links.{Contents, answers_of}
-use Rattle.vm_superio.specs.Links.Writer.{PortLinks, bytes_sent, outcome_of, WriterLink}
+use Rattle.vm_superio.specs.Links.Writer.{PortLinks, WriterLink}
 use Rattle.vm_superio.proofs.Lemmas.{known_output_law}
 use Rattle.vm_superio.specs.Serial.Step.{IsPortStep, ShowsMore, WriteFate, EnqueueFate, TimeoutFate}
-use Rattle.vm_superio.proofs.Lemmas.Serial.Laws.OneCall.{received_bytes}
+use Rattle.superio_laws.proofs.Lemmas.Serial.Laws.OneCall.{received_bytes}
 use Rattle.vm_superio.proofs.Lemmas.Serial.{length-answers_of-step}
 use Rattle.std.proofs.lemmas.Bool.{and_parts, false≢true}
-use Rattle.vm_superio.specs.Serial.Laws.Line.{is_called}
-use Rattle.vm_superio.proofs.Lemmas.Serial.Laws.Consequences.{call_written}
-use Rattle.vm_superio.proofs.Lemmas.Serial.Laws.Interrupts.{up_after_call}
+use Rattle.superio_laws.specs.Serial.Laws.Line.{is_called}
+use Rattle.superio_laws.proofs.Lemmas.Serial.Laws.Consequences.{call_written}
+use Rattle.superio_laws.proofs.Lemmas.Serial.Laws.Interrupts.{up_after_call}
 use Rattle.superio_core.proofs.Lemmas.Serial.Coherence.{coherence_law}
 
 -- received bytes leave every setting, IER among them

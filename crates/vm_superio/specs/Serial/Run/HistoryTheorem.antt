@@ -5,7 +5,7 @@ use Rattle.std.specs.Prelude.{◌≡◌, List, [], ◌++◌, IsTrue}
 use Rattle.std.specs.List.{AllByRecursion}
 use Rattle.vm_superio.specs.Serial.{Port, State, TraceEntry, Trace, Coherent, sent_by}
 use Rattle.vm_superio.specs.Links.Writer.{PortLinks}
-use Rattle.vm_superio.specs.Serial.History.{ResponsesAre, bytes_read, state_of_history, restore_calls_due, history_events, kind_at, is_well_formed, IsWithinBound, WaitingBytesShow, TimeoutsShow, taken_bytes, accepted_bytes}
+use Rattle.superio_laws.specs.Serial.History.{ResponsesAre, bytes_read, state_of_history, restore_calls_due, history_events, kind_at, is_well_formed, IsWithinBound, WaitingBytesShow, TimeoutsShow, taken_bytes, accepted_bytes}
 use Rattle.vm_superio.specs.Serial.Run.{Call, Done, RecordsOf, entries_of, trace_of, without_restores, ReadsAre}
 use Rattle.vm_superio.specs.Serial.Run.Segments.{Account, segments_of, TakesOutput, SegmentsAre}
 

@@ -5,11 +5,11 @@
 use Rattle.std.specs.Prelude.{◌≡◌, not, ℕ, Bool, true, false, if◌then◌else◌, List, [], ◌∷◌, ◌++◌, flat_map, ⊤, IsTrue}
 use Rattle.std.specs.List.{list_all, AllByRecursion}
 use Rattle.std.specs.Io.KnownBytes.{Appends}
-use Rattle.vm_superio.specs.Serial.{Port, State, Condition, Event, TraceEntry, Trace, Sent, is_lost}
+use Rattle.vm_superio.specs.Serial.{Port, State, Condition, Event, TraceEntry, Trace, Sent, is_lost, outcome_of, trace_after}
 use Rattle.vm_superio.specs.Links.{TriggerAnswer, answers_of, all_ok, RefusesOwnState}
-use Rattle.vm_superio.specs.Links.Writer.{PortLinks, WriterLink, outcome_of}
-use Rattle.vm_superio.specs.Serial.History.{output}
-use Rattle.vm_superio.specs.Serial.Run.{Call, Reply, Restored, NotRestored, Done, entry_of, entries_of, trace_after, trace_of, refusal_in_reply}
+use Rattle.vm_superio.specs.Links.Writer.{PortLinks, WriterLink}
+use Rattle.superio_laws.specs.Serial.History.{output}
+use Rattle.vm_superio.specs.Serial.Run.{Call, Reply, Restored, NotRestored, Done, entry_of, entries_of, trace_of, refusal_in_reply}
 
 -- what is said of a port at each point of a trace: its state; for which conditions a restore would call the trigger
 -- there; and of an entry that is made there, which events it reports and which byte it sends

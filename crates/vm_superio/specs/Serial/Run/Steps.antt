@@ -1,9 +1,9 @@
 -- A run of calls with a record of each, by the steps of these calls; and what these steps say of a port at each point.
 use Rattle.std.specs.Prelude.{◌≡◌, List, [], ◌∷◌, None}
-use Rattle.vm_superio.specs.Serial.{Port, State, TraceEntry, Trace, step_events, write_response, enqueue_response, timeout_response, refusal_in_result, Asked, Sent, Read, Write, Enqueue, CharacterTimeout, ByteRead, restore_calls}
+use Rattle.vm_superio.specs.Serial.{Port, State, TraceEntry, Trace, step_events, write_response, enqueue_response, timeout_response, refusal_in_result, Asked, Sent, Read, Write, Enqueue, CharacterTimeout, ByteRead, restore_calls, bytes_sent}
 use Rattle.vm_superio.specs.Links.{all_ok, RefusesOwnState}
-use Rattle.vm_superio.specs.Links.Writer.{PortLinks, bytes_sent}
-use Rattle.vm_superio.specs.Serial.Laws.{state_after}
+use Rattle.vm_superio.specs.Links.Writer.{PortLinks}
+use Rattle.superio_laws.specs.Serial.Laws.{state_after}
 use Rattle.vm_superio.specs.Serial.Run.Segments.{Account}
 use Rattle.vm_superio.specs.Serial.Step.{IsPortStep}
 use Rattle.vm_superio.specs.Serial.Run.{Call, Reply, Byte, Wrote, Enqueued, TimedOut, Restored, NotRestored, Done, act_of}

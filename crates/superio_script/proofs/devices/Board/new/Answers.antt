@@ -1,7 +1,7 @@
 -- No call and no access led to fresh devices.
 use Rattle.std.proofs.Common.{rules, ◌≡◌, ◌∙◌, []}
 use Rattle.superio_core.specs.Rtc.{fresh_clock}
-use Rattle.vm_superio.proofs.Lemmas.Rtc.{fresh_clock-history}
+use Rattle.superio_laws.proofs.Lemmas.Rtc.{fresh_clock-history}
 use Rattle.superio_script.proofs.SerialScriptLemmas.{at-start}
 use Rattle.superio_script.proofs.devices.Board.new.Goals as goal
 

@@ -4,17 +4,17 @@ use Rattle.std.proofs.Common.{arith, ◌≡◌, ℕ, List, [], ◌∷◌, sym, s
 use Rattle.std.proofs.lemmas.Bool.{and_parts}
 use Rattle.std.specs.List.{list_all, AllByRecursion}
 use Rattle.std.specs.Io.KnownBytes.{Appends}
-use Rattle.vm_superio.specs.Serial.Run.{Call, Done, act_of, IsReplyTo, op_of, entry_of, response_of, entries_of, trace_after, Act, Reply, Byte, Wrote, Enqueued, TimedOut, Restored, NotRestored}
+use Rattle.vm_superio.specs.Serial.Run.{Call, Done, act_of, IsReplyTo, op_of, entry_of, response_of, entries_of, Act, Reply, Byte, Wrote, Enqueued, TimedOut, Restored, NotRestored}
+use Rattle.vm_superio.specs.Serial.{trace_after, outcome_of, bytes_sent, Asked, Sent, Op, TraceEntry, Trace, State, Coherent, Event, Port, Response, sent_by, is_lost, step, step_events, step_response, is_admissible, restore_calls}
 use Rattle.vm_superio.specs.Serial.Run.Steps.{IsCallStep, IsRun, by_steps}
 use Rattle.vm_superio.specs.Serial.Run.Segments.{Account, Segment, records_in, end_of, segments_begun, answers_in, outcomes_in, in_order, IsServed, TakesOutput, RefusalsAre, SegmentsAre}
 use Rattle.vm_superio.specs.Serial.Run.HistoryTheorem.{by_history}
 use Rattle.vm_superio.specs.Links.{TriggerAnswer, answers_of, all_ok, RefusesOwnState}
-use Rattle.vm_superio.specs.Links.Writer.{PortLinks, WriterLink, outcome_of, bytes_sent}
-use Rattle.vm_superio.specs.Serial.{Asked, Sent, Op, TraceEntry, Trace, State, Coherent, Event, Port, Response, sent_by, is_lost, step, step_events, step_response, is_admissible, restore_calls}
+use Rattle.vm_superio.specs.Links.Writer.{PortLinks, WriterLink}
 use Rattle.vm_superio.specs.Serial.Step.{IsPortStep}
-use Rattle.vm_superio.specs.Serial.History.{kind_at, output}
+use Rattle.superio_laws.specs.Serial.History.{kind_at, output}
 use Rattle.vm_superio.proofs.Lemmas.{WriterLink-append, known_output_law}
-use Rattle.vm_superio.proofs.Lemmas.Serial.Laws.StepsOfHistory.{step_law}
+use Rattle.superio_laws.proofs.Lemmas.Serial.Laws.StepsOfHistory.{step_law}
 use Rattle.superio_core.specs.Serial.Operations as operation
 
 -- a restore records no trigger answers and no sent byte

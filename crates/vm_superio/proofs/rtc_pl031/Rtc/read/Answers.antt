@@ -1,7 +1,7 @@
 -- A read continues each history: it may reach the alarm, and has no other effect.
 use Rattle.std.proofs.Common.{rules, ◌≡◌}
-use Rattle.vm_superio.specs.Rtc.{read, bytes_left, clock_response}
-use Rattle.vm_superio.proofs.Lemmas.Rtc.{ReadsByHistory-read, GoesOnByHistory-step}
+use Rattle.superio_laws.specs.Rtc.{read, bytes_left, clock_response}
+use Rattle.superio_laws.proofs.Lemmas.Rtc.{ReadsByHistory-read, GoesOnByHistory-step}
 use Rattle.vm_superio.proofs.rtc_pl031.Rtc.read.Goals as goal
 
 pub returns-in-Some-clause-response_by_history : goal.returns-in-Some-clause-response_by_history

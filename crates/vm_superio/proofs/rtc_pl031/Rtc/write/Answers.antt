@@ -1,7 +1,7 @@
 -- A write continues each history, since it leaves the state of its step.
 use Rattle.std.proofs.Common.{◌∙◌, ap}
-use Rattle.vm_superio.specs.Rtc.{state_of_clock, write, write_of, clock_step}
-use Rattle.vm_superio.proofs.Lemmas.Rtc.{GoesOnByHistory-step}
+use Rattle.superio_laws.specs.Rtc.{state_of_clock, write, write_of, clock_step}
+use Rattle.superio_laws.proofs.Lemmas.Rtc.{GoesOnByHistory-step}
 use Rattle.vm_superio.proofs.rtc_pl031.Rtc.write.Goals as goal
 
 pub returns-then-not-write-clause-history : goal.returns-then-not-write-clause-history

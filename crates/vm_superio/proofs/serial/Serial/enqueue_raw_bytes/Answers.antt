@@ -3,7 +3,7 @@ use Rattle.std.proofs.Common.{ap, ◌∙◌}
 use Rattle.vm_superio.specs.Serial.{State, Enqueue, enqueued_bytes}
 use Rattle.vm_superio.proofs.Lemmas.Serial.{length-answers_of-step}
 use Rattle.vm_superio.proofs.Lemmas.Serial.Kept.{transmitter-kept, pending-enqueued}
-use Rattle.vm_superio.proofs.Lemmas.Serial.Laws.OneCall.{received_bytes}
+use Rattle.superio_laws.proofs.Lemmas.Serial.Laws.OneCall.{received_bytes}
 use Rattle.vm_superio.proofs.Lemmas.Serial.Step.{quiet, settings_kept, keeps_coherent, enqueue_fate}
 use Rattle.vm_superio.proofs.serial.Serial.enqueue_raw_bytes.Goals as goal
 

@@ -1,0 +1,91 @@
+-- Worked examples of words that laws only assume, or bound by, since with a wrong one they would say less.
+mod Console
+use Rattle.std.proofs.Common.{◌≡◌, ℕ, ◌≤◌, true, false, List, [], ◌∷◌, ◌++◌, length, map, count_by, refl, arith}
+use Rattle.superio_laws.specs.Serial.{Asked, Sent, Coherent, State, fresh_state, Op, Read, Write, Enqueue, Response, ByteRead, WriteOk, EnqueueOk, Trace, TraceEntry, IerWrite, ThrWrite, is_iir_read, is_rbr_read, Rda, Thre, restore_calls, has_bits, only_bits, with_bits}
+use Rattle.superio_laws.specs.Serial.History.{held_bytes, taken_bytes, op_kinds, shows_waiting_bytes}
+use Rattle.superio_laws.specs.Serial.Laws.Consequences.{polls, polls_after_data_ready}
+use Rattle.superio_laws.specs.Serial.Laws.Line.{RunsAtInterrupts, TakenAfterRunsLaw, may_lower_line}
+use Rattle.superio_laws.specs.Serial.Laws.PortRun.{PortCall, PortCallsFollow, ops_of_calls, trace_with, interrupts_told, PortBoundLaw}
+use Rattle.superio_laws.specs.Rtc.{Access, read, write, fresh_clock, guest_times_since_match, is_armed}
+
+-- ---- the bound on interrupts that a caller is told
+
+five_told_with_two_reads : PortBoundLaw → (start end : State) (calls : List PortCall) → Coherent start
+    → PortCallsFollow start calls end
+    → count_by is_iir_read (op_kinds start (trace_with [] (ops_of_calls calls))) ≡ 1
+    → count_by is_rbr_read (op_kinds start (trace_with [] (ops_of_calls calls))) ≡ 1
+    → interrupts_told calls ≤ 5
+five_told_with_two_reads law start end calls coherent follow one taken =
+    omega (arith, law start end calls coherent follow, one, taken)
+
+-- ---- what waiting bytes, drivers and the line are said of
+
+enabling_shows_them : shows_waiting_bytes (IerWrite 0x01) [] ≡ true
+enabling_shows_them = refl
+
+-- as many runs as bytes are enough
+as_many_runs : TakenAfterRunsLaw → (start : State) (before after : Trace)
+    → RunsAtInterrupts start (length (held_bytes start before)) before after
+    → (more : List ℕ) × (taken_bytes start after ≡ taken_bytes start before ++ held_bytes start before ++ more)
+as_many_runs law start before after runs = law start (length (held_bytes start before)) before after runs (omega arith)
+
+sending_lowers_no_line : may_lower_line (ThrWrite 0x61) ≡ false
+sending_lowers_no_line = refl
+
+-- ---- a driver that polls, and one that reads RBR unasked
+
+-- a call that calls no trigger and sends no byte, with its response
+abbrev call : Op → Response → TraceEntry × Response
+call op response = (record { op = op; asked = Asked.Nothing; sent = Sent.Nothing }, response)
+
+abbrev reads : (offset byte : ℕ) → TraceEntry × Response
+reads offset byte = call (Read offset) (ByteRead byte)
+
+abbrev enqueue : (bytes : List ℕ) → TraceEntry × Response
+enqueue bytes = call (Enqueue bytes) (EnqueueOk (length bytes))
+
+-- after data ready it reads one byte; for the second it has not looked
+looks_before_it_reads :
+    map (polls_after_data_ready fresh_state [] false) (
+    (enqueue (0x61 ∷ []) ∷ reads 5 0x61 ∷ call (Write 7 0x12) WriteOk ∷ reads 0 0x61 ∷ reads 5 0x60 ∷ [])
+    ∷ (enqueue (0x61 ∷ 0x62 ∷ []) ∷ reads 5 0x61 ∷ reads 0 0x61 ∷ reads 0 0x62 ∷ [])
+    ∷ [])
+    ≡ true ∷ false ∷ []
+unfolding has_bits only_bits with_bits
+looks_before_it_reads = refl
+
+-- both reads were made while data ready would show, though the driver did not look; and one while it would not
+reads_while_ready :
+    map (polls fresh_state []) (
+    (enqueue (0x61 ∷ 0x62 ∷ []) ∷ reads 0 0x61 ∷ reads 0 0x62 ∷ []) ∷ (reads 0 0x00 ∷ []) ∷ [])
+    ≡ true ∷ false ∷ []
+unfolding has_bits only_bits with_bits
+reads_while_ready = refl
+
+-- ---- the alarm of the clock
+
+-- newest first: a match write of 5 when guest time is 3, and reads at 4 and at 6
+abbrev reached_at_6 : List Access
+reached_at_6 = read 0x000 6 ∷ read 0x000 4 ∷ write 0x004 5 3 ∷ []
+
+reaches_its_match :
+    guest_times_since_match fresh_clock reached_at_6 ∷ guest_times_since_match fresh_clock (write 0x004 9 7 ∷ reached_at_6) ∷ []
+    ≡ (6 ∷ 4 ∷ []) ∷ [] ∷ []
+reaches_its_match = refl
+
+-- the read at 4 leaves it armed, that at 6 reaches it, and a match write of a time to come sets it again
+armed_until_reached :
+    is_armed fresh_clock (read 0x000 4 ∷ write 0x004 5 3 ∷ [])
+    ∷ is_armed fresh_clock reached_at_6
+    ∷ is_armed fresh_clock (write 0x004 9 7 ∷ reached_at_6)
+    ∷ is_armed fresh_clock (write 0x004 7 7 ∷ reached_at_6)
+    ∷ []
+    ≡ true ∷ false ∷ true ∷ false ∷ []
+armed_until_reached = refl
+
+-- ---- restores
+
+-- it calls for THRE first
+both_due : restore_calls (record fresh_state { interrupt_identification = 0x06; interrupt_enable = 0x03 }) ≡ Thre ∷ Rda ∷ []
+unfolding has_bits
+both_due = refl

@@ -1,0 +1,2 @@
+-- Lemmas on the laws of the serial port.
+pub mod Laws

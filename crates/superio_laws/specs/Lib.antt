@@ -1,0 +1,2 @@
+pub mod Rtc
+pub mod Serial

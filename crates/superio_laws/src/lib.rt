@@ -1,0 +1,303 @@
+//! The laws of the devices, over the definitions of `superio_core`. Each function does nothing: its contract is the law.
+//!
+//! A step states what one call does to a state, as a device would. The history keeps no state: it searches the start
+//! and the trace of the calls so far for the last write, the bytes not yet taken, and any condition raised and not
+//! acknowledged. The first laws state that both describe the same port. The others follow from one of the two alone.
+//!
+//! They hold for a device in any language whose calls are those of `superio_core`.
+#![tactic(auto)]
+
+ghost use Rattle.superio_laws.specs.Serial.Laws.{RegisterLaw, HeldBytesLaw, LineStatusLaw, InterruptLaw, CoherenceLaw, StateLaw, ResponseLaw, StepLaw, CallLaw, RetryLaw, WholeRunLaw};
+ghost use Rattle.superio_laws.specs.Serial.Laws.Consequences.{PendingByPrefixesLaw, TriggerBoundLaw, WaitingBytesLaw, SameReadsLaw, TakenThenHeldLaw, ReadsAreTakenLaw, ReadThenHeldLaw, OutputLaw, PollingDriverLaw, DriverGetsAllLaw, PollsAfterDataReadyLaw};
+ghost use Rattle.superio_laws.specs.Serial.Laws.Line.{NoByteWaitsLaw, TimeoutCallsLaw, TimeoutsShowLaw, OwedAfterRunLaw, TakenAfterRunsLaw, LineAfterLaw, UpAfterCallLaw, GoesUpLaw, StaysUpLaw, LineOfHistoryLaw};
+ghost use Rattle.superio_laws.specs.Serial.Laws.Transmit.{IerWriteAsksLaw, ThrWriteAsksLaw, RefusedWriteLaw, RetriedLaw, CalledSinceLaw};
+ghost use Rattle.superio_laws.specs.Serial.Laws.Console.{AskedToTakeLaw, AskedToSendLaw, TakenInRunsLaw, SentInRunsLaw, HandlerRunLaw, HandlerEndsLaw};
+ghost use Rattle.superio_laws.specs.Rtc.{ClockIsHistory, RawBitsByHistory, AlarmDueByHistory, SetTimeLaw};
+ghost use Rattle.superio_laws.specs.Serial.Laws.PortRun.{PortRunLaw, PortOutputLaw, PortBoundLaw};
+ghost use Rattle.superio_laws.specs.Serial.Laws.OneCall.{OneCallLaw, OneReadLaw, ReceivedLaw, RbrReadLaw, RbrDataReadyLaw, ThrWriteLaw, OutcomeEventsLaw, TurnedBitsLaw};
+
+/// From any start, each register that stores writes holds its last effective one, and MSR never changes.
+#[tactic(auto, using(crate::proofs::Lemmas::Serial::Laws::register_law))]
+pub fn registers()
+    ensures { RegisterLaw }
+{}
+
+/// The held-bytes law, from any start: the bytes in the FIFO are those of the history. LSR shows whether there are any
+/// if the start's LSR did.
+#[tactic(auto, using(crate::proofs::Lemmas::Serial::Laws::held_bytes_laws))]
+pub fn held_bytes()
+    ensures bytes { HeldBytesLaw }
+    ensures line_status { LineStatusLaw }
+{}
+
+/// The interrupt law, from a start whose IIR is 1, 2, 4 or 6: IIR shows the conditions raised and not acknowledged
+/// since, an entry is admissible exactly if it is well-formed, and a restore makes the trigger calls that are due. The
+/// trace may contain refused trigger calls and IER writes that end early.
+pub fn interrupts()
+    ensures { InterruptLaw }
+{
+    by_lemmas();
+}
+
+/// Every step, even a refused call, keeps a coherent state coherent.
+#[tactic(auto, using(superio_core::proofs::Lemmas::Serial::Coherence::coherence_law))]
+pub fn coherence()
+    ensures { CoherenceLaw }
+{}
+
+/// From a coherent start, the state after any trace is that of the history, and a call responds as the history says: a
+/// read with the guest read.
+#[tactic(auto, using(crate::proofs::Lemmas::Serial::Laws::StepsOfHistory::states_of_history_laws))]
+pub fn states_of_history()
+    ensures state { StateLaw }
+    ensures response { ResponseLaw }
+{}
+
+/// From a coherent start, in the state that a trace leads to, a call makes the trigger calls and reports the events of
+/// its point, responds as the history says, and leaves the state of the trace with its entry added. A restore makes the
+/// trigger calls that are due.
+pub fn steps_of_history()
+    ensures { StepLaw }
+{
+    by_lemmas();
+}
+
+/// From a coherent start, a call in the state that a trace leads to is well-formed there, replies as the history says,
+/// and leaves the state of the trace with its entry added. The premises are the fields of the call's clause `step`.
+pub fn calls_of_history()
+    ensures { CallLaw }
+{
+    by_lemmas();
+}
+
+/// From a coherent start, a retry in the state that a trace leads to counts as a restore: the trigger calls are those
+/// due for a restore there, and the state is that of the trace with a restore's entry added.
+pub fn retries_of_history()
+    ensures { RetryLaw }
+{
+    by_lemmas();
+}
+
+/// From a coherent start, entries connected by steps form a well-formed trace with these responses. They end in the
+/// state that it leads to, which is coherent.
+#[tactic(auto, using(crate::proofs::Lemmas::Serial::Laws::StepsOfHistory::whole_run_law))]
+pub fn whole_runs()
+    ensures { WholeRunLaw }
+{}
+
+/// Calls of a coherent `SerialPort` have the effects that the history says, by the start and the operations
+/// alone: the byte and events of each read, the bytes taken, and how often to ask for the interrupt. They end in the
+/// state of the history, which is coherent. The bytes that the caller is told to send are the output. It is told to ask
+/// for the interrupt at most twice, plus twice for each IIR read and once for each RBR read; restores do not count.
+#[tactic(auto, using(crate::proofs::Lemmas::Serial::Laws::StepsOfHistory::port_run_laws))]
+pub fn whole_runs_of_ports()
+    ensures run { PortRunLaw }
+    ensures output { PortOutputLaw }
+    ensures bound { PortBoundLaw }
+{}
+
+/// From any start, a condition is pending exactly if it was raised at some point or pending at the start, and no later
+/// point acknowledged it.
+#[tactic(auto, using(crate::proofs::Lemmas::Serial::Laws::Consequences::pending_by_prefixes_law))]
+pub fn pending_by_prefixes()
+    ensures { PendingByPrefixesLaw }
+{}
+
+/// From any start, a well-formed trace calls the trigger at most twice, plus twice for each IIR read and once for each
+/// RBR read. Calls of restores do not count.
+#[tactic(auto, using(crate::proofs::Lemmas::Serial::Laws::Consequences::trigger_bound_law))]
+pub fn trigger_bound()
+    ensures { TriggerBoundLaw }
+{}
+
+/// From any start, after a byte is accepted or IER is written, and until IIR or RBR is read, RDA is pending whenever
+/// bytes are held and IER enables it.
+#[tactic(auto, using(crate::proofs::Lemmas::Serial::Laws::Consequences::waiting_bytes_law))]
+pub fn waiting_bytes()
+    ensures { WaitingBytesLaw }
+{}
+
+/// From any start, right after a character timeout no byte waits without an interrupt: if bytes are held and IER
+/// enables RDA, it is pending. If it was not pending before, the trigger is called once, and otherwise not at all.
+#[tactic(auto, using(crate::proofs::Lemmas::Serial::Laws::InterruptDriver::no_byte_waits_laws))]
+pub fn no_byte_waits()
+    ensures pending { NoByteWaitsLaw }
+    ensures called { TimeoutCallsLaw }
+    ensures in_a_trace { TimeoutsShowLaw }
+{
+    by_lemmas();
+}
+
+/// From any start, for any driver that takes at least one held byte at each interrupt and ends its run with a read of
+/// IIR: if a character timeout follows the run, bytes are held and IER enables RDA, the interrupt is asked for again.
+/// After as many runs as bytes are held, all of these are taken, in order, whatever arrives meanwhile.
+#[tactic(auto, using(crate::proofs::Lemmas::Serial::Laws::InterruptDriver::interrupt_driver_laws))]
+pub fn interrupt_driver()
+    ensures owed { OwedAfterRunLaw }
+    ensures taken { TakenAfterRunsLaw }
+{}
+
+/// From any start, an IER write that enables THRE, and each THR write outside loopback while IER enables it, raise THRE,
+/// and call the trigger once if it was not pending. The exception is an IER write whose call for RDA is refused. Then
+/// RDA is pending, and a retry calls the trigger for it, as for each condition that is pending and enabled. What is
+/// pending after a read of IIR has had its trigger call since.
+pub fn transmitter_interrupt()
+    ensures ier_write { IerWriteAsksLaw }
+    ensures thr_write { ThrWriteAsksLaw }
+    ensures refused_write { RefusedWriteLaw }
+    ensures retried { RetriedLaw }
+    ensures called { CalledSinceLaw }
+{}
+
+/// From any start, for any driver of a console. At each interrupt it takes at least one held byte. Either it reads IIR
+/// until nothing is pending and sends at least one byte between two reads, as Linux and Xen do, or it sends at least one
+/// after its last read of IIR, unless it has none left or flow control stops it. It sends by THR writes outside loopback
+/// while IER enables THRE, its bytes in their order. It gets bytes while it has none, or goes on after a stop, only at
+/// such a THR write, or at an IER write that enables THRE and whose call for RDA is not refused. The monitor makes a
+/// character timeout after each read of IIR that shows nothing pending, and in each turn of its event loop.
+///
+/// Then after each run the interrupt is asked for as long as bytes are held and IER enables RDA, or bytes are left to
+/// send and it is not stopped. Of the bytes held before some runs, the first are taken, in order, as many as there were
+/// runs; of those left to send, as many are sent as there were runs without a stop. So a byte with i before it in its
+/// direction is through within i + 1 such runs, whatever arrives, and whatever the driver is given, meanwhile.
+///
+/// A driver that has bytes left and ends its run with a read of IIR that shows THRE is not asked again, neither here nor
+/// by a 16550A.
+pub fn console_driver()
+    ensures asked_to_take { AskedToTakeLaw }
+    ensures asked_to_send { AskedToSendLaw }
+    ensures taken { TakenInRunsLaw }
+    ensures sent { SentInRunsLaw }
+{}
+
+/// From any start, for a handler of Linux's shape: it reads IIR until nothing is pending, and after each read sends, and
+/// takes bytes until none is left or it has taken as many as a limit. Its runs are those of [`console_driver`]. Where it
+/// reads that nothing is pending, it has sent all its bytes, unless it is stopped. If IER enables RDA there, it has also
+/// taken all, unless its last turn came to the limit: the others wait for the character timeout.
+pub fn console_handler()
+    ensures run { HandlerRunLaw }
+    ensures ends { HandlerEndsLaw }
+{}
+
+/// One call in any state, and the level of the interrupt line. A call that calls the trigger, which may refuse, leaves
+/// the line up. The line goes up in such a call, or in an IER write that enables a pending condition, for which the
+/// trigger is not called again. It goes down only in a read of IIR or RBR, or in an IER write. From a start whose IIR
+/// is 1, 2, 4 or 6, the line is up exactly while the trace has a condition pending that IER enables.
+#[tactic(auto, using(crate::proofs::Lemmas::Serial::Laws::Interrupts::interrupt_line_laws))]
+pub fn interrupt_line()
+    ensures after { LineAfterLaw }
+    ensures called { UpAfterCallLaw }
+    ensures goes_up { GoesUpLaw }
+    ensures stays_up { StaysUpLaw }
+    ensures history { LineOfHistoryLaw }
+{
+    by_lemmas();
+}
+
+/// From any start, two traces with the same operations and trigger answers, restores left out, give the same guest
+/// reads, whatever the writer did.
+#[tactic(auto, using(crate::proofs::Lemmas::Serial::Laws::Reads::same_reads_law))]
+pub fn same_reads()
+    ensures { SameReadsLaw }
+{}
+
+/// From any start, the bytes taken, then those held, are those held at the start, then those accepted.
+#[tactic(auto, using(crate::proofs::Lemmas::Serial::Laws::taken_then_held))]
+pub fn taken_then_held()
+    ensures { TakenThenHeldLaw }
+{}
+
+/// From any start, if calls respond as the history says, the bytes that they give a guest from the FIFO are those that
+/// they take. So the bytes read, then those held, are those held at the start, then those accepted.
+#[tactic(auto, using(crate::proofs::Lemmas::Serial::Laws::Reads::reads_are_taken_laws))]
+pub fn reads_are_taken()
+    ensures taken { ReadsAreTakenLaw }
+    ensures held { ReadThenHeldLaw }
+{}
+
+/// From any start, if calls respond as the history says, and only a driver that polls reads data: the bytes that it got,
+/// then those held, are those held at the start, then those accepted. If LSR does not show data ready in the end, it got
+/// all of these bytes. A driver polls if it reads RBR only after a read of LSR has shown data ready since its previous
+/// RBR read. Other calls in between do not matter.
+#[tactic(auto, using(crate::proofs::Lemmas::Serial::Laws::Reads::polling_driver_laws))]
+pub fn polling_driver()
+    ensures bytes { PollingDriverLaw }
+    ensures all { DriverGetsAllLaw }
+    ensures after_data_ready { PollsAfterDataReadyLaw }
+{}
+
+/// From any start, the bytes that the newest entries of a well-formed trace record as sent are the output.
+#[tactic(auto, using(crate::proofs::Lemmas::Serial::Laws::Consequences::output_law))]
+pub fn output()
+    ensures { OutputLaw }
+{}
+
+/// One call in any state: the bytes that it takes, then those held after, are those held before, then those it accepts.
+/// It gives a guest the byte that it takes. Received bytes, and an RBR read of a held byte, change only the FIFO, LSR
+/// and IIR. After an RBR read, LSR shows data ready if it did before and a byte is left. A THR write outside loopback
+/// sends its byte and changes only IIR. If it returns `Ok`, the byte is out.
+#[tactic(auto, using(crate::proofs::Lemmas::Serial::Laws::OneCall::one_call_laws))]
+pub fn one_call()
+    ensures taken { OneCallLaw }
+    ensures read { OneReadLaw }
+    ensures received { ReceivedLaw }
+    ensures rbr_read { RbrReadLaw }
+    ensures data_ready { RbrDataReadyLaw }
+    ensures thr_write { ThrWriteLaw }
+{}
+
+/// In any state, a THR write outside loopback reports either `out_byte` or `tx_lost_byte`, exactly once. No other call
+/// does.
+#[tactic(auto, using(crate::proofs::Lemmas::Serial::Laws::OneCall::events_law))]
+pub fn outcome_events()
+    ensures { OutcomeEventsLaw }
+{}
+
+/// One call in any state: it calls the trigger once for each of the two pending bits of IIR that it turns from clear to
+/// set.
+#[tactic(auto, using(crate::proofs::Lemmas::Serial::Laws::OneCall::turned_bits_law))]
+pub fn turned_bits()
+    ensures { TurnedBitsLaw }
+{}
+
+// ---- the clock
+
+/// The clock is its history: from any state and over any accesses, a search of the accesses so far gives its states and
+/// answers.
+#[tactic(auto, using(crate::proofs::Lemmas::Rtc::clock_is_history))]
+pub fn clock_is_history()
+    ensures { ClockIsHistory }
+{}
+
+/// A raw interrupt bit is set if the start has it and no access so far cleared it. Bit 0 is also set if the alarm
+/// raised it and no access cleared it then or later. No other bit is set.
+#[tactic(auto, using(crate::proofs::Lemmas::Rtc::raw_bits))]
+pub fn raw_bits_by_history()
+    ensures { RawBitsByHistory }
+{}
+
+/// By the history, an alarm due in some seconds raises the interrupt at any access at that moment, if the guest writes
+/// nothing until then. No earlier access does, unless it writes a match itself. An earlier read changes nothing.
+#[tactic(auto, using(crate::proofs::Lemmas::Rtc::alarm_due_law))]
+pub fn alarm_due_by_history()
+    ensures { AlarmDueByHistory }
+{}
+
+/// From any state, a clock that was set by a write of RTCLR shows the value written and as many seconds more as have
+/// passed since, if 32 bits hold both times.
+pub fn set_time()
+    ensures { SetTimeLaw }
+{
+    by_lemmas();
+}
+
+/// Laws whose lemmas the search does not apply by their names. Those above that state them call this function.
+fn by_lemmas()
+    ensures interrupts { InterruptLaw }
+    ensures steps { StepLaw }
+    ensures calls { CallLaw }
+    ensures retries { RetryLaw }
+    ensures timeouts { TimeoutsShowLaw }
+    ensures line { LineOfHistoryLaw }
+    ensures set_time { SetTimeLaw }
+{}

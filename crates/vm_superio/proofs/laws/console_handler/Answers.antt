@@ -1,8 +1,0 @@
-use Rattle.vm_superio.proofs.Lemmas.Serial.Laws.Console.{handler_run_law, handler_ends_law}
-use Rattle.vm_superio.proofs.laws.console_handler.Goals as goal
-
-pub returns-clause-run : goal.returns-clause-run
-returns-clause-run c = handler_run_law
-
-pub returns-clause-ends : goal.returns-clause-ends
-returns-clause-ends c = handler_ends_law
