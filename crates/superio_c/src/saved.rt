@@ -37,7 +37,10 @@ pub extern "C" fn superio_serial_save(port: &SerialPort, bytes: &mut [u8; SAVED_
     ensures form { take result bytes.new ≡ serial_form (state_of_port port.now) }
     ensures rest_unchanged { drop result bytes.new ≡ drop result bytes.old }
 {
-    port.to_bytes(bytes)
+    let form = port.to_bytes();
+    let form = form.as_bytes();
+    bytes[..form.len()].copy_from_slice(form);
+    form.len()
 }
 
 /// Loads a saved port and returns 0. If the bytes are invalid, nothing changes, and the result says which check failed.

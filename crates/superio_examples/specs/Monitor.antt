@@ -3,7 +3,7 @@ use Rattle.std.specs.Prelude.{◌≡◌, ◌≤◌, ℕ, ◌+◌, ◌-◌, Bool,
 use Rattle.std.specs.Option.{option_map, option_map_or}
 use Rattle.circular_buffer.specs.Buffer.{Buffer, buffer}
 use Rattle.vm_superio.specs.Serial.{Asked, Sent, State, fresh_state, not_empty, Op, Read, Write, Enqueue, CharacterTimeout, sent_by, state_of_port, step, step_response, kind_in_state, step_calls, restore_calls}
-use Rattle.superio_laws.specs.Rtc.{RtcState, is_line_up, clock_step, clock_response, Access, read, write, fresh_clock}
+use Rattle.superio_laws.specs.Rtc.{RtcState, is_line_up, clock_step, clock_response, Access, read, write, fresh_clock, state_of_clock}
 use Rattle.superio_laws.specs.Serial.History.{byte_read, accepted_by}
 use Rattle.superio_examples.specs.Bus.{serial_offset, other_byte, is_reset, Keyboard}
 use Rattle.superio_examples.specs.Mmio.{is_inside}
@@ -37,7 +37,7 @@ pub record Machine : Type 0 where
 abbrev pub machine_of : (monitor : Monitor) → Machine
 machine_of monitor = record {
   serial = state_of_port monitor.port;
-  clock = monitor.clock;
+  clock = state_of_clock monitor.clock;
   input = monitor.input;
   output = monitor.output;
   moment = monitor.moment;

@@ -10,7 +10,7 @@ use crate::queues::{Input, Output, shows_ready};
 use crate::timed_read::read_timed;
 use std::alloc::{AllocError, Global};
 use superio_core::fifo::FIFO_SIZE;
-use superio_core::{RtcState, SerialPort, is_reset_command};
+use superio_core::{Clock, SerialPort, is_reset_command};
 
 /// The offset of the command port.
 const COMMAND_OFFSET: u8 = (I8042_COMMAND - I8042_DATA) as u8;
@@ -71,7 +71,7 @@ pub struct Monitor {
     /// The serial port, at COM1.
     pub port: SerialPort,
     /// The clock, at 0x0901_0000.
-    pub clock: RtcState,
+    pub clock: Clock,
     /// What was typed, until the serial port has room.
     pub input: Input,
     /// What the guest sent, until a sink takes it.
@@ -104,7 +104,7 @@ impl Monitor {
     {
         Ok(Monitor {
             port: SerialPort::new(),
-            clock: RtcState::default(),
+            clock: Clock::new(),
             input: Input::new(alloc, input)?,
             output: Output::new(alloc, output)?,
             moment: 0,

@@ -2,6 +2,7 @@
 //!
 //! Both hosts must tell the same time, since the clock keeps only the difference between guest time and host time.
 ghost use Rattle.std.specs.Prelude.{◌≡◌, IfOk};
+ghost use Rattle.superio_core.specs.Rtc.{state_of_clock};
 ghost use Rattle.superio_core.specs.Saved.{IsClock};
 ghost use Rattle.superio_examples.specs.Monitor.{machine_of};
 ghost use Rattle.superio_examples.specs.SavedMonitor.{IsSavedAs, saved_input, saved_output};
@@ -9,8 +10,7 @@ ghost use Rattle.superio_examples.specs.SavedMonitor.{IsSavedAs, saved_input, sa
 use crate::monitor::Monitor;
 use crate::queues::{Input, Output};
 use std::alloc::{AllocError, Global};
-use superio_core::serial::saved_form::SAVED_MAX;
-use superio_core::{RtcState, SerialPort};
+use superio_core::{Clock, RtcState, SerialPort};
 use vm_superio::saved::Error;
 
 /// A saved monitor.
@@ -48,11 +48,9 @@ pub struct SavedMonitor {
 pub fn save_monitor(alloc: Global, monitor: &Monitor) -> Result<SavedMonitor, AllocError>
     ensures saved { IfOk result (λ saved. IsSavedAs saved (machine_of monitor.now)) }
 {
-    let mut form = [0; SAVED_MAX];
-    let length = monitor.port.to_bytes(&mut form);
     Ok(SavedMonitor {
-        serial: form[..length].to_vec(alloc)?,
-        clock: monitor.clock.to_bytes().to_vec(alloc)?,
+        serial: monitor.port.to_bytes().as_bytes().to_vec(alloc)?,
+        clock: monitor.clock.state().to_bytes().to_vec(alloc)?,
         input: monitor.input.waiting(alloc)?,
         input_limit: monitor.input.limit(),
         output: monitor.output.waiting(alloc)?,
@@ -74,9 +72,9 @@ pub fn save_monitor(alloc: Global, monitor: &Monitor) -> Result<SavedMonitor, Al
 /// memory is refused.
 pub fn restore_monitor(alloc: Global, saved: &SavedMonitor) -> Result<Monitor, Error>
     ensures saved { IfOk result (λ monitor. IsSavedAs saved.now (machine_of monitor)) }
-    ensures clock { IfOk result (λ monitor. IsClock monitor.clock) }
+    ensures clock { IfOk result (λ monitor. IsClock (state_of_clock monitor.clock)) }
 {
-    let clock = RtcState::from_bytes(&saved.clock)?;
+    let clock = Clock::from_state(&RtcState::from_bytes(&saved.clock)?);
     let port = SerialPort::from_bytes(&saved.serial)?;
     match queues(alloc, saved) {
         Ok((input, output)) => Ok(Monitor {
@@ -112,7 +110,7 @@ fn queues(alloc: Global, saved: &SavedMonitor) -> Result<(Input, Output), AllocE
 pub fn move_monitor(alloc: Global, monitor: &Monitor) -> Result<Monitor, Error>
     ensures machine { IfOk result (λ moved. machine_of moved ≡ machine_of monitor.now) }
 {
-    numbers_fit(monitor.clock);
+    numbers_fit(monitor.clock.state());
     match save_monitor(alloc, monitor) {
         Ok(saved) => restore_monitor(alloc, &saved),
         Err(AllocError) => Err(Error::Memory),

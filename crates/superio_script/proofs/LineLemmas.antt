@@ -1,40 +1,27 @@
 -- Lemmas on how bytes are split into lines and fields, on the lines of the clock, and on reads.
 use Rattle.std.proofs.Common.{◌≡◌, ℕ, List, length, ◌≤◌, Option, Some, None, refl, ap, sym, ◌∙◌, ◌<◌, ◌^◌, Bool, true, false, [], ◌∷◌, arith, ◌+◌, ◌++◌, take, subst, append_assoc, length-append, ◌≢◌, if◌then◌else◌, suc, zero, ◌==◌, ◌-◌, drop, get_or, add-one}
-use Rattle.std.specs.Int.{w32, to_le_bytes, from_le_bytes}
-use Rattle.std.proofs.lemmas.Nat.{from_le_bytes-to_le_bytes_4}
 use Rattle.std.specs.Io.KnownBytes.{Consumes}
 use Rattle.std.proofs.lemmas.List.{length-take-le, take-append-le, take_rest}
 use Rattle.std.proofs.Math.Seq.{take-append-add}
-use Rattle.vm_superio.specs.Links.ForAnyObject.{FoldsEvents}
-use Rattle.vm_superio.specs.Rtc.{invalid_write}
-use Rattle.superio_laws.specs.Rtc.{GoesOnByHistory, RtcState, Access, fresh_clock, write, write_of, clock_of_history}
-use Rattle.superio_script.specs.Objects.{no_counts, counts_after_clock_event, Counts}
+use Rattle.superio_laws.specs.Rtc.{RtcState, Access, fresh_clock, clock_step, clock_response, clock_history_response}
+use Rattle.superio_laws.proofs.Lemmas.Rtc.{GoesOnByHistory-step, clock_is_history}
 use Rattle.superio_script.specs.ClockScript.{clock_after}
 use Rattle.std.specs.List.{position, position_from}
 use Rattle.std.proofs.lemmas.Iterator.Adapters.{position_from-zero}
 use Rattle.std.proofs.lemmas.List.Quantifiers.{position-Some}
 use Rattle.superio_script.specs.Fields.{prepend_to_first, pieces_of, lines_of}
 
--- ---- what a write of the clock does: the count of invalid writes shows whether the register takes it, and the
--- bytes are the value
+-- ---- what an access of the clock does, after these accesses
 
-abbrev pub IsReported : (writable : Bool) (old new : Counts) → Type 0
-IsReported writable old new = FoldsEvents counts_after_clock_event old (if writable then [] else invalid_write ∷ []) new
+pub clock_goes_on :
+    (accesses : List Access) (old new : RtcState) (access : Access) → new ≡ clock_step old access → old ≡ clock_after accesses →
+    new ≡ clock_after (access ∷ accesses)
+clock_goes_on accesses old new access made at = GoesOnByHistory-step access made fresh_clock accesses at
 
-pub counted-is_invalid : (writable : Bool) (old new : Counts) → old ≡ no_counts → IsReported writable old new → new.invalid_writes ≡ 1 → writable ≡ false
-counted-is_invalid writable old new none reported one = grind arith
-
-pub uncounted-is_valid : (writable : Bool) (old new : Counts) → old ≡ no_counts → IsReported writable old new → new.invalid_writes ≢ 1 → writable ≡ true
-uncounted-is_valid writable old new none reported other = grind arith
-
-pub write-goes_on :
-    (accesses : List Access) (old new : RtcState) (offset value moment : ℕ) (bytes : List ℕ) → value < 2 ^ 32 → bytes ≡ to_le_bytes w32 value →
-    old ≡ clock_after accesses → GoesOnByHistory old (write_of offset bytes moment) new →
-    new ≡ clock_after (write offset value moment ∷ accesses)
-write-goes_on accesses old new offset value moment bytes few same at history =
-    history fresh_clock accesses at
-    ∙ ap (λ (n : ℕ). clock_of_history fresh_clock (write offset n moment ∷ accesses))
-    (ap (from_le_bytes w32) same ∙ from_le_bytes-to_le_bytes_4 value few)
+pub clock_responds :
+    (accesses : List Access) (old : RtcState) (access : Access) (response : Option ℕ) → response ≡ clock_response old access → old ≡ clock_after accesses →
+    response ≡ clock_history_response fresh_clock accesses access
+clock_responds accesses old access response made at = made ∙ clock_is_history.response_follows old access fresh_clock accesses at
 
 -- ---- what several reads together have consumed
 

@@ -102,25 +102,6 @@ impl<EV: RtcEvents + Drop> From<Rtc<EV>> for RtcState {
     }
 }
 
-/// The five fields that [`RtcState::from_five`] takes, for a program without alarms. `None` if an alarm is set.
-pub fn five_fields(state: &RtcState) -> Option<(u32, i64, u32, u32, u32)>
-    ensures fields { IfSome result (λ five. state.now ≡ record {
-      lr = five.0;
-      offset = five.1;
-      mr = five.2;
-      imsc = five.3;
-      ris = five.4;
-      armed = false;
-    }) }
-    ensures some { is_some result ≡ not state.now.armed }
-{
-    if state.armed {
-        None
-    } else {
-        Some((state.lr, state.offset, state.mr, state.imsc, state.ris))
-    }
-}
-
 impl Rtc<NoEvents> {
     /// Makes a clock in the default state that ignores events.
     pub fn new() -> Rtc<NoEvents>
@@ -241,10 +222,21 @@ impl<EV: RtcEvents> Rtc<EV> {
         ensures events { EV.link self.old.events (clock_events (write_of offset bytes.now now)) self.new.events }
         ensures quiet { OnTrue (is_writable (clock_register_at offset)) (self.new.events ≡ self.old.events) }
     {
-        let value = u32::from_le_bytes(*bytes);
-        if !self.clock.write(offset, value, now) {
+        self.write_value(offset, u32::from_le_bytes(*bytes), now);
+    }
+
+    /// Writes `value` as [`write`](Self::write) writes its bytes. Returns whether the offset takes a write: `false` if
+    /// the write was invalid.
+    pub fn write_value(&mut self, offset: u16, value: u32, now: u64) -> bool
+        ensures writable { result ≡ is_writable (clock_register_at offset) }
+        ensures state { self.new.state ≡ clock_step self.old.state (write offset value now) }
+        ensures events { EV.link self.old.events (clock_events (write offset value now)) self.new.events }
+    {
+        let is_valid = self.clock.write(offset, value, now);
+        if !is_valid {
             self.events.invalid_write();
         }
+        is_valid
     }
 
     /// Reads into `bytes`, lowest byte first, at `offset` from the clock's base address, at `now`, in seconds since
@@ -272,9 +264,21 @@ impl<EV: RtcEvents> Rtc<EV> {
         ensures events { EV.link self.old.events (clock_events (read offset now)) self.new.events }
         ensures quiet { OnTrue (is_readable (clock_register_at offset)) (self.new.events ≡ self.old.events) }
     {
-        match self.clock.read(offset, now) {
-            Some(number) => *bytes = number.to_le_bytes(),
-            None => self.events.invalid_read(),
+        if let Some(value) = self.read_value(offset, now) {
+            *bytes = value.to_le_bytes();
         }
+    }
+
+    /// Reads as [`read`](Self::read) does, and returns the value, or `None` if the read was invalid.
+    pub fn read_value(&mut self, offset: u16, now: u64) -> Option<u32>
+        ensures response { result ≡ clock_response self.old.state (read offset now) }
+        ensures state { self.new.state ≡ clock_step self.old.state (read offset now) }
+        ensures events { EV.link self.old.events (clock_events (read offset now)) self.new.events }
+    {
+        let value = self.clock.read(offset, now);
+        if value.is_none() {
+            self.events.invalid_read();
+        }
+        value
     }
 }

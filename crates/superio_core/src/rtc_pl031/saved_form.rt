@@ -1,13 +1,10 @@
 //! The state of a clock, as vm-superio names its fields, and its byte form.
-ghost use Rattle.std.specs.Prelude.{◌≡◌, ◌<◌, ◌≤◌, ◌+◌, ◌^◌, ◌++◌, false, length, IfOk, IfSome};
+ghost use Rattle.std.specs.Prelude.{◌≡◌, ◌≤◌, ◌+◌, ◌++◌, false, not, is_some, length, IfOk, IfSome};
 ghost use Rattle.std.specs.Result.{result_err};
 ghost use Rattle.std.specs.Int.{w32, w64, to_le_bytes, cast_unsigned};
-ghost use Rattle.superio_core.specs.Rtc.Step.{is_line_up, IsAlarmDue, clock_response, clock_step};
-ghost use Rattle.superio_core.specs.Rtc.{read, write, clock_register_at, is_writable};
 ghost use Rattle.superio_core.specs.Saved.{clock_fault, IsClock};
 
 use super::super::saved::{CLOCK_KIND, Error, contents_of, header};
-use super::Clock;
 
 /// The size of a clock's byte form: the header and 25 bytes.
 pub const SAVED_SIZE: usize = 33;
@@ -49,43 +46,23 @@ impl RtcState {
         }
     }
 
-    /// Whether the interrupt line is up; see [`Clock::interrupt_line`].
-    pub fn interrupt_line(&self) -> bool
-        ensures { result ≡ is_line_up self.now }
+    /// The five fields that `from_five` takes, for a program without alarms. `None` if an alarm is set.
+    pub fn to_five(&self) -> Option<(u32, i64, u32, u32, u32)>
+        ensures fields { IfSome result (λ five. self.now ≡ record {
+          lr = five.0;
+          offset = five.1;
+          mr = five.2;
+          imsc = five.3;
+          ris = five.4;
+          armed = false;
+        }) }
+        ensures some { is_some result ≡ not self.now.armed }
     {
-        Clock::from_state(self).interrupt_line()
-    }
-
-    /// The seconds from the moment `now` until the alarm is due; see [`Clock::alarm_due`].
-    pub fn alarm_due(&self, now: u64) -> Option<u64>
-        ensures due { IsAlarmDue self.now now result }
-        ensures bound { IfSome result (λ seconds. seconds < 2 ^ 32) }
-    {
-        Clock::from_state(self).alarm_due(now)
-    }
-
-    /// Reads at `offset` as [`Clock::read`] does, for a monitor that keeps the state itself. Returns the value read, or
-    /// `None` if the read is invalid.
-    pub fn read(&mut self, offset: u16, now: u64) -> Option<u32>
-        ensures response { result ≡ clock_response self.old (read offset now) }
-        ensures state { self.new ≡ clock_step self.old (read offset now) }
-    {
-        let mut clock = Clock::from_state(self);
-        let shown = clock.read(offset, now);
-        *self = clock.state();
-        shown
-    }
-
-    /// Writes `value` at `offset` as [`Clock::write`] does, for a monitor that keeps the state itself. Returns whether
-    /// this offset takes a write.
-    pub fn write(&mut self, offset: u16, value: u32, now: u64) -> bool
-        ensures taken { result ≡ is_writable (clock_register_at offset) }
-        ensures state { self.new ≡ clock_step self.old (write offset value now) }
-    {
-        let mut clock = Clock::from_state(self);
-        let is_taken = clock.write(offset, value, now);
-        *self = clock.state();
-        is_taken
+        if self.armed {
+            None
+        } else {
+            Some((self.lr, self.offset, self.mr, self.imsc, self.ris))
+        }
     }
 }
 

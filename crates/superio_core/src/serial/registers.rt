@@ -187,24 +187,6 @@ impl Registers {
         }
     }
 
-    /// The registers with these bytes.
-    pub(super) fn from_array(bytes: [u8; REGISTER_COUNT]) -> Registers
-        ensures { register_bytes (state_with result []) ≡ bytes }
-    {
-        let [dll, dlm, ier, iir, lcr, lsr, mcr, msr, scr] = bytes;
-        Registers {
-            baud_divisor_low: dll,
-            baud_divisor_high: dlm,
-            interrupt_enable: ier,
-            interrupt_identification: iir,
-            line_control: lcr,
-            line_status: lsr,
-            modem_control: mcr,
-            modem_status: msr,
-            scratch: scr,
-        }
-    }
-
     /// The register that an offset reaches.
     #[inline(always)]
     pub fn at(&self, offset: u8) -> Register

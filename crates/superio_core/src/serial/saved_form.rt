@@ -4,6 +4,8 @@ ghost use Rattle.std.specs.Result.{result_err, IsOkAnd};
 ghost use Rattle.superio_core.specs.Serial.{state_with, State, state_of_port, held_bytes};
 ghost use Rattle.superio_core.specs.Saved.{serial_form, serial_fault};
 
+use std::marker::Model;
+
 use super::super::fifo::{FIFO_SIZE, ReceiveFifo, RxRing};
 use super::super::saved::{Error, HEADER_SIZE, SERIAL_KIND, contents_of, header};
 use super::SerialPort;
@@ -15,16 +17,43 @@ const SAVED_MIN: usize = HEADER_SIZE + REGISTER_COUNT;
 /// The maximum size of a port's byte form: the header, the registers and 64 received bytes.
 pub const SAVED_MAX: usize = SAVED_MIN + FIFO_SIZE;
 
+/// The bytes of a saved port. Contracts see a list of at most 81 bytes.
+#[derive(Drop)]
+pub struct SerialForm {
+    bytes: [u8; SAVED_MAX],
+    count: usize,
+}
+
+impl Model for SerialForm {
+    ghost Value = { List ℕ };
+
+    ghost view = { λ form. take form.count form.bytes };
+
+    ghost invariant = { λ form. form.count ≤ 81 };
+}
+
+impl SerialForm {
+    /// The bytes.
+    pub fn as_bytes(&self) -> &[u8]
+        ensures { result.now ≡ self.now }
+    {
+        &self.bytes[..self.count]
+    }
+}
+
 impl SerialPort {
-    /// Writes the port's saved form to the start of `form`, and returns its length. The other bytes do not change. Any
-    /// struct has a form: a port never holds more than 64 bytes. The form has no byte the guest has read.
-    pub fn to_bytes(&self, form: &mut [u8; SAVED_MAX]) -> usize
-        ensures count { result ≡ length (serial_form (state_of_port self.now)) }
-        ensures at_most_81 { result ≤ 81 }
-        ensures form { form.new ≡ serial_form (state_of_port self.now) ++ drop result form.old }
+    /// The port as bytes; `from_bytes` reads them back. Any struct has a form: a port never holds more than 64 bytes.
+    /// The form has no byte that the guest has read.
+    ///
+    /// It is a header of eight bytes, the registers in the order of the fields, and the received bytes, oldest first.
+    pub fn to_bytes(&self) -> SerialForm
+        ensures form { result ≡ serial_form (state_of_port self.now) }
+        ensures at_most_81 { length result ≤ 81 }
     {
         let (held, count) = held_array(self.in_buffer);
-        self.registers.write_form(&held[..count], form)
+        let mut bytes = [0; SAVED_MAX];
+        let count = self.registers.write_form(&held[..count], &mut bytes);
+        SerialForm { bytes, count }
     }
 
     /// Reads a port back from these bytes, whatever its registers hold. It may be incoherent:
@@ -67,7 +96,7 @@ fn held_array(mut held: RxRing) -> ([u8; FIFO_SIZE], usize)
 impl Registers {
     /// Writes the form of a port with these registers and received bytes to the start of `form`, and returns its
     /// length. The other bytes do not change.
-    pub fn write_form(&self, held: &[u8], form: &mut [u8; SAVED_MAX]) -> usize
+    fn write_form(&self, held: &[u8], form: &mut [u8; SAVED_MAX]) -> usize
         requires { length held.now ≤ 64 }
         ensures count { result ≡ length (serial_form (state_with self.now held.now)) }
         ensures form { form.new ≡ serial_form (state_with self.now held.now) ++ drop result form.old }
@@ -115,7 +144,7 @@ impl Registers {
 /// # Errors
 ///
 /// As for [`SerialPort::from_bytes`].
-pub fn registers_of(bytes: &[u8]) -> Result<(Registers, &[u8]), Error>
+fn registers_of(bytes: &[u8]) -> Result<(Registers, &[u8]), Error>
     ensures form { IfOk result (λ found. bytes.now ≡ serial_form (state_with found.0 found.1.now)) }
     ensures at_most_64 { IfOk result (λ found. length found.1.now ≤ 64) }
     ensures fault { result_err result ≡ serial_fault bytes.now }
@@ -125,9 +154,17 @@ pub fn registers_of(bytes: &[u8]) -> Result<(Registers, &[u8]), Error>
             if in_buffer.len() > FIFO_SIZE {
                 return Err(Error::TooManyBytes);
             }
-            let registers = Registers::from_array([
-                *dll, *dlm, *ier, *iir, *lcr, *lsr, *mcr, *msr, *scr,
-            ]);
+            let registers = Registers {
+                baud_divisor_low: *dll,
+                baud_divisor_high: *dlm,
+                interrupt_enable: *ier,
+                interrupt_identification: *iir,
+                line_control: *lcr,
+                line_status: *lsr,
+                modem_control: *mcr,
+                modem_status: *msr,
+                scratch: *scr,
+            };
             Ok((registers, in_buffer))
         }
         _ => Err(Error::WrongLength),

@@ -1,17 +1,15 @@
 //! The state of a serial port, and its byte form.
-ghost use Rattle.std.specs.Prelude.{◌≡◌, ◌↔◌, ◌≤◌, ℕ, List, length, take, IfOk, IfErr, IsOk, IfSome, IsTrue, MatchResult};
+ghost use Rattle.std.specs.Prelude.{◌≡◌, ◌↔◌, ◌≤◌, ℕ, length, IfOk, IfErr, IsOk, IfSome, IsTrue, MatchResult};
 ghost use Rattle.vm_superio.specs.Saved.{state_of};
 ghost use Rattle.superio_core.specs.Serial.{State, fresh_state, Coherent};
 ghost use Rattle.superio_core.specs.Saved.{serial_form, serial_fault};
 
 use crate::saved::{Error, Fault};
 use std::alloc::{AllocError, Global};
-use std::marker::Model;
 use superio_core::fifo::{FIFO_SIZE, ReceiveFifo};
 use superio_core::serial::SerialPort;
 use superio_core::serial::registers::Registers;
-pub use superio_core::serial::saved_form::SAVED_MAX;
-use superio_core::serial::saved_form::registers_of;
+pub use superio_core::serial::saved_form::{SAVED_MAX, SerialForm};
 
 /// A serial port's contents except its objects: enough to recreate the port, also on another machine.
 ///
@@ -151,30 +149,6 @@ impl SerialState {
     }
 }
 
-/// The bytes of a saved port. Contracts see a list of at most 81 bytes.
-#[derive(Drop)]
-pub struct SerialForm {
-    bytes: [u8; SAVED_MAX],
-    count: usize,
-}
-
-impl Model for SerialForm {
-    ghost Value = { List ℕ };
-
-    ghost view = { λ form. take form.count form.bytes };
-
-    ghost invariant = { λ form. form.count ≤ 81 };
-}
-
-impl SerialForm {
-    /// The bytes.
-    pub fn as_bytes(&self) -> &[u8]
-        ensures { result.now ≡ self.now }
-    {
-        &self.bytes[..self.count]
-    }
-}
-
 impl SerialState {
     /// The state as bytes; `from_bytes` reads them back. Allocates no memory.
     ///
@@ -189,12 +163,7 @@ impl SerialState {
         ensures at_most_64 { IsOk result ↔ (length self.now.in_buffer.items ≤ 64) }
         ensures too_many { IfErr result (λ error. error ≡ Fault.TooManyBytes) }
     {
-        if self.in_buffer.len() > FIFO_SIZE {
-            return Err(Fault::TooManyBytes);
-        }
-        let mut bytes = [0; SAVED_MAX];
-        let count = self.registers().write_form(&self.in_buffer, &mut bytes);
-        Ok(SerialForm { bytes, count })
+        Ok(self.to_port()?.to_bytes())
     }
 
     /// Reads the state back from these bytes, whatever its registers hold. It may be incoherent:
@@ -212,9 +181,8 @@ impl SerialState {
         ensures fault { IfSome (serial_fault bytes.now) (λ fault. result ≡ Err (Error.Bytes fault)) }
         ensures memory { serial_fault bytes.now ≡ None → IfErr result (λ error. error ≡ Error.Memory) }
     {
-        let (registers, in_buffer) = registers_of(bytes)?;
-        match in_buffer.to_vec(alloc) {
-            Ok(in_buffer) => Ok(SerialState::of(&registers, in_buffer)),
+        match SerialState::from_port(alloc, &SerialPort::from_bytes(bytes)?) {
+            Ok(state) => Ok(state),
             Err(_) => Err(Error::Memory),
         }
     }

@@ -1,5 +1,6 @@
 -- What was saved is one machine.
 use Rattle.std.proofs.Common.{◌≡◌, Result, Ok, Err, sym, ◌∙◌, IfOk}
+use Rattle.superio_core.specs.Rtc.{state_of_clock}
 use Rattle.superio_core.specs.Saved.{IsClock}
 use Rattle.superio_core.proofs.Lemmas.Saved.{one_serial_state, one_clock_state}
 use Rattle.vm_superio.specs.declared.saved.Error.{Error}
@@ -15,7 +16,7 @@ one_machine saved a b a_is b_is a_clock b_clock =
     cc (a_is.rest, b_is.rest, serial, clock)
 
 same_machine : (saved : SavedMonitor) (m : Machine) (result : Result Monitor Error) → IsSavedAs saved m → IsClock m.clock
-    → IfOk result (λ moved. IsSavedAs saved (machine_of moved)) → IfOk result (λ (moved : Monitor). IsClock moved.clock)
+    → IfOk result (λ moved. IsSavedAs saved (machine_of moved)) → IfOk result (λ (moved : Monitor). IsClock (state_of_clock moved.clock))
     → IfOk result (λ moved. machine_of moved ≡ m)
 same_machine saved m (Ok moved) was clock is fits = one_machine saved (machine_of moved) m is was fits clock
 same_machine saved m (Err error) was clock is fits = tt

@@ -10,9 +10,7 @@ returns-in-Some-clause-response_by_history g c =
     ReadsByHistory-read c.args.offset c.args.now c.args.self.now.state c.args.bytes.now _ shown
 
 pub returns-in-Some-clause-history : goal.returns-in-Some-clause-history
-returns-in-Some-clause-history g c =
-    rw (← c.self.view_is) (GoesOnByHistory-step (read c.args.offset c.args.now) c.read.ensures.state)
+returns-in-Some-clause-history g c = GoesOnByHistory-step (read c.args.offset c.args.now) c.before.before.read_value.ensures.state
 
-pub returns-in-None-clause-history : goal.returns-in-None-clause-history
-returns-in-None-clause-history g c =
-    rw (← c.self.view_is) (GoesOnByHistory-step (read c.args.offset c.args.now) c.read.ensures.state)
+pub returns-in_default-clause-history : goal.returns-in_default-clause-history
+returns-in_default-clause-history g c = GoesOnByHistory-step (read c.args.offset c.args.now) c.read_value.ensures.state
