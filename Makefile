@@ -8,7 +8,7 @@ LIBRARIES = prebuilt/$(TARGET)
 to = $(DESTDIR)$(PREFIX)
 lib = $(to)/$(LIBDIR)
 version = $(shell cat VERSION)
-soname = libsuperio.so.$(shell sed -n 's/^.define SUPERIO_ABI //p' include/superio.h)
+soname = libsuperio.so.$(shell sed -n 's/^.define SUPERIO_ABI //p' bindings/c/superio.h)
 # From the folder of the files for pkg-config to PREFIX, so that the tree may be moved.
 up = $(shell realpath --canonicalize-missing --no-symlinks --relative-to=/$(LIBDIR)/pkgconfig /)
 pc = sed -e 's|@up@|$(up)|' -e 's|@version@|$(version)|'
@@ -20,12 +20,12 @@ pc = sed -e 's|@up@|$(up)|' -e 's|@version@|$(version)|'
 
 install:
 	install -d "$(lib)/pkgconfig" "$(to)/include" "$(to)/share/licenses/superio"
-	install -m 644 include/superio.h "$(to)/include"
+	install -m 644 bindings/c/superio.h "$(to)/include"
 	install -m 644 $(LIBRARIES)/libsuperio_c.a "$(lib)/libsuperio.a"
 	install -m 755 $(wildcard $(LIBRARIES)/libsuperio*.so*) "$(lib)/$(soname)"
 	ln -sf $(soname) "$(lib)/libsuperio.so"
-	$(pc) -e 's|@name@|superio|' -e 's|@flag@|-lsuperio|' include/superio.pc.in > "$(lib)/pkgconfig/superio.pc"
-	$(pc) -e 's|@name@|superio-static|' -e 's|@flag@|-l:libsuperio.a|' include/superio.pc.in \
+	$(pc) -e 's|@name@|superio|' -e 's|@flag@|-lsuperio|' bindings/c/superio.pc.in > "$(lib)/pkgconfig/superio.pc"
+	$(pc) -e 's|@name@|superio-static|' -e 's|@flag@|-l:libsuperio.a|' bindings/c/superio.pc.in \
 	    > "$(lib)/pkgconfig/superio-static.pc"
 	chmod 644 "$(lib)/pkgconfig/superio.pc" "$(lib)/pkgconfig/superio-static.pc"
 	install -m 644 LICENSE LICENSES/* "$(to)/share/licenses/superio"

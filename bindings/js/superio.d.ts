@@ -25,10 +25,10 @@ export interface WriteEffects {
 
 /** What an enqueue did, and leaves to you. */
 export interface EnqueueEffects {
-  /** How many of the bytes were taken, first ones first: as many as there is room for, and in loopback none. */
-  taken: number;
+  /** How many of the bytes were accepted, first ones first: as many as there is room for, and in loopback none. */
+  accepted: number;
   /** There were bytes, but room for none. */
-  full: boolean;
+  fifoFull: boolean;
   /** How often to ask for the interrupt: 0 or 1 times. */
   interrupts: number;
 }

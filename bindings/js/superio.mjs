@@ -124,8 +124,8 @@ export class Serial {
 
   enqueue(bytes) {
     onDevice(this.#bytes, calls.superio_serial_enqueue, EFFECTS, DEVICE, PASSED, pass(bytes));
-    const [full, interrupts] = memory.subarray(EFFECTS + 4);
-    return { taken: view.getUint32(EFFECTS, true), full: full !== 0, interrupts };
+    const [fifoFull, interrupts] = memory.subarray(EFFECTS + 4);
+    return { accepted: view.getUint32(EFFECTS, true), fifoFull: fifoFull !== 0, interrupts };
   }
 
   characterTimeout() {
@@ -223,12 +223,12 @@ export class Rtc {
   }
 
   line() {
-    return onDevice(this.#bytes, calls.superio_rtc_line, DEVICE) !== 0;
+    return onDevice(this.#bytes, calls.superio_rtc_interrupt_line, DEVICE) !== 0;
   }
 
   due(now) {
     // The largest number of 64 bits, never, is -1 here.
-    const seconds = onDevice(this.#bytes, calls.superio_rtc_due, DEVICE, moment(now));
+    const seconds = onDevice(this.#bytes, calls.superio_rtc_alarm_due, DEVICE, moment(now));
     return seconds < 0n ? null : Number(seconds);
   }
 

@@ -71,7 +71,7 @@ static void feed(struct machine *machine) {
     size_t count = strlen(machine->input);
     superio_serial_enqueue_effects done =
         superio_serial_enqueue(&machine->serial, (const uint8_t *)machine->input, count);
-    memmove(machine->input, machine->input + done.taken, count - done.taken + 1);
+    memmove(machine->input, machine->input + done.accepted, count - done.accepted + 1);
     interrupt(machine, done.interrupts);
 }
 
@@ -82,8 +82,8 @@ static void print_output(uint8_t byte) {
 
 /* What follows each access of the clock: its line is a level, and a timer has to go off when the alarm is due. */
 static void follow_clock(const struct machine *machine) {
-    uint64_t due = superio_rtc_due(&machine->clock, machine->now);
-    printf("clock: line %s, ", superio_rtc_line(&machine->clock) ? "up" : "down");
+    uint64_t due = superio_rtc_alarm_due(&machine->clock, machine->now);
+    printf("clock: line %s, ", superio_rtc_interrupt_line(&machine->clock) ? "up" : "down");
     if (due == SUPERIO_RTC_NEVER)
         puts("no alarm");
     else

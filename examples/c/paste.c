@@ -12,12 +12,12 @@ int main(void) {
 
     for (size_t i = 0; i < sizeof paste; i++)
         paste[i] = (uint8_t)i;
-    taken = superio_serial_enqueue(&port, paste, sizeof paste).taken; /* what is left waits */
+    taken = superio_serial_enqueue(&port, paste, sizeof paste).accepted; /* what is left waits */
     while (superio_serial_read(&port, 5).byte & 0x01) { /* the guest reads LSR: data is ready */
         superio_serial_read_effects done = superio_serial_read(&port, 0);
         got[received++] = done.byte;
         if (done.in_buffer_empty && taken < sizeof paste) { /* there is room again */
-            taken += superio_serial_enqueue(&port, paste + taken, sizeof paste - taken).taken;
+            taken += superio_serial_enqueue(&port, paste + taken, sizeof paste - taken).accepted;
             pieces++;
         }
     }

@@ -18,12 +18,12 @@ static int64_t seconds(clockid_t which) {
 
 /* After each access: the line is a level, and the timer goes off when the alarm is due. */
 static void follow(uint64_t now) {
-    uint64_t due = superio_rtc_due(&rtc, now);
+    uint64_t due = superio_rtc_alarm_due(&rtc, now);
     struct itimerspec goes_off = {0}; /* which is never */
     if (due != SUPERIO_RTC_NEVER)
         goes_off.it_value.tv_sec = (int64_t)(now + due) - ahead;
     timerfd_settime(timer, TFD_TIMER_ABSTIME, &goes_off, NULL);
-    KVM(vm, KVM_IRQ_LINE, &((struct kvm_irq_level){.irq = CLOCK_IRQ, .level = superio_rtc_line(&rtc)}));
+    KVM(vm, KVM_IRQ_LINE, &((struct kvm_irq_level){.irq = CLOCK_IRQ, .level = superio_rtc_interrupt_line(&rtc)}));
 }
 
 /* The guest's access to memory that it has not. The clock takes four bytes at a time. A narrower read shows a part of

@@ -33,10 +33,10 @@ static void feed(void) {
     if (!takes_input)
         return;
     superio_serial_enqueue_effects done = superio_serial_enqueue(&port, input, waiting);
-    if (waiting == QUEUE_SIZE && done.taken > 0)
+    if (waiting == QUEUE_SIZE && done.accepted > 0)
         wake();
-    waiting -= done.taken;
-    memmove(input, input + done.taken, waiting);
+    waiting -= done.accepted;
+    memmove(input, input + done.accepted, waiting);
     interrupt(done.interrupts);
 }
 

@@ -1,5 +1,5 @@
 /**
- * What the board of the page makes of calls as a script for the program, where no user can soon get. tools/page/check
+ * What the board of the page makes of calls as a script for the program, where no user can soon get. tests/page/check
  * tries the rest.
  */
 import assert from "node:assert/strict";

@@ -1,6 +1,6 @@
 /**
  * What the package does by itself: layouts, copies, refused arguments, names, and what superio.d.ts and package.json
- * say of it. tools/js/check makes recorded calls with it too, over the board of the page.
+ * say of it. tests/js/check makes recorded calls with it too, over the board of the page.
  */
 import assert from "node:assert/strict";
 import { readFileSync, readdirSync } from "node:fs";
@@ -123,13 +123,13 @@ test("any Uint8Array is taken as bytes, and nothing else is", () => {
   }
   refused(() => new Serial().enqueue([65]), "TypeError", "bytes is of class Array, and a Uint8Array is wanted");
   refused(() => Serial.fromBytes("53"), "TypeError", 'bytes is "53", and a Uint8Array is wanted');
-  assert.deepEqual(new Serial().enqueue(new Uint8Array(70_000)), { taken: 64, full: false, interrupts: 0 });
+  assert.deepEqual(new Serial().enqueue(new Uint8Array(70_000)), { accepted: 64, fifoFull: false, interrupts: 0 });
   const shared = new Uint8Array(new SharedArrayBuffer(form.length));
   shared.set(form);
   for (const taken of [Buffer.from(form), shared]) {
     const port = Serial.fromState({ ...PORT, inBuffer: taken.subarray(17) });
     assert.deepEqual(Serial.fromBytes(taken).state, port.state);
-    assert.equal(port.enqueue(taken).taken, taken.length);
+    assert.equal(port.enqueue(taken).accepted, taken.length);
   }
 });
 

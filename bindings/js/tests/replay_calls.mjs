@@ -1,5 +1,5 @@
 /**
- * Makes the recorded calls of tests/calls, which come on standard input, over the board of the page and so over the
+ * Makes the recorded calls of tests/data/calls, which come on standard input, over the board of the page and so over the
  * JavaScript package, and compares them. The board has the trigger and the events, which the devices leave to their
  * caller. What becomes of a byte that goes out is not compared.
  *

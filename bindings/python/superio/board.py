@@ -187,7 +187,7 @@ class Board:
     def _enqueue(self, data: bytes = b"") -> str:
         done = self.serial.enqueue(data)
         is_taken = self._ask(done.interrupts)
-        return "full" if done.full else f"{done.taken:02x}" if is_taken else "trigger"
+        return "full" if done.fifo_full else f"{done.accepted:02x}" if is_taken else "trigger"
 
     def _drain(self) -> str:
         """What the guest's driver reads: while LSR shows data ready, it reads RBR. With DLAB set it does not."""

@@ -38,8 +38,8 @@ class WriteEffects(NamedTuple):
 class EnqueueEffects(NamedTuple):
     """What an enqueue did, and leaves to the caller."""
 
-    taken: int       # how many of the bytes were taken, first ones first
-    full: bool       # there were bytes, but room for none
+    accepted: int    # how many of the bytes, first ones first
+    fifo_full: bool  # there were bytes, but room for none
     interrupts: int  # how often to ask for the interrupt: 0 or 1 times
 
 
@@ -71,7 +71,7 @@ class Serial(Saved):
     >>> port.write("IER", 0x01)
     WriteEffects(sends=False, interrupts=0)
     >>> port.enqueue(b"hi")
-    EnqueueEffects(taken=2, full=False, interrupts=1)
+    EnqueueEffects(accepted=2, fifo_full=False, interrupts=1)
     >>> chr(port.read("RBR").byte)
     'h'
     """
@@ -108,7 +108,7 @@ class Serial(Saved):
         """
         data = byte_string("data", data)
         done = self._library.superio_serial_enqueue(self._pointer, data, len(data))
-        return EnqueueEffects(done.taken, done.full, done.interrupts)
+        return EnqueueEffects(done.accepted, done.fifo_full, done.interrupts)
 
     def character_timeout(self) -> int:
         """Raises RDA again if bytes wait without it. Returns how often to ask for the interrupt: 0 or 1 times.
@@ -205,11 +205,11 @@ class Rtc(Saved):
 
     def line(self) -> bool:
         """Whether the clock's interrupt line is up. Look after each access, and when the alarm is due."""
-        return self._library.superio_rtc_line(self._pointer)
+        return self._library.superio_rtc_interrupt_line(self._pointer)
 
     def due(self, now: int) -> Optional[int]:
         """In how many seconds from a moment the alarm is due if the guest does nothing, `None` if it never is."""
-        seconds = self._library.superio_rtc_due(self._pointer, number("now", now, 64))
+        seconds = self._library.superio_rtc_alarm_due(self._pointer, number("now", now, 64))
         return None if seconds == _NEVER else seconds
 
     @property

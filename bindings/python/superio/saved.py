@@ -10,7 +10,7 @@ _Device = TypeVar("_Device", bound="Saved")
 
 
 class LoadStatus(IntEnum):
-    """`enum superio_load`: why bytes are no saved state. They are checked in this order."""
+    """`enum superio_saved_state_error`: why bytes are no saved state. They are checked in this order."""
 
     OK = 0
     TOO_SHORT = 1

@@ -10,7 +10,7 @@ PACKAGE = Path(__file__).resolve().parent.parent
 ROOT = PACKAGE.parent.parent
 TIMEOUT = 60
 
-sys.path[:0] = [str(PACKAGE), str(ROOT / "tools" / "checks"), str(ROOT / "tools" / "c")]
+sys.path[:0] = [str(PACKAGE), str(ROOT / "tests" / "checks"), str(ROOT / "tests" / "c")]
 ENVIRONMENT = {**os.environ, "PYTHONPATH": str(PACKAGE), "SUPERIO_HISTORY": "", "TERM": "xterm"}
 for name in ("NO_COLOR", "PYTHONDONTWRITEBYTECODE", "PYTHONUNBUFFERED"):
     ENVIRONMENT.pop(name, None)

@@ -1,4 +1,4 @@
-"""The recorded calls of tests/calls over the package, and those that tools/checks/lines.py makes up."""
+"""The recorded calls of tests/data/calls over the package, and those that tests/checks/lines.py makes up."""
 import re
 import unittest
 

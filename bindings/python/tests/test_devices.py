@@ -1,4 +1,4 @@
-"""The devices: what Python adds to the calls, which tools/checks/calls compares with recordings."""
+"""The devices: what Python adds to the calls, which tests/checks/calls compares with recordings."""
 import copy
 import dataclasses
 import doctest
@@ -92,7 +92,7 @@ class Arguments(unittest.TestCase):
     def test_what_has_bytes_in_memory_is_taken(self):
         port = Serial()
         for data in (b"ab", bytearray(b"cd"), memoryview(b"exfx")[::2]):
-            self.assertEqual(2, port.enqueue(data).taken)
+            self.assertEqual(2, port.enqueue(data).accepted)
         self.assertEqual(b"abcdef", port.state.in_buffer)
 
     def test_names_of_registers(self):

@@ -258,12 +258,12 @@ impl<T: Trigger, EV: SerialEvents, W: Write> Serial<T, EV, W> {
     /// [`Error::Trigger`] if the trigger refused: the bytes are kept, and must not be enqueued again.
     pub fn enqueue_raw_bytes(&mut self, input: &[u8]) -> Result<usize, Error<T::E>> {
         let effects = self.port.enqueue_raw_bytes(input);
-        if effects.full {
+        if effects.fifo_full {
             return Err(Error::FullFifo);
         }
         if effects.interrupts > 0 {
             self.interrupt_evt.trigger().map_err(Error::Trigger)?;
         }
-        Ok(effects.taken)
+        Ok(effects.accepted)
     }
 }

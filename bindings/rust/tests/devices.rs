@@ -1,6 +1,6 @@
 //! What a monitor in Rust alone sees of the devices: their writers and objects, the host's time, long input, texts,
-//! conversions and what threads may do. What any monitor sees is in the lines of tests/calls and
-//! tools/c/tests/shared.txt of the repository.
+//! conversions and what threads may do. What any monitor sees is in the lines of tests/data/calls and
+//! tests/c/shared.txt of the repository.
 use std::error::Error as StdError;
 use std::io;
 use std::panic::{RefUnwindSafe, UnwindSafe};

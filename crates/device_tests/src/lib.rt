@@ -11,7 +11,7 @@ mod public_calls;
 #[cfg(test)]
 mod runs;
 #[cfg(test)]
-mod saved_forms;
+mod saved_states;
 #[cfg(test)]
 mod serial_interrupts;
 #[cfg(test)]

@@ -2,7 +2,7 @@
 use crate::runs::Plain::{CharacterTimeout, Enqueue, Read, Restore, Write};
 use crate::runs::Row::{Asks, Quiet, Sends};
 use crate::runs::Shown::{Byte, Enqueued, NotRestored, Restored, TimedOut, Wrote};
-use crate::serial_objects::{Fields, IER, IIR, LSR, Narrow, Port, RBR, THR, fresh, restored};
+use crate::serial_objects::{Fields, IER, IIR, LSR, Narrow, TestSerial, RBR, THR, fresh, restored};
 use std::alloc::{AllocError, Global};
 use std::io;
 use std::io::ErrorKind;
@@ -87,7 +87,7 @@ fn call_of<W>(
 /// Runs the calls of these rows, of which one may be a restore over a spare writer.
 fn records<W: io::Write + Drop>(
     alloc: Global,
-    port: &mut Port<W>,
+    port: &mut TestSerial<W>,
     rows: &[Row],
     spare: Option<W>,
 ) -> Result<Vec<Done<Line, Counts, W>>, AllocError> {

@@ -4,7 +4,7 @@ use crate::serial_objects::Step::{
     WriteRefused, Written,
 };
 use crate::serial_objects::{
-    IER, IIR, LSR, MCR, Narrow, Port, RBR, THR, first_wrong, fresh, fresh_shows, takes_sixty_four,
+    IER, IIR, LSR, MCR, Narrow, TestSerial, RBR, THR, first_wrong, fresh, fresh_shows, takes_sixty_four,
 };
 use std::alloc::Global;
 use std::test::Fail;
@@ -93,7 +93,7 @@ fn loopback_bytes_raise_rda_once_until_one_is_read(rt: HostRuntime) {
 }
 
 /// Whether each byte below 64 that is written in loopback raises one interrupt and is then read.
-fn gives_back_each(alloc: Global, port: &mut Port<Narrow>) -> bool {
+fn gives_back_each(alloc: Global, port: &mut TestSerial<Narrow>) -> bool {
     for byte in 0..=0x3F {
         let steps = [
             Calls(u64::from(byte)),
@@ -110,7 +110,7 @@ fn gives_back_each(alloc: Global, port: &mut Port<Narrow>) -> bool {
 }
 
 /// Whether reads give each byte below 64, while LSR shows that one is there.
-fn gives_sixty_four(port: &mut Port<Narrow>) -> bool {
+fn gives_sixty_four(port: &mut TestSerial<Narrow>) -> bool {
     for byte in 0..=0x3F {
         if port.read(LSR) != 0x61 || port.read(RBR) != byte {
             return false;

@@ -34,14 +34,14 @@ pub const SCR: u8 = 7;
 // ---- ports
 
 /// A port whose trigger and events object count their calls.
-pub type Port<W> = Serial<Line, Counts, W>;
+pub type TestSerial<W> = Serial<Line, Counts, W>;
 
 /// A fresh port over a line that refuses the calls of this mask.
 pub fn fresh<W: Write + Drop>(
     alloc: Global,
     mask: u64,
     out: W,
-) -> Result<Port<W>, Error<LineRefused>> {
+) -> Result<TestSerial<W>, Error<LineRefused>> {
     Serial::with_events(alloc, Line::new(mask), Counts::new(), out).map_err(Refused::into_error)
 }
 
@@ -51,7 +51,7 @@ pub fn restored<W: Write + Drop>(
     state: &SerialState,
     mask: u64,
     out: W,
-) -> Result<Port<W>, Error<LineRefused>> {
+) -> Result<TestSerial<W>, Error<LineRefused>> {
     let made = Serial::from_state(alloc, state, Line::new(mask), Counts::new(), out);
     made.map_err(Refused::into_error)
 }
@@ -180,7 +180,7 @@ fn failed_by(written: &Result<(), Error<LineRefused>>, kind: ErrorKind) -> bool 
 }
 
 /// How often the events object was told of a byte read, sent and lost, and of an empty FIFO.
-fn events(port: &Port<Narrow>) -> [u64; 4] {
+fn events(port: &TestSerial<Narrow>) -> [u64; 4] {
     let counts = port.events();
     [
         counts.buffer_read_count(),
@@ -191,7 +191,7 @@ fn events(port: &Port<Narrow>) -> [u64; 4] {
 }
 
 /// Puts a port of the same state over new objects in the place of a port, and returns whether it could be made.
-fn restore(alloc: Global, port: &mut Port<Narrow>) -> bool {
+fn restore(alloc: Global, port: &mut TestSerial<Narrow>) -> bool {
     let Ok(state) = port.state(alloc) else {
         return false;
     };
@@ -205,7 +205,7 @@ fn restore(alloc: Global, port: &mut Port<Narrow>) -> bool {
 }
 
 /// Takes a step, and returns whether it shows what it has to.
-fn shows(alloc: Global, port: &mut Port<Narrow>, step: Step) -> bool {
+fn shows(alloc: Global, port: &mut TestSerial<Narrow>, step: Step) -> bool {
     match step {
         Step::Read(offset, byte) => port.read(offset) == byte,
         Step::Write(offset, value) => port.write(offset, value).is_ok(),
@@ -240,7 +240,7 @@ fn shows(alloc: Global, port: &mut Port<Narrow>, step: Step) -> bool {
 }
 
 /// The number of the first step, from 0, that does not show what it has to. The steps after it are not taken.
-pub fn first_wrong(alloc: Global, port: &mut Port<Narrow>, steps: &[Step]) -> Option<usize> {
+pub fn first_wrong(alloc: Global, port: &mut TestSerial<Narrow>, steps: &[Step]) -> Option<usize> {
     for (number, step) in steps.iter().enumerate() {
         if !shows(alloc, port, *step) {
             return Some(number);
@@ -279,7 +279,7 @@ pub fn restored_shows<R: Abort + AllocGlobal>(rt: &R, fields: Fields, steps: &[S
 }
 
 /// Whether the port takes each of the bytes 0x00 to 0x3F that a guest writes to THR.
-pub fn takes_sixty_four(port: &mut Port<Narrow>) -> bool {
+pub fn takes_sixty_four(port: &mut TestSerial<Narrow>) -> bool {
     for byte in 0..=0x3F {
         if port.write(THR, byte).is_err() {
             return false;

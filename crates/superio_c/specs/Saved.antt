@@ -1,10 +1,10 @@
 -- What a load of a saved state returns.
 use Rattle.std.specs.Prelude.{ℕ, Option, Some, None}
-use Rattle.superio_core.specs.declared.saved.Error.{Error}
-use Rattle.superio_core.specs.declared.saved.Error.TheVariants.{TooShort, NotASavedState, OtherDevice, UnknownVersion, WrongLength, TooManyBytes, InvalidArmed}
+use Rattle.superio_core.specs.declared.saved.SavedStateError.{SavedStateError}
+use Rattle.superio_core.specs.declared.saved.SavedStateError.TheVariants.{TooShort, NotASavedState, OtherDevice, UnknownVersion, WrongLength, TooManyBytes, InvalidArmed}
 
--- the numbers of `enum superio_load`: 0 if no check fails
-abbrev pub load_status : (fault : Option Error) → ℕ
+-- the numbers of `enum superio_saved_state_error`: 0 if no check fails
+abbrev pub load_status : (fault : Option SavedStateError) → ℕ
 load_status None = 0
 load_status (Some TooShort) = 1
 load_status (Some NotASavedState) = 2

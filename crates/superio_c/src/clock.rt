@@ -1,10 +1,10 @@
 //! The clock. Its struct is `superio_rtc` in the header.
 ghost use Rattle.std.specs.Prelude.{◌≡◌, ◌≢◌, ◌<◌, ◌^◌, ◌-◌, not};
 ghost use Rattle.superio_c.specs.Clock.{effects_of_response, due_of};
-ghost use Rattle.superio_core.specs.Rtc.Step.{is_line_up, IsAlarmDue, clock_response, clock_step};
+ghost use Rattle.superio_core.specs.Rtc.Step.{rtc_irq_level, IsAlarmDue, clock_response, clock_step};
 ghost use Rattle.superio_core.specs.Rtc.{state_of_clock, fresh_clock, read, write, clock_register_at, is_writable};
 
-use superio_core::rtc_pl031::Clock;
+use superio_core::rtc_pl031::Pl031;
 
 /// The answer if the alarm is never due.
 const NEVER: u64 = u64::MAX;
@@ -29,15 +29,15 @@ pub struct RtcWriteEffects {
 
 /// A clock that shows the host's time.
 #[unsafe(no_mangle)]
-pub extern "C" fn superio_rtc_new() -> Clock
+pub extern "C" fn superio_rtc_new() -> Pl031
     ensures { state_of_clock result ≡ fresh_clock }
 {
-    Clock::new()
+    Pl031::new()
 }
 
 /// The guest reads four bytes at `offset`, at the moment `now`.
 #[unsafe(no_mangle)]
-pub extern "C" fn superio_rtc_read(clock: &mut Clock, offset: u16, now: u64) -> RtcReadEffects
+pub extern "C" fn superio_rtc_read(clock: &mut Pl031, offset: u16, now: u64) -> RtcReadEffects
     ensures response { result ≡ effects_of_response (clock_response (state_of_clock clock.old) (read offset now)) }
     ensures state { state_of_clock clock.new ≡ clock_step (state_of_clock clock.old) (read offset now) }
 {
@@ -56,7 +56,7 @@ pub extern "C" fn superio_rtc_read(clock: &mut Clock, offset: u16, now: u64) -> 
 /// The guest writes `value`, as four bytes at `offset`, at the moment `now`.
 #[unsafe(no_mangle)]
 pub extern "C" fn superio_rtc_write(
-    clock: &mut Clock,
+    clock: &mut Pl031,
     offset: u16,
     value: u32,
     now: u64,
@@ -72,15 +72,15 @@ pub extern "C" fn superio_rtc_write(
 
 /// Whether the interrupt line is up.
 #[unsafe(no_mangle)]
-pub extern "C" fn superio_rtc_line(clock: &Clock) -> bool
-    ensures { result ≡ is_line_up (state_of_clock clock.now) }
+pub extern "C" fn superio_rtc_interrupt_line(clock: &Pl031) -> bool
+    ensures { result ≡ rtc_irq_level (state_of_clock clock.now) }
 {
     clock.interrupt_line()
 }
 
 /// The seconds from the moment `now` until the alarm is due, if the guest makes no access.
 #[unsafe(no_mangle)]
-pub extern "C" fn superio_rtc_due(clock: &Clock, now: u64) -> u64
+pub extern "C" fn superio_rtc_alarm_due(clock: &Pl031, now: u64) -> u64
     ensures due { IsAlarmDue (state_of_clock clock.now) now (due_of result) }
     ensures bound { result ≢ 2 ^ 64 - 1 → result < 2 ^ 32 }
 {

@@ -1,4 +1,4 @@
-//! The devices of vm_superio as C functions. Their header is `include/superio.h`.
+//! The devices of vm_superio as C functions. Their header is `bindings/c/superio.h`.
 //!
 //! A function takes a device in a plain struct by pointer, changes it, and returns what is left to do. No function has
 //! a `requires`: any bytes of a struct are valid.
@@ -12,12 +12,12 @@ mod saved;
 mod serial;
 
 /// Changes with every change to a struct or to the meaning of a call.
-const ABI: u32 = 3;
+const ABI: u32 = 4;
 
 /// The binary interface of this library; compare it with the header's, `SUPERIO_ABI`.
 #[unsafe(no_mangle)]
 pub extern "C" fn superio_abi() -> u32
-    ensures { result ≡ 3 }
+    ensures { result ≡ 4 }
 {
     ABI
 }

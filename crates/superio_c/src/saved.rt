@@ -2,39 +2,39 @@
 ghost use Rattle.std.specs.Prelude.{◌≡◌, ◌≢◌, ◌≤◌, length, take, drop, Some};
 ghost use Rattle.superio_c.specs.Saved.{load_status};
 ghost use Rattle.superio_core.specs.Rtc.{state_of_clock};
-ghost use Rattle.superio_core.specs.Serial.{state_of_port, State};
-ghost use Rattle.superio_core.specs.Saved.{serial_fault, clock_fault, serial_form, clock_form};
+ghost use Rattle.superio_core.specs.Serial.{state_of_uart, State};
+ghost use Rattle.superio_core.specs.Saved.{serial_fault, clock_fault, serial_encoding, clock_encoding};
 
-use superio_core::rtc_pl031::saved_form::SAVED_SIZE;
-use superio_core::rtc_pl031::{Clock, RtcState};
-use superio_core::saved::Error;
-use superio_core::serial::SerialPort;
-use superio_core::serial::saved_form::SAVED_MAX;
+use superio_core::rtc_pl031::encoding::SAVED_SIZE;
+use superio_core::rtc_pl031::{Pl031, RtcState};
+use superio_core::saved::SavedStateError;
+use superio_core::serial::Uart;
+use superio_core::serial::encoding::SAVED_MAX;
 
 /// What a load returns on success.
 const LOADED: u32 = 0;
 
-/// The number of an error in the header's `enum superio_load`.
-fn load_status(error: Error) -> u32
+/// The number of an error in the header's `enum superio_saved_state_error`.
+fn load_status(error: SavedStateError) -> u32
     ensures { result ≡ load_status (Some error) }
 {
     match error {
-        Error::TooShort => 1,
-        Error::NotASavedState => 2,
-        Error::OtherDevice => 3,
-        Error::UnknownVersion(_) => 4,
-        Error::WrongLength => 5,
-        Error::TooManyBytes => 6,
-        Error::InvalidArmed => 7,
+        SavedStateError::TooShort => 1,
+        SavedStateError::NotASavedState => 2,
+        SavedStateError::OtherDevice => 3,
+        SavedStateError::UnknownVersion(_) => 4,
+        SavedStateError::WrongLength => 5,
+        SavedStateError::TooManyBytes => 6,
+        SavedStateError::InvalidArmed => 7,
     }
 }
 
 /// Writes the port's saved form to the start of `bytes`, and returns its length. The other bytes do not change.
 #[unsafe(no_mangle)]
-pub extern "C" fn superio_serial_save(port: &SerialPort, bytes: &mut [u8; SAVED_MAX]) -> usize
-    ensures count { result ≡ length (serial_form (state_of_port port.now)) }
+pub extern "C" fn superio_serial_save(port: &Uart, bytes: &mut [u8; SAVED_MAX]) -> usize
+    ensures count { result ≡ length (serial_encoding (state_of_uart port.now)) }
     ensures at_most_81 { result ≤ 81 }
-    ensures form { take result bytes.new ≡ serial_form (state_of_port port.now) }
+    ensures form { take result bytes.new ≡ serial_encoding (state_of_uart port.now) }
     ensures rest_unchanged { drop result bytes.new ≡ drop result bytes.old }
 {
     let form = port.to_bytes();
@@ -45,15 +45,15 @@ pub extern "C" fn superio_serial_save(port: &SerialPort, bytes: &mut [u8; SAVED_
 
 /// Loads a saved port and returns 0. If the bytes are invalid, nothing changes, and the result says which check failed.
 #[unsafe(no_mangle)]
-pub extern "C" fn superio_serial_load(port: &mut SerialPort, bytes: &[u8]) -> u32
+pub extern "C" fn superio_serial_load(port: &mut Uart, bytes: &[u8]) -> u32
     ensures status { result ≡ load_status (serial_fault bytes.now) }
-    ensures loaded { result ≡ 0 → bytes.now ≡ serial_form (state_of_port port.new) }
-    ensures read { (state : State) → length state.in_buffer ≤ 64 → bytes.now ≡ serial_form state →
-        result ≡ 0 × state_of_port port.new ≡ state }
+    ensures loaded { result ≡ 0 → bytes.now ≡ serial_encoding (state_of_uart port.new) }
+    ensures read { (state : State) → length state.in_buffer ≤ 64 → bytes.now ≡ serial_encoding state →
+        result ≡ 0 × state_of_uart port.new ≡ state }
     ensures at_most_64 { result ≡ 0 → port.new.in_buffer.len ≤ 64 }
     ensures refused { result ≢ 0 → port.new ≡ port.old }
 {
-    match SerialPort::from_bytes(bytes) {
+    match Uart::from_bytes(bytes) {
         Ok(loaded) => {
             *port = loaded;
             LOADED
@@ -64,8 +64,8 @@ pub extern "C" fn superio_serial_load(port: &mut SerialPort, bytes: &[u8]) -> u3
 
 /// Writes the clock's saved form.
 #[unsafe(no_mangle)]
-pub extern "C" fn superio_rtc_save(clock: &Clock, bytes: &mut [u8; SAVED_SIZE])
-    ensures { bytes.new ≡ clock_form (state_of_clock clock.now) }
+pub extern "C" fn superio_rtc_save(clock: &Pl031, bytes: &mut [u8; SAVED_SIZE])
+    ensures { bytes.new ≡ clock_encoding (state_of_clock clock.now) }
 {
     *bytes = clock.state().to_bytes();
 }
@@ -73,14 +73,14 @@ pub extern "C" fn superio_rtc_save(clock: &Clock, bytes: &mut [u8; SAVED_SIZE])
 /// Loads a saved clock and returns 0. If the bytes are invalid, nothing changes, and the result says which check
 /// failed.
 #[unsafe(no_mangle)]
-pub extern "C" fn superio_rtc_load(clock: &mut Clock, bytes: &[u8]) -> u32
+pub extern "C" fn superio_rtc_load(clock: &mut Pl031, bytes: &[u8]) -> u32
     ensures status { result ≡ load_status (clock_fault bytes.now) }
-    ensures loaded { result ≡ 0 → bytes.now ≡ clock_form (state_of_clock clock.new) }
+    ensures loaded { result ≡ 0 → bytes.now ≡ clock_encoding (state_of_clock clock.new) }
     ensures refused { result ≢ 0 → clock.new ≡ clock.old }
 {
     match RtcState::from_bytes(bytes) {
         Ok(state) => {
-            *clock = Clock::from_state(&state);
+            *clock = Pl031::from_state(&state);
             LOADED
         }
         Err(error) => load_status(error),

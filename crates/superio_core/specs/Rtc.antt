@@ -3,10 +3,10 @@
 pub mod Step
 use Rattle.std.specs.Prelude.{ℕ, ◌-◌, ◌/◌, ◌%◌, ◌^◌, ℤ, pos, negsuc, Bool, true, false, ◌==◌, ◌&&◌, nat_lt, nat_le, if◌then◌else◌, List, [], ◌∷◌, slice_index, Option, Some, None, bit_and, not}
 use Rattle.std.specs.Int.{w32, to_le_bytes, from_le_bytes}
-pub use Rattle.superio_core.specs.declared.rtc_pl031.saved_form.RtcState.{RtcState}
+pub use Rattle.superio_core.specs.declared.rtc_pl031.encoding.RtcState.{RtcState}
 pub use Rattle.superio_core.specs.declared.rtc_pl031.registers.ClockRegister.{ClockRegister}
 pub use Rattle.superio_core.specs.declared.rtc_pl031.registers.ClockRegister.TheVariants.{Dr, Mr, Lr, Cr, Imsc, Ris, Mis, Icr, Id, Reserved}
-pub use Rattle.superio_core.specs.declared.rtc_pl031.Clock.{Clock}
+pub use Rattle.superio_core.specs.declared.rtc_pl031.Pl031.{Pl031}
 
 -- the state of a fresh clock
 abbrev pub fresh_clock : RtcState
@@ -89,7 +89,7 @@ bytes_left None bytes = bytes
 -- ---- the state of a clock
 
 -- an alarm is set if `armed` is not 0; any struct has a state
-abbrev pub state_of_clock : (clock : Clock) → RtcState
+abbrev pub state_of_clock : (clock : Pl031) → RtcState
 state_of_clock clock = record {
   lr = clock.lr;
   offset = clock.offset;

@@ -3,10 +3,10 @@ use Rattle.std.specs.Prelude.{ℕ, Bool, if◌then◌else◌, List, [], ◌∷�
 use Rattle.std.specs.Int.{w16, w32, w64, to_le_bytes, cast_unsigned, cast_signed, from_le_bytes}
 use Rattle.std.specs.Option.{option_or}
 use Rattle.std.specs.Str.{bytes_eq}
-use Rattle.superio_core.specs.declared.rtc_pl031.saved_form.RtcState.{RtcState}
+use Rattle.superio_core.specs.declared.rtc_pl031.encoding.RtcState.{RtcState}
 use Rattle.superio_core.specs.Serial.{State, register_bytes, register_count}
-pub use Rattle.superio_core.specs.declared.saved.Error.{Error}
-pub use Rattle.superio_core.specs.declared.saved.Error.TheVariants.{TooShort, NotASavedState, OtherDevice, UnknownVersion, WrongLength, TooManyBytes, InvalidArmed}
+pub use Rattle.superio_core.specs.declared.saved.SavedStateError.{SavedStateError}
+pub use Rattle.superio_core.specs.declared.saved.SavedStateError.TheVariants.{TooShort, NotASavedState, OtherDevice, UnknownVersion, WrongLength, TooManyBytes, InvalidArmed}
 
 -- the letters SIOS, with which each saved state begins
 abbrev pub magic : List ℕ
@@ -37,8 +37,8 @@ form kind contents = header kind (length contents) ++ contents
 abbrev pub serial_contents : (state : State) → List ℕ
 serial_contents state = register_bytes state ++ state.in_buffer
 
-abbrev pub serial_form : (state : State) → List ℕ
-serial_form state = form serial_kind (serial_contents state)
+abbrev pub serial_encoding : (state : State) → List ℕ
+serial_encoding state = form serial_kind (serial_contents state)
 
 -- ---- the clock
 
@@ -52,8 +52,8 @@ clock_contents state =
     to_le_bytes w32 state.lr ++ to_le_bytes w32 state.mr ++ to_le_bytes w32 state.imsc ++ to_le_bytes w32 state.ris
     ++ to_le_bytes w64 (cast_unsigned w64 state.offset) ++ flag state.armed ∷ []
 
-abbrev pub clock_form : (state : RtcState) → List ℕ
-clock_form state = form clock_kind (clock_contents state)
+abbrev pub clock_encoding : (state : RtcState) → List ℕ
+clock_encoding state = form clock_kind (clock_contents state)
 
 -- the numbers of a saved clock, at their places
 abbrev pub numbers_in : (bytes : List ℕ) → RtcState
@@ -70,7 +70,7 @@ numbers_in bytes = record {
 
 -- there is a header; it has the magic, the kind of this device and the version of this form; and its length
 -- is that of what follows
-abbrev pub header_fault : (kind : ℕ) (bytes : List ℕ) → Option Error
+abbrev pub header_fault : (kind : ℕ) (bytes : List ℕ) → Option SavedStateError
 header_fault kind (m0 ∷ m1 ∷ m2 ∷ m3 ∷ its_kind ∷ its_version ∷ low ∷ high ∷ contents) =
     if not (bytes_eq (m0 ∷ m1 ∷ m2 ∷ m3 ∷ []) magic) then Some NotASavedState
     else (if not (its_kind == kind) then Some OtherDevice
@@ -80,33 +80,33 @@ header_fault kind (m0 ∷ m1 ∷ m2 ∷ m3 ∷ its_kind ∷ its_version ∷ low 
 header_fault kind _ = Some TooShort
 
 -- what follows the header of a port: the registers, and at most 64 received bytes
-abbrev pub serial_contents_fault : (contents : List ℕ) → Option Error
+abbrev pub serial_contents_fault : (contents : List ℕ) → Option SavedStateError
 serial_contents_fault contents =
     if nat_lt (length contents) register_count then Some WrongLength
     else (if nat_lt (register_count + 64) (length contents) then Some TooManyBytes else None)
 
-abbrev pub serial_fault : (bytes : List ℕ) → Option Error
+abbrev pub serial_fault : (bytes : List ℕ) → Option SavedStateError
 serial_fault bytes = option_or (header_fault serial_kind bytes) (serial_contents_fault (drop 8 bytes))
 
 -- what follows the header of a clock: 25 bytes, the last of them 0 or 1
-abbrev pub clock_contents_fault : (contents : List ℕ) → Option Error
+abbrev pub clock_contents_fault : (contents : List ℕ) → Option SavedStateError
 clock_contents_fault contents =
     if not (length contents == 25) then Some WrongLength
     else (if nat_le (slice_index contents 24) 1 then None else Some InvalidArmed)
 
-abbrev pub clock_fault : (bytes : List ℕ) → Option Error
+abbrev pub clock_fault : (bytes : List ℕ) → Option SavedStateError
 clock_fault bytes = option_or (header_fault clock_kind bytes) (clock_contents_fault (drop 8 bytes))
 
 -- ---- what an error of a saved state prints
 
-abbrev pub text_of : (error : Error) → Option (List ℕ)
-text_of TooShort = Some (codes "Too short for a saved state")
-text_of NotASavedState = Some (codes "Not a saved state")
-text_of OtherDevice = Some (codes "The saved state of another device")
-text_of (UnknownVersion _) = Some (codes "A saved state of an unknown version")
-text_of WrongLength = Some (codes "A saved state of the wrong length")
-text_of TooManyBytes = Some (codes "More than 64 received bytes")
-text_of InvalidArmed = Some (codes "An alarm that is neither set nor clear")
+abbrev pub saved_state_error_text : (error : SavedStateError) → Option (List ℕ)
+saved_state_error_text TooShort = Some (codes "Too short for a saved state")
+saved_state_error_text NotASavedState = Some (codes "Not a saved state")
+saved_state_error_text OtherDevice = Some (codes "The saved state of another device")
+saved_state_error_text (UnknownVersion _) = Some (codes "A saved state of an unknown version")
+saved_state_error_text WrongLength = Some (codes "A saved state of the wrong length")
+saved_state_error_text TooManyBytes = Some (codes "More than 64 received bytes")
+saved_state_error_text InvalidArmed = Some (codes "An alarm that is neither set nor clear")
 
 -- ---- the laws of the byte form: a form passes each check, and no two states share one
 
@@ -119,15 +119,15 @@ pub record IsClock (state : RtcState) : Type 0 where
   pub offset : FitsSigned w64 state.offset
 
 -- the form of a port that holds at most 64 bytes passes each check, whatever its registers hold. So does a clock's form
-abbrev pub SerialFormLaw : Type 0
-SerialFormLaw = (state : State) → length state.in_buffer ≤ 64 → serial_fault (serial_form state) ≡ None
+abbrev pub SerialEncodingLaw : Type 0
+SerialEncodingLaw = (state : State) → length state.in_buffer ≤ 64 → serial_fault (serial_encoding state) ≡ None
 
-abbrev pub ClockFormLaw : Type 0
-ClockFormLaw = (state : RtcState) → clock_fault (clock_form state) ≡ None
+abbrev pub ClockEncodingLaw : Type 0
+ClockEncodingLaw = (state : RtcState) → clock_fault (clock_encoding state) ≡ None
 
 -- states that have the same form are one state
 abbrev pub OneSerialStateLaw : Type 0
-OneSerialStateLaw = (a b : State) → serial_form a ≡ serial_form b → a ≡ b
+OneSerialStateLaw = (a b : State) → serial_encoding a ≡ serial_encoding b → a ≡ b
 
 abbrev pub OneClockStateLaw : Type 0
-OneClockStateLaw = (a b : RtcState) → IsClock a → IsClock b → clock_form a ≡ clock_form b → a ≡ b
+OneClockStateLaw = (a b : RtcState) → IsClock a → IsClock b → clock_encoding a ≡ clock_encoding b → a ≡ b

@@ -4,10 +4,10 @@ pub mod RegisterMap
 pub mod Step
 use Rattle.std.specs.Prelude.{ℕ, Bool, true, false, List, [], ◌∷◌, ◌++◌, take, drop, length, slice_index, ◌≡◌, ◌≤◌, ◌%◌, min, ◌&&◌, ◌||◌, IsTrue}
 use Rattle.superio_core.specs.Bits.{has_bits, with_bits}
-use Rattle.superio_core.specs.Serial.RegisterMap.{Register, Dll, Dlm, RbrThr, Ier, Iir, Lcr, Mcr, Lsr, Msr, Scr, Unassigned, Condition, Rda, Thre, lsr_dr_bit, iir_fifo_bits, msr_read, ier_bit, iir_bit, identification_of, pending_in_order}
+use Rattle.superio_core.specs.Serial.RegisterMap.{Register, Dll, Dlm, Data, Ier, Iir, Lcr, Mcr, Lsr, Msr, Scr, Unassigned, Condition, Rda, Thre, lsr_dr_bit, iir_fifo_bits, msr_read, ier_bit, iir_bit, identification_of, pending_in_order}
 pub use Rattle.superio_core.specs.declared.serial.registers.Registers.{Registers}
-pub use Rattle.superio_core.specs.declared.fifo.RxRing.{RxRing}
-pub use Rattle.superio_core.specs.declared.serial.SerialPort.{SerialPort}
+pub use Rattle.superio_core.specs.declared.fifo.ArrayFifo.{ArrayFifo}
+pub use Rattle.superio_core.specs.declared.serial.Uart.{Uart}
 
 -- the ten fields of a port's state; the received bytes are oldest first
 pub record State : Type 0 where
@@ -71,7 +71,7 @@ abbrev pub register_read : (register : Register) (s : State) → ℕ
 register_read Dll s = s.baud_divisor_low
 register_read Dlm s = s.baud_divisor_high
 -- RBR: the oldest received byte, or 0
-register_read RbrThr s = slice_index s.in_buffer 0
+register_read Data s = slice_index s.in_buffer 0
 register_read Ier s = s.interrupt_enable
 -- IIR: with the bits that say that the FIFOs are enabled
 register_read Iir s = with_bits s.interrupt_identification iir_fifo_bits
@@ -90,12 +90,12 @@ is_asserted condition s =
     has_bits s.interrupt_identification (iir_bit condition) && has_bits s.interrupt_enable (ier_bit condition)
 
 -- the line, as a 16550 drives it: up while such a condition is there
-abbrev pub is_line_up : (s : State) → Bool
-is_line_up s = is_asserted Thre s || is_asserted Rda s
+abbrev pub irq_level : (s : State) → Bool
+irq_level s = is_asserted Thre s || is_asserted Rda s
 
 -- one call for each such condition, as long as none is refused: THRE first
-abbrev pub restore_calls : (s : State) → List Condition
-restore_calls s = pending_in_order (is_asserted Thre s) (is_asserted Rda s)
+abbrev pub conditions_due : (s : State) → List Condition
+conditions_due s = pending_in_order (is_asserted Thre s) (is_asserted Rda s)
 
 -- ---- the registers as bytes
 
@@ -131,14 +131,14 @@ abbrev pub ring_from : (head : ℕ) (bytes : List ℕ) → List ℕ
 ring_from head bytes = drop (head % 64) bytes ++ take (head % 64) bytes
 
 -- the bytes that are held, oldest first: as many of these places as are held, and at most 64
-abbrev pub held_bytes : (fifo : RxRing) → List ℕ
-held_bytes fifo = take (min fifo.len 64) (ring_from fifo.head fifo.bytes)
+abbrev pub ring_contents : (fifo : ArrayFifo) → List ℕ
+ring_contents fifo = take (min fifo.len 64) (ring_from fifo.head fifo.bytes)
 
 -- ---- the state of a port
 
 -- the registers and the bytes in the places; any struct has one
-abbrev pub state_of_port : (port : SerialPort) → State
-state_of_port port = state_with port.registers (held_bytes port.in_buffer)
+abbrev pub state_of_uart : (port : Uart) → State
+state_of_uart port = state_with port.registers (ring_contents port.in_buffer)
 
 -- ---- what every step keeps
 
@@ -153,11 +153,11 @@ pub record Coherent (s : State) : Type 0 where
   pub at_most_64 : length s.in_buffer ≤ 64
 
 -- IIR shows RDA if bytes are held and IER enables it: no byte waits without an interrupt
-abbrev pub ShowsHeldBytes : (s : State) → Type 0
-ShowsHeldBytes s =
+abbrev pub RdaCoversHeldBytes : (s : State) → Type 0
+RdaCoversHeldBytes s =
     IsTrue (not_empty s.in_buffer) → IsTrue (has_bits s.interrupt_enable (ier_bit Rda))
     → IsTrue (has_bits s.interrupt_identification (iir_bit Rda))
 
 -- the state is coherent, and `len` is at most 64
-abbrev pub CoherentPort : (port : SerialPort) → Type 0
-CoherentPort port = (port.in_buffer.len ≤ 64) × Coherent (state_of_port port)
+abbrev pub CoherentUart : (port : Uart) → Type 0
+CoherentUart port = (port.in_buffer.len ≤ 64) × Coherent (state_of_uart port)

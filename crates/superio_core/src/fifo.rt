@@ -1,17 +1,17 @@
 //! What a port needs of its receive FIFO, and a FIFO in the 64 places of an array.
 ghost use Rattle.std.specs.Prelude.{◌≡◌, ◌<◌, ◌≤◌, ◌+◌, ◌-◌, ◌%◌, ℕ, min, not, List, [], ◌∷◌, ◌++◌, length, take, drop, slice_get};
-ghost use Rattle.superio_core.specs.Serial.{not_empty, held_bytes};
+ghost use Rattle.superio_core.specs.Serial.{not_empty, ring_contents};
 
 /// The capacity of the FIFO, as in a 16750.
 pub const FIFO_SIZE: usize = 64;
 
 /// What a port needs from its receive FIFO: a list of at most 64 bytes, oldest first.
-pub trait ReceiveFifo {
+pub trait RxFifo {
     /// The held bytes.
     ghost held: { Self → List ℕ };
 
     /// The stored count, if any, is at most 64.
-    ghost canonical: { Self → Type 0 };
+    ghost len_in_range: { Self → Type 0 };
 
     /// How many bytes are held.
     fn len(&self) -> usize
@@ -26,26 +26,26 @@ pub trait ReceiveFifo {
     fn take_first(&mut self) -> Option<u8>
         ensures byte { result ≡ slice_get (held self.old) 0 }
         ensures rest { held self.new ≡ drop 1 (held self.old) }
-        ensures canonical { canonical self.old → canonical self.new };
+        ensures len_in_range { len_in_range self.old → len_in_range self.new };
 
     /// Adds a byte if there is room, and returns whether there was.
     fn push(&mut self, byte: u8) -> bool
         ensures room { result ≡ not_empty (take (64 - length (held self.old)) (byte ∷ [])) }
         ensures added { held self.new ≡ held self.old ++ take (64 - length (held self.old)) (byte ∷ []) }
-        ensures canonical { canonical self.old → canonical self.new };
+        ensures len_in_range { len_in_range self.old → len_in_range self.new };
 
     /// Adds as many of these bytes as fit, first ones first, and returns how many.
     fn fill(&mut self, bytes: &[u8]) -> usize
         ensures count { result ≡ length (take (64 - length (held self.old)) bytes.now) }
         ensures added { held self.new ≡ held self.old ++ take (64 - length (held self.old)) bytes.now }
-        ensures canonical { canonical self.old → canonical self.new };
+        ensures len_in_range { len_in_range self.old → len_in_range self.new };
 }
 
 /// Received bytes in a ring of 64 places. Any values are valid: `head` counts modulo 64, and `len` above 64 counts as
 /// 64.
 #[repr(C)]
 #[derive(Clone, Copy)]
-pub struct RxRing {
+pub struct ArrayFifo {
     /// The place of the oldest byte.
     pub head: u8,
     /// How many bytes are held.
@@ -54,13 +54,13 @@ pub struct RxRing {
     pub bytes: [u8; 64],
 }
 
-impl RxRing {
+impl ArrayFifo {
     /// An empty FIFO.
-    pub(crate) fn new() -> RxRing
-        ensures bytes { held_bytes result ≡ [] }
+    pub(crate) fn new() -> ArrayFifo
+        ensures bytes { ring_contents result ≡ [] }
         ensures at_most_64 { result.len ≤ 64 }
     {
-        RxRing {
+        ArrayFifo {
             head: 0,
             len: 0,
             bytes: [0; 64],
@@ -86,10 +86,10 @@ impl RxRing {
     }
 }
 
-impl ReceiveFifo for RxRing {
-    ghost held = { held_bytes };
+impl RxFifo for ArrayFifo {
+    ghost held = { ring_contents };
 
-    ghost canonical = { λ fifo. fifo.len ≤ 64 };
+    ghost len_in_range = { λ fifo. fifo.len ≤ 64 };
 
     #[inline(always)]
     fn len(&self) -> usize {

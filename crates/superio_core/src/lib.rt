@@ -2,7 +2,7 @@
 //! object, no heap, no dependency.
 //!
 //! ```text
-//! let mut port = SerialPort::new();
+//! let mut port = Uart::new();
 //! port.write(1, 0x01); // the guest enables the interrupt of received data
 //! let typed = port.enqueue_raw_bytes(b"hi"); // `typed.interrupts` is 1: raise the interrupt
 //! let found = port.read(2).byte; // 0xC4: the guest's handler finds received data,
@@ -10,7 +10,7 @@
 //! let found = port.read(2).byte; // 0xC1: and finds nothing more pending, though `i` is held
 //! let again = port.character_timeout(); // 1: raise the interrupt again
 //!
-//! let mut clock = Clock::new();
+//! let mut clock = Pl031::new();
 //! let time = clock.read(0x000, 1_000); // Some(1_000): guest time is the host's
 //!
 //! let resets = is_reset_command(4, 0xFE); // true: the guest resets its machine
@@ -24,5 +24,5 @@ pub mod saved;
 pub mod serial;
 
 pub use i8042::is_reset_command;
-pub use rtc_pl031::{Clock, RtcState};
-pub use serial::SerialPort;
+pub use rtc_pl031::{Pl031, RtcState};
+pub use serial::Uart;

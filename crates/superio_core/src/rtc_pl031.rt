@@ -4,21 +4,21 @@
 //! clock of the host: each access gets its moment, in seconds since 1970.
 ghost use Rattle.std.specs.Prelude.{◌≡◌, ◌<◌, ◌^◌, IfSome};
 ghost use Rattle.superio_core.specs.Bits.{with_bits};
-ghost use Rattle.superio_core.specs.Rtc.Step.{is_line_up, IsAlarmDue, guest_time_in, after_alarm, match_write, clock_response, after_write, clock_step};
+ghost use Rattle.superio_core.specs.Rtc.Step.{rtc_irq_level, IsAlarmDue, guest_time_in, after_alarm, match_write, clock_response, after_write, clock_step};
 ghost use Rattle.superio_core.specs.Rtc.{state_of_clock, read, write, fresh_clock, clock_register_at, is_writable, host_time, clock_register_read};
 
 mod alarm;
 mod registers;
-pub mod saved_form;
+pub mod encoding;
 
 use alarm::{guest_time, seconds_until};
 pub use registers::ClockRegister;
-pub use saved_form::RtcState;
+pub use encoding::RtcState;
 
 /// A clock without an events object. Any values are valid.
 #[repr(C)]
 #[derive(Clone, Copy)]
-pub struct Clock {
+pub struct Pl031 {
     /// RTCLR, the load register: the last loaded value, or 0 after a reset.
     pub lr: u32,
     /// RTCMR, the match register: the guest time that an alarm waits for.
@@ -33,12 +33,12 @@ pub struct Clock {
     pub armed: u64,
 }
 
-impl Clock {
+impl Pl031 {
     /// A fresh clock: it shows the host's time and has no alarm.
-    pub fn new() -> Clock
+    pub fn new() -> Pl031
         ensures { state_of_clock result ≡ fresh_clock }
     {
-        Clock {
+        Pl031 {
             lr: 0,
             mr: 0,
             imsc: 0,
@@ -49,10 +49,10 @@ impl Clock {
     }
 
     /// The clock of this state.
-    pub fn from_state(state: &RtcState) -> Clock
+    pub fn from_state(state: &RtcState) -> Pl031
         ensures { state_of_clock result ≡ state.now }
     {
-        Clock {
+        Pl031 {
             lr: state.lr,
             mr: state.mr,
             imsc: state.imsc,
@@ -133,7 +133,7 @@ impl Clock {
     fn store(&mut self, register: ClockRegister, value: u32, time: u32) -> bool
         ensures state { state_of_clock self.new
             ≡ after_write (state_of_clock self.old) register value time }
-        ensures taken { result ≡ is_writable register }
+        ensures writable { result ≡ is_writable register }
     {
         match register {
             ClockRegister::Mr => self.write_match(value, time),
@@ -162,23 +162,23 @@ impl Clock {
         ensures state { state_of_clock self.new ≡ clock_step (state_of_clock self.old) (read offset now) }
     {
         let time = self.begin_access(now);
-        self.read_register(ClockRegister::at(offset), time)
+        self.read_register(ClockRegister::decode(offset), time)
     }
 
     /// Writes `value` at `offset` at the moment `now`, as `Rtc::write` does. Returns whether this
     /// offset takes a write.
     #[inline(always)]
     pub fn write(&mut self, offset: u16, value: u32, now: u64) -> bool
-        ensures taken { result ≡ is_writable (clock_register_at offset) }
+        ensures writable { result ≡ is_writable (clock_register_at offset) }
         ensures state { state_of_clock self.new ≡ clock_step (state_of_clock self.old) (write offset value now) }
     {
         let time = self.begin_access(now);
-        self.store(ClockRegister::at(offset), value, time)
+        self.store(ClockRegister::decode(offset), value, time)
     }
 
     /// Whether the interrupt line is up: bit 0 of RTCMIS, the raw interrupt status under the mask.
     pub fn interrupt_line(&self) -> bool
-        ensures { result ≡ is_line_up (state_of_clock self.now) }
+        ensures { result ≡ rtc_irq_level (state_of_clock self.now) }
     {
         self.ris & self.imsc & 1 == 1
     }

@@ -6,17 +6,17 @@
 //! The steps of its calls are methods of the registers, at the end. They take the received bytes if they use them, and
 //! work with every receive FIFO.
 ghost use Rattle.std.specs.Prelude.{◌≡◌, ◌↔◌, ◌≤◌, ◌-◌, ◌==◌, not, length, IsTrue, if◌then◌else◌, [], slice_index};
-ghost use Rattle.superio_core.specs.Serial.{fresh_state, state_of_port, CoherentPort, ShowsHeldBytes, is_line_up, restore_calls, not_empty, state_with, register_read, is_asserted};
-ghost use Rattle.superio_core.specs.Serial.Step.{IsPortRead, IsPortWrite, IsPortEnqueue, IsPortTimeout, becomes_pending, raise, lower, bytes_that_fit, receive_bytes, rbr_read, ier_write, read_step, write_step, character_timeout, read_events, ier_write_calls, arrival_calls, timeout_calls, kind_calls};
-ghost use Rattle.superio_core.specs.Serial.RegisterMap.{lsr_dr_bit, Rda, Thre, RbrThr, is_loopback};
+ghost use Rattle.superio_core.specs.Serial.{fresh_state, state_of_uart, CoherentUart, RdaCoversHeldBytes, irq_level, conditions_due, not_empty, state_with, register_read, is_asserted};
+ghost use Rattle.superio_core.specs.Serial.Step.{IsUartRead, IsUartWrite, IsUartEnqueue, IsUartTimeout, becomes_pending, iir_after_raise, iir_after_lower, bytes_that_fit, receive_bytes, rbr_read, ier_write, read_step, write_step, character_timeout, read_events, ier_write_calls, arrival_calls, timeout_calls, decoded_calls};
+ghost use Rattle.superio_core.specs.Serial.RegisterMap.{lsr_dr_bit, Rda, Thre, Data, is_loopback};
 ghost use Rattle.superio_core.specs.Bits.{only_bits, with_bits};
-ghost use Rattle.superio_core.specs.Serial.Operations.{count_if, is_first_of_two_refused, write_kind, sent_by, events_of_read};
+ghost use Rattle.superio_core.specs.Serial.Operations.{count_if, is_first_of_two_refused, decode_write, sent_by, events_of_read};
 
 pub mod registers;
-pub mod saved_form;
+pub mod encoding;
 
-pub use super::fifo::RxRing;
-use super::fifo::{FIFO_SIZE, ReceiveFifo};
+pub use super::fifo::ArrayFifo;
+use super::fifo::{FIFO_SIZE, RxFifo};
 pub use registers::Registers;
 use registers::{
     Condition, IER_UART_VALID_BITS, IIR_FIFO_BITS, IIR_NONE_BIT, LSR_DATA_READY_BIT, Register,
@@ -26,32 +26,32 @@ use registers::{
 /// A serial port without objects: its registers and received bytes. Any bytes are valid.
 #[repr(C)]
 #[derive(Clone, Copy)]
-pub struct SerialPort {
+pub struct Uart {
     /// The registers.
     pub registers: Registers,
     /// The received bytes that no guest has read.
-    pub in_buffer: RxRing,
+    pub in_buffer: ArrayFifo,
 }
 
-impl SerialPort {
+impl Uart {
     /// A fresh port: divisor 12, 8 bits a character, OUT2 set, and nothing enabled, pending or held.
-    pub fn new() -> SerialPort
-        ensures state { state_of_port result ≡ fresh_state }
-        ensures coherent { CoherentPort result }
+    pub fn new() -> Uart
+        ensures state { state_of_uart result ≡ fresh_state }
+        ensures coherent { CoherentUart result }
     {
-        SerialPort {
+        Uart {
             registers: Registers::new(),
-            in_buffer: RxRing::new(),
+            in_buffer: ArrayFifo::new(),
         }
     }
 
     /// Reads at `offset`, as a guest does. Asks for no interrupt.
     #[inline(always)]
     pub fn read(&mut self, offset: u8) -> ReadEffects
-        ensures step { IsPortRead offset result (state_of_port self.old) (state_of_port self.new) }
-        ensures coherent { CoherentPort self.old → CoherentPort self.new }
+        ensures step { IsUartRead offset result (state_of_uart self.old) (state_of_uart self.new) }
+        ensures coherent { CoherentUart self.old → CoherentUart self.new }
     {
-        let register = self.registers.at(offset);
+        let register = self.registers.decode(offset);
         self.registers.read(&mut self.in_buffer, register)
     }
 
@@ -59,19 +59,19 @@ impl SerialPort {
     /// Neither a lost byte nor a refusal changes the port.
     #[inline(always)]
     pub fn write(&mut self, offset: u8, value: u8) -> WriteEffects
-        ensures step { IsPortWrite offset value result (state_of_port self.old) (state_of_port self.new) }
+        ensures step { IsUartWrite offset value result (state_of_uart self.old) (state_of_uart self.new) }
         ensures at_most_2 { result.interrupts ≤ 2 }
-        ensures coherent { CoherentPort self.old → CoherentPort self.new }
+        ensures coherent { CoherentUart self.old → CoherentUart self.new }
     {
-        let register = self.registers.at(offset);
+        let register = self.registers.decode(offset);
         self.registers.write(&mut self.in_buffer, register, value)
     }
 
     /// How many bytes may still be enqueued: 64 minus the number of held bytes.
     #[inline(always)]
     pub fn fifo_capacity(&self) -> usize
-        ensures value { result ≡ 64 - length (state_of_port self.now).in_buffer }
-        ensures bound { length (state_of_port self.now).in_buffer ≤ 64 }
+        ensures value { result ≡ 64 - length (state_of_uart self.now).in_buffer }
+        ensures bound { length (state_of_uart self.now).in_buffer ≤ 64 }
     {
         FIFO_SIZE - self.in_buffer.len()
     }
@@ -80,9 +80,9 @@ impl SerialPort {
     /// the bytes even if the interrupt is then refused.
     #[inline(always)]
     pub fn enqueue_raw_bytes(&mut self, input: &[u8]) -> EnqueueEffects
-        ensures step { IsPortEnqueue input.now result (state_of_port self.old) (state_of_port self.new) }
+        ensures step { IsUartEnqueue input.now result (state_of_uart self.old) (state_of_uart self.new) }
         ensures at_most_1 { result.interrupts ≤ 1 }
-        ensures coherent { CoherentPort self.old → CoherentPort self.new }
+        ensures coherent { CoherentUart self.old → CoherentUart self.new }
     {
         self.registers.enqueue(&mut self.in_buffer, input)
     }
@@ -91,10 +91,10 @@ impl SerialPort {
     /// bytes are held. Returns how often to ask for the interrupt: 0 or 1 times. A refusal does not change the port.
     #[inline(always)]
     pub fn character_timeout(&mut self) -> u8
-        ensures step { IsPortTimeout result (state_of_port self.old) (state_of_port self.new) }
+        ensures step { IsUartTimeout result (state_of_uart self.old) (state_of_uart self.new) }
         ensures at_most_1 { result ≤ 1 }
-        ensures pending { ShowsHeldBytes (state_of_port self.new) }
-        ensures coherent { CoherentPort self.old → CoherentPort self.new }
+        ensures pending { RdaCoversHeldBytes (state_of_uart self.new) }
+        ensures coherent { CoherentUart self.old → CoherentUart self.new }
     {
         self.registers.character_timeout(&self.in_buffer)
     }
@@ -102,7 +102,7 @@ impl SerialPort {
     /// How often to ask for the interrupt after a restore or a refusal: once for each condition that is pending and
     /// enabled.
     pub fn interrupts_due(&self) -> u8
-        ensures calls { result ≡ length (restore_calls (state_of_port self.now)) }
+        ensures calls { result ≡ length (conditions_due (state_of_uart self.now)) }
         ensures at_most_2 { result ≤ 2 }
     {
         self.registers.interrupts_due()
@@ -112,8 +112,8 @@ impl SerialPort {
     /// set your line to it after every call.
     #[inline(always)]
     pub fn interrupt_line(&self) -> bool
-        ensures line { result ≡ is_line_up (state_of_port self.now) }
-        ensures due { result ≡ not (length (restore_calls (state_of_port self.now)) == 0) }
+        ensures line { result ≡ irq_level (state_of_uart self.now) }
+        ensures due { result ≡ not (length (conditions_due (state_of_uart self.now)) == 0) }
     {
         self.registers.interrupt_line()
     }
@@ -121,7 +121,7 @@ impl SerialPort {
     /// Whether the port is coherent, as `new` makes it: `len` is at most 64, data ready shows whether bytes are held,
     /// and IIR is 1, 2, 4 or 6, with RDA pending only while bytes are held.
     pub fn is_coherent(&self) -> bool
-        ensures { IsTrue result ↔ CoherentPort self.now }
+        ensures { IsTrue result ↔ CoherentUart self.now }
     {
         usize::from(self.in_buffer.len) <= FIFO_SIZE
             && self.registers.is_coherent(!self.in_buffer.is_empty())
@@ -156,10 +156,10 @@ pub struct WriteEffects {
 #[repr(C)]
 #[derive(Clone, Copy)]
 pub struct EnqueueEffects {
-    /// How many of the bytes were taken, from the first on.
-    pub taken: usize,
+    /// How many of the bytes were accepted, from the first on.
+    pub accepted: usize,
     /// There were bytes, outside loopback, and 64 were held already: nothing changed.
-    pub full: bool,
+    pub fifo_full: bool,
     /// How often to ask for the interrupt: 0 or 1 times.
     pub interrupts: u8,
 }
@@ -201,7 +201,7 @@ impl Registers {
             ≡ becomes_pending condition self.old.interrupt_enable self.old.interrupt_identification }
         ensures registers { self.new ≡ record self.old {
           interrupt_identification =
-              raise condition self.old.interrupt_enable self.old.interrupt_identification;
+              iir_after_raise condition self.old.interrupt_enable self.old.interrupt_identification;
         } }
     {
         if !has_bits(self.interrupt_enable, condition.ier_bit())
@@ -218,7 +218,7 @@ impl Registers {
     #[inline(always)]
     fn lower(&mut self, condition: Condition)
         ensures registers { self.new ≡ record self.old {
-          interrupt_identification = lower condition self.old.interrupt_identification;
+          interrupt_identification = iir_after_lower condition self.old.interrupt_identification;
         } }
     {
         let others = without_bits(self.interrupt_identification, condition.iir_bit());
@@ -228,7 +228,7 @@ impl Registers {
     /// An IER write: stores the low four bits, raises RDA if bytes are held, then raises THRE. Returns how often to
     /// call the trigger.
     #[inline(always)]
-    fn write_ier<F: ReceiveFifo>(&mut self, fifo: &F, value: u8) -> u8
+    fn write_ier<F: RxFifo>(&mut self, fifo: &F, value: u8) -> u8
         ensures due { result ≡ ier_write_calls (only_bits value 0x0F) (state_with self.old (F.held fifo.now)) }
         ensures at_most_2 { result ≤ 2 }
         ensures state { state_with self.new (F.held fifo.now)
@@ -245,11 +245,11 @@ impl Registers {
     }
 
     /// Lowers THRE if the first of two trigger calls was refused: a refusal ends an IER write before it raises THRE.
-    pub fn take_back(&mut self, due: u8, asked: Asked)
+    pub fn cancel_thre(&mut self, due: u8, asked: Asked)
         ensures registers { self.new ≡ record self.old {
           interrupt_identification =
               if is_first_of_two_refused due asked
-              then lower Thre self.old.interrupt_identification
+              then iir_after_lower Thre self.old.interrupt_identification
               else self.old.interrupt_identification;
         } }
     {
@@ -260,11 +260,11 @@ impl Registers {
 
     /// Notes received bytes: sets data ready and raises RDA.
     #[inline(always)]
-    fn note_received(&mut self) -> bool
+    fn rx_ready(&mut self) -> bool
         ensures due { result ≡ becomes_pending Rda self.old.interrupt_enable self.old.interrupt_identification }
         ensures registers { self.new ≡ record self.old {
           line_status = with_bits self.old.line_status lsr_dr_bit;
-          interrupt_identification = raise Rda self.old.interrupt_enable self.old.interrupt_identification;
+          interrupt_identification = iir_after_raise Rda self.old.interrupt_enable self.old.interrupt_identification;
         } }
     {
         self.line_status = with_bits(self.line_status, LSR_DATA_READY_BIT);
@@ -274,54 +274,54 @@ impl Registers {
     /// Adds as many of these bytes as fit after the held ones, first ones first. Returns how many it added, and whether
     /// to call the trigger.
     #[inline(always)]
-    pub fn receive<F: ReceiveFifo>(&mut self, fifo: &mut F, bytes: &[u8]) -> (usize, bool)
+    pub fn rx_push<F: RxFifo>(&mut self, fifo: &mut F, bytes: &[u8]) -> (usize, bool)
         ensures count { result.0 ≡ length (bytes_that_fit (F.held fifo.old) bytes.now) }
         ensures due { count_if result.1
             ≡ arrival_calls (bytes_that_fit (F.held fifo.old) bytes.now) (state_with self.old (F.held fifo.old)) }
         ensures state { state_with self.new (F.held fifo.new)
             ≡ receive_bytes (bytes_that_fit (F.held fifo.old) bytes.now) (state_with self.old (F.held fifo.old)) }
-        ensures canonical { F.canonical fifo.old → F.canonical fifo.new }
+        ensures len_in_range { F.len_in_range fifo.old → F.len_in_range fifo.new }
     {
         let count = fifo.fill(bytes);
         if count == 0 {
             return (0, false);
         }
-        (count, self.note_received())
+        (count, self.rx_ready())
     }
 
     /// Receives as many of these bytes as fit, first ones first. In loopback it accepts none.
     #[inline(always)]
-    pub fn enqueue<F: ReceiveFifo>(&mut self, fifo: &mut F, input: &[u8]) -> EnqueueEffects
-        ensures step { IsPortEnqueue input.now result
+    pub fn enqueue<F: RxFifo>(&mut self, fifo: &mut F, input: &[u8]) -> EnqueueEffects
+        ensures step { IsUartEnqueue input.now result
             (state_with self.old (F.held fifo.old)) (state_with self.new (F.held fifo.new)) }
         ensures at_most_1 { result.interrupts ≤ 1 }
-        ensures canonical { F.canonical fifo.old → F.canonical fifo.new }
+        ensures len_in_range { F.len_in_range fifo.old → F.len_in_range fifo.new }
     {
         if self.is_loopback() || input.is_empty() {
             return EnqueueEffects {
-                taken: 0,
-                full: false,
+                accepted: 0,
+                fifo_full: false,
                 interrupts: 0,
             };
         }
         if fifo.len() == FIFO_SIZE {
             return EnqueueEffects {
-                taken: 0,
-                full: true,
+                accepted: 0,
+                fifo_full: true,
                 interrupts: 0,
             };
         }
-        let (taken, asks) = self.receive(fifo, input);
+        let (accepted, asks) = self.rx_push(fifo, input);
         EnqueueEffects {
-            taken,
-            full: false,
+            accepted,
+            fifo_full: false,
             interrupts: u8::from(asks),
         }
     }
 
     /// A character timeout: raises RDA if bytes are held. Returns how often to call the trigger.
     #[inline(always)]
-    pub fn character_timeout<F: ReceiveFifo>(&mut self, fifo: &F) -> u8
+    pub fn character_timeout<F: RxFifo>(&mut self, fifo: &F) -> u8
         ensures due { result ≡ timeout_calls (state_with self.old (F.held fifo.now)) }
         ensures at_most_1 { result ≤ 1 }
         ensures state { state_with self.new (F.held fifo.now)
@@ -332,11 +332,11 @@ impl Registers {
 
     /// An RBR read: lowers RDA, then takes the oldest byte or gives 0.
     #[inline(always)]
-    fn read_rbr<F: ReceiveFifo>(&mut self, fifo: &mut F) -> ReadEffects
+    fn read_rbr<F: RxFifo>(&mut self, fifo: &mut F) -> ReadEffects
         ensures value { result.byte ≡ slice_index (F.held fifo.old) 0 }
         ensures state { state_with self.new (F.held fifo.new) ≡ rbr_read (state_with self.old (F.held fifo.old)) }
-        ensures events { events_of_read result ≡ read_events RbrThr (F.held fifo.old) }
-        ensures canonical { F.canonical fifo.old → F.canonical fifo.new }
+        ensures events { events_of_read result ≡ read_events Data (F.held fifo.old) }
+        ensures len_in_range { F.len_in_range fifo.old → F.len_in_range fifo.new }
     {
         self.lower(Condition::Rda);
         let byte = fifo.take_first().unwrap_or(0);
@@ -353,16 +353,16 @@ impl Registers {
 
     /// Reads a register.
     #[inline(always)]
-    pub fn read<F: ReceiveFifo>(&mut self, fifo: &mut F, register: Register) -> ReadEffects
+    pub fn read<F: RxFifo>(&mut self, fifo: &mut F, register: Register) -> ReadEffects
         ensures value { result.byte
             ≡ register_read register (state_with self.old (F.held fifo.old)) }
         ensures state { state_with self.new (F.held fifo.new)
             ≡ read_step register (state_with self.old (F.held fifo.old)) }
         ensures events { events_of_read result ≡ read_events register (F.held fifo.old) }
-        ensures canonical { F.canonical fifo.old → F.canonical fifo.new }
+        ensures len_in_range { F.len_in_range fifo.old → F.len_in_range fifo.new }
     {
         let byte = match register {
-            Register::RbrThr => return self.read_rbr(fifo),
+            Register::Data => return self.read_rbr(fifo),
             Register::Dll => self.baud_divisor_low,
             Register::Dlm => self.baud_divisor_high,
             Register::Ier => self.interrupt_enable,
@@ -386,32 +386,32 @@ impl Registers {
     }
 
     /// Writes a register. In loopback a THR write is received. Otherwise its byte goes out, and THRE is raised whatever
-    /// happens to the byte. The due trigger calls count as taken: `take_back` applies a refusal.
+    /// happens to the byte. The due trigger calls count as taken: `cancel_thre` applies a refusal.
     #[inline(always)]
-    pub fn write<F: ReceiveFifo>(
+    pub fn write<F: RxFifo>(
         &mut self,
         fifo: &mut F,
         register: Register,
         value: u8,
     ) -> WriteEffects
-        ensures sends { let kind = write_kind register (is_loopback self.old.modem_control) value in
+        ensures sends { let kind = decode_write register (is_loopback self.old.modem_control) value in
             result.sends ≡ not_empty (sent_by kind) }
-        ensures interrupts { let kind = write_kind register (is_loopback self.old.modem_control) value in
-            result.interrupts ≡ kind_calls kind (state_with self.old (F.held fifo.old)) }
+        ensures interrupts { let kind = decode_write register (is_loopback self.old.modem_control) value in
+            result.interrupts ≡ decoded_calls kind (state_with self.old (F.held fifo.old)) }
         ensures at_most_2 { result.interrupts ≤ 2 }
         ensures state { state_with self.new (F.held fifo.new)
             ≡ write_step register value Asked.Nothing (state_with self.old (F.held fifo.old)) }
-        ensures canonical { F.canonical fifo.old → F.canonical fifo.new }
+        ensures len_in_range { F.len_in_range fifo.old → F.len_in_range fifo.new }
     {
         let mut sends = false;
         let mut interrupts = 0;
         match register {
             Register::Dll => self.baud_divisor_low = value,
             Register::Dlm => self.baud_divisor_high = value,
-            Register::RbrThr if self.is_loopback() => {
-                interrupts = u8::from(fifo.push(value) && self.note_received());
+            Register::Data if self.is_loopback() => {
+                interrupts = u8::from(fifo.push(value) && self.rx_ready());
             }
-            Register::RbrThr => {
+            Register::Data => {
                 sends = true;
                 interrupts = u8::from(self.raise(Condition::Thre));
             }
@@ -434,7 +434,7 @@ impl Registers {
 
     /// How often a restore calls the trigger: once for each condition that is pending and enabled.
     pub fn interrupts_due(&self) -> u8
-        ensures calls { result ≡ length (restore_calls (state_with self.now [])) }
+        ensures calls { result ≡ length (conditions_due (state_with self.now [])) }
         ensures at_most_2 { result ≤ 2 }
     {
         u8::from(self.is_asserted(Condition::Thre)) + u8::from(self.is_asserted(Condition::Rda))
@@ -444,8 +444,8 @@ impl Registers {
     #[inline(always)]
     #[tactic(auto, using(crate::proofs::Lemmas::Serial::Step::up_while_due))]
     pub fn interrupt_line(&self) -> bool
-        ensures line { result ≡ is_line_up (state_with self.now []) }
-        ensures due { result ≡ not (length (restore_calls (state_with self.now [])) == 0) }
+        ensures line { result ≡ irq_level (state_with self.now []) }
+        ensures due { result ≡ not (length (conditions_due (state_with self.now [])) == 0) }
     {
         self.is_asserted(Condition::Thre) || self.is_asserted(Condition::Rda)
     }

@@ -3,10 +3,10 @@ use Rattle.std.proofs.Common.{◌≡◌, ℕ, Bool, true, false, List, [], ◌�
 use Rattle.std.specs.Option.{option_map_or}
 use Rattle.std.proofs.lemmas.Bool.Decides.{nat_tests}
 use Rattle.circular_buffer.specs.Buffer.{Buffer}
-use Rattle.vm_superio.specs.Serial.{Asked, Sent, State, fresh_state, Op, enqueued_bytes, step, step_response, kind_in_state}
+use Rattle.vm_superio.specs.Serial.{Asked, Sent, State, fresh_state, Op, enqueued_bytes, step, step_response, decode_in}
 use Rattle.superio_laws.specs.Serial.History.{byte_read, accepted_by}
 use Rattle.superio_examples.specs.Queues.{Waiting, after_sent, after_byte, IsSplit}
-use Rattle.superio_examples.specs.Monitor.{Machine, call_of, asks_reset, after_call, typed_by, sent_at, act, noticed, is_open, takes_input, fed, after_event, answer_to, after, replies_to, in_each, is_reset_answer, is_reset_reply, left_at, looped_at, KeepsInput, KeepsOut, Event}
+use Rattle.superio_examples.specs.Monitor.{Machine, call_of, asks_reset, after_call, typed_by, sent_at, act, noticed, is_open, takes_input, fed, after_event, answer_to, after, replies_to, in_each, is_reset_answer, is_reset_reply, left_at, looped_at, KeepsInput, KeepsOut, MachineEvent}
 use Rattle.superio_examples.proofs.QueueLemmas.{accepted-rest}
 use Rattle.superio_laws.proofs.Lemmas.Serial.Laws.OneCall.{one_read, received_bytes}
 
@@ -19,7 +19,7 @@ sent-append (byte ∷ first) second output = sent-append first second (after_byt
 given-output : (takes : Bool) (m more : Machine) → more.output ≡ m.output → (if takes then more else m).output ≡ m.output
 given-output takes m more same = grind arith
 
-pub output-run : (events : List Event) (m : Machine) → (after events m).output ≡ after_sent (in_each sent_at events m) m.output
+pub output-run : (events : List MachineEvent) (m : Machine) → (after events m).output ≡ after_sent (in_each sent_at events m) m.output
 output-run [] m = refl
 output-run (event ∷ events) m =
     output-run events (after_event event m)
@@ -29,10 +29,10 @@ output-run (event ∷ events) m =
 
 -- ---- resets
 
-reset-answer : (event : Event) (m : Machine) → is_reset_answer (answer_to event m) ≡ asks_reset event
+reset-answer : (event : MachineEvent) (m : Machine) → is_reset_answer (answer_to event m) ≡ asks_reset event
 reset-answer event m = grind arith
 
-pub resets-run : (events : List Event) (m : Machine) → map is_reset_reply (replies_to events m) ≡ map asks_reset events
+pub resets-run : (events : List MachineEvent) (m : Machine) → map is_reset_reply (replies_to events m) ≡ map asks_reset events
 resets-run [] m = refl
 resets-run (event ∷ events) m =
     ap (λ asked. asked ∷ map is_reset_reply (replies_to events (after_event event m))) (reset-answer event m)
@@ -64,10 +64,10 @@ call-held op s = grind arith
 
 abbrev left_by : (call : Option Op) (s : State) → List ℕ
 left_by call s =
-    option_map_or (λ op. byte_read (kind_in_state s op) s.in_buffer (step_response s op Asked.Nothing Sent.Nothing)) call []
+    option_map_or (λ op. byte_read (decode_in s op) s.in_buffer (step_response s op Asked.Nothing Sent.Nothing)) call []
 
 abbrev looped_by : (call : Option Op) (s : State) → List ℕ
-looped_by call s = option_map_or (λ op. accepted_by (kind_in_state s op) s.in_buffer) call []
+looped_by call s = option_map_or (λ op. accepted_by (decode_in s op) s.in_buffer) call []
 
 call-in-order : (call : Option Op) (s : State) → left_by call s ++ (after_call call s).in_buffer ≡ s.in_buffer ++ looped_by call s
 call-in-order None s = sym (append-nil s.in_buffer)
@@ -75,7 +75,7 @@ call-in-order (Some op) s =
     ap (λ held. left_by (Some op) s ++ held) (call-held op s) ∙ one_read s op Asked.Nothing Sent.Nothing
 
 -- a reset is no call of the serial port
-reset-call : (event : Event) → asks_reset event ≡ true → call_of event ≡ None
+reset-call : (event : MachineEvent) → asks_reset event ≡ true → call_of event ≡ None
 reset-call event asked = grind (arith, nat_tests)
 
 act-choice : (asked : Bool) (call : Option Op) (s : State) → (asked ≡ true → call ≡ None)
@@ -84,7 +84,7 @@ act-choice : (asked : Bool) (call : Option Op) (s : State) → (asked ≡ true �
 act-choice true call s none = ap (λ (call : Option Op). s.in_buffer ++ looped_by call s) (sym (none refl))
 act-choice false call s none = call-in-order call s
 
-act-in-order : (event : Event) (m : Machine) → left_at event m ++ (act event m).serial.in_buffer ≡ m.serial.in_buffer ++ looped_at event m
+act-in-order : (event : MachineEvent) (m : Machine) → left_at event m ++ (act event m).serial.in_buffer ≡ m.serial.in_buffer ++ looped_at event m
 act-in-order event m = act-choice (asks_reset event) (call_of event) m.serial (reset-call event)
 
 -- ---- input: what the serial port takes
@@ -112,7 +112,7 @@ feeds m =
 
 -- ---- input: an event, and a list of events
 
-keeps-event : (event : Event) (m : Machine) → KeepsInput (left_at event m) (looped_at event m) (typed_by event m) m (after_event event m)
+keeps-event : (event : MachineEvent) (m : Machine) → KeepsInput (left_at event m) (looped_at event m) (typed_by event m) m (after_event event m)
 keeps-event event m =
     let made = act event m in
     let bytes = fed_bytes made in
@@ -152,7 +152,7 @@ keeps-then left looped typed left_more looped_more typed_more old middle new fir
       ∙ append_assoc old.input.items typed typed_more;
 }
 
-pub keeps-run : (events : List Event) (m : Machine)
+pub keeps-run : (events : List MachineEvent) (m : Machine)
     → KeepsInput (in_each left_at events m) (in_each looped_at events m) (in_each typed_by events m) m (after events m)
 keeps-run [] m = record {
   arrived = [];
@@ -177,14 +177,14 @@ shut-first ready empty shut = grind arith
 given-none : (takes : Bool) (m more : Machine) → takes ≡ false → (if takes then more else m).input ≡ m.input
 given-none takes m more none = grind arith
 
-shut-event : (event : Event) (m : Machine) → is_open (after_event event m) ≡ false
+shut-event : (event : MachineEvent) (m : Machine) → is_open (after_event event m) ≡ false
     → (after_event event m).input.items ≡ m.input.items ++ typed_by event m
 shut-event event m shut =
     let made = noticed (act event m) in
     let none = shut-first (is_open made) _ (sym (given-open (takes_input made) made _ refl) ∙ shut) in
     ap (λ (input : Buffer ℕ). input.items) (given-none (takes_input made) made _ none)
 
-pub shut-run : (events : List Event) (m : Machine) → KeepsOut events m (after events m)
+pub shut-run : (events : List MachineEvent) (m : Machine) → KeepsOut events m (after events m)
 shut-run [] m shut = sym (append-nil m.input.items)
 shut-run (event ∷ events) m (shut, later) =
     let next = after_event event m in

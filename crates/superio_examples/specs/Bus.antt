@@ -3,8 +3,8 @@ use Rattle.std.specs.Prelude.{◌≡◌, ℕ, ◌+◌, ◌-◌, ◌%◌, Bool, �
 use Rattle.std.specs.Result.{result_and}
 use Rattle.std.specs.Bool.{OnTrue, OnFalse}
 use Rattle.vm_superio.specs.Links.{Link, TriggerAnswer, Contents}
-use Rattle.vm_superio.specs.Serial.{Port, Event}
-use Rattle.vm_superio.specs.Serial.Step.{IsReadStep, IsWriteStep}
+use Rattle.vm_superio.specs.Serial.{SerialView, Event}
+use Rattle.vm_superio.specs.Serial.Step.{IsSerialRead, IsSerialWrite}
 use Rattle.superio_examples.specs.declared.bus.Bus.{Bus}
 pub use Rattle.superio_examples.specs.declared.bus.Keyboard.{Keyboard}
 use Rattle.superio_examples.specs.declared.bus.BusError.{BusError}
@@ -41,7 +41,7 @@ module _ {T E EV W R F : Type 0} (trigger : Link T (TriggerAnswer E)) (events : 
   -- a byte is read: by the serial port, or without a change
   abbrev pub ReadsAt : (offset : Option ℕ) (port byte : ℕ) (old new : Bus T EV W R E F) → Type 0
   ReadsAt (Some offset) port byte old new =
-      IsReadStep trigger events contents offset byte old.serial new.serial × (new ≡ record old { serial = new.serial })
+      IsSerialRead trigger events contents offset byte old.serial new.serial × (new ≡ record old { serial = new.serial })
   ReadsAt None port byte old new = (byte ≡ other_byte old.keyboard port) × (new ≡ old)
 
   abbrev pub ReadsByte : (port byte : ℕ) (old new : Bus T EV W R E F) → Type 0
@@ -55,10 +55,10 @@ module _ {T E EV W R F : Type 0} (trigger : Link T (TriggerAnswer E)) (events : 
 
   -- the bus forwards a write to the serial port, and returns its result: an error is the serial port's
   abbrev pub ForwardsWrite :
-      (offset value : ℕ) (result : Result (Unit {0}) (BusError E F)) (old new : Port T EV W) → Type 0
-  ForwardsWrite offset value (Ok done) old new = IsWriteStep trigger events contents offset value (Ok tt) old new
+      (offset value : ℕ) (result : Result (Unit {0}) (BusError E F)) (old new : SerialView T EV W) → Type 0
+  ForwardsWrite offset value (Ok done) old new = IsSerialWrite trigger events contents offset value (Ok tt) old new
   ForwardsWrite offset value (Err (Serial error)) old new =
-      IsWriteStep trigger events contents offset value (Err error) old new
+      IsSerialWrite trigger events contents offset value (Err error) old new
   ForwardsWrite offset value (Err (Reset refusal)) old new = ⊥
 
   -- the reset trigger is called once, and the bus returns its result: an error is the trigger's refusal

@@ -2,8 +2,8 @@
 use Rattle.std.specs.Prelude.{◌≡◌, ◌≤◌, ℕ, ◌+◌, ◌-◌, Bool, true, false, ◌&&◌, ◌||◌, not, nat_lt, if◌then◌else◌, List, [], ◌∷◌, ◌++◌, length, drop, Option, Some, None, unwrap_or, ⊤}
 use Rattle.std.specs.Option.{option_map, option_map_or}
 use Rattle.circular_buffer.specs.Buffer.{Buffer, buffer}
-use Rattle.vm_superio.specs.Serial.{Asked, Sent, State, fresh_state, not_empty, Op, Read, Write, Enqueue, CharacterTimeout, sent_by, state_of_port, step, step_response, kind_in_state, step_calls, restore_calls}
-use Rattle.superio_laws.specs.Rtc.{RtcState, is_line_up, clock_step, clock_response, Access, read, write, fresh_clock, state_of_clock}
+use Rattle.vm_superio.specs.Serial.{Asked, Sent, State, fresh_state, not_empty, Op, Read, Write, Enqueue, CharacterTimeout, sent_by, state_of_uart, step, step_response, decode_in, step_calls, conditions_due}
+use Rattle.superio_laws.specs.Rtc.{RtcState, rtc_irq_level, clock_step, clock_response, Access, read, write, fresh_clock, state_of_clock}
 use Rattle.superio_laws.specs.Serial.History.{byte_read, accepted_by}
 use Rattle.superio_examples.specs.Bus.{serial_offset, other_byte, is_reset, Keyboard}
 use Rattle.superio_examples.specs.Mmio.{is_inside}
@@ -11,9 +11,9 @@ use Rattle.superio_examples.specs.Queues.{room_in, shows_ready, Waiting, after_s
 use Rattle.superio_examples.specs.TimedRead.{shown_at, state_after_read, calls_after_read}
 use Rattle.superio_examples.specs.declared.monitor.Answer.{Answer}
 use Rattle.superio_examples.specs.declared.monitor.Answer.TheVariants as answer
-pub use Rattle.superio_examples.specs.declared.monitor.Event.{Event}
-use Rattle.superio_examples.specs.declared.monitor.Event.TheVariants.{PortRead, PortWrite, MemoryRead, MemoryWrite, Typed, Moment, Timer, Refused}
-use Rattle.superio_examples.specs.declared.monitor.Reply.{Reply}
+pub use Rattle.superio_examples.specs.declared.monitor.MachineEvent.{MachineEvent}
+use Rattle.superio_examples.specs.declared.monitor.MachineEvent.TheVariants.{PortRead, PortWrite, MemoryRead, MemoryWrite, Typed, Moment, Timer, Refused}
+use Rattle.superio_examples.specs.declared.monitor.MachineReply.{MachineReply}
 pub use Rattle.superio_examples.specs.declared.monitor.Monitor.{Monitor}
 
 -- ---- the machine
@@ -36,7 +36,7 @@ pub record Machine : Type 0 where
 
 abbrev pub machine_of : (monitor : Monitor) → Machine
 machine_of monitor = record {
-  serial = state_of_port monitor.port;
+  serial = state_of_uart monitor.port;
   clock = state_of_clock monitor.clock;
   input = monitor.input;
   output = monitor.output;
@@ -61,7 +61,7 @@ new_machine input output = record {
 -- ---- what an event calls
 
 -- the serial port at COM1
-abbrev pub call_of : (event : Event) → Option Op
+abbrev pub call_of : (event : MachineEvent) → Option Op
 call_of (PortRead port) = option_map Read (serial_offset 0x3F8 port)
 call_of (PortWrite port value) = option_map (λ offset. Write offset value) (serial_offset 0x3F8 port)
 call_of Timer = Some CharacterTimeout
@@ -71,14 +71,14 @@ call_of _ = None
 abbrev pub clock_offset : (address : ℕ) → Option ℕ
 clock_offset address = if is_inside 0x09010000 address then Some (address - 0x09010000) else None
 
-abbrev pub access_of : (event : Event) (now : ℕ) → Option Access
+abbrev pub access_of : (event : MachineEvent) (now : ℕ) → Option Access
 access_of (MemoryRead address) now = option_map (λ offset. read offset now) (clock_offset address)
 access_of (MemoryWrite address value) now = option_map (λ offset. write offset value now) (clock_offset address)
 access_of Timer now = Some (read 0x018 now)
 access_of _ now = None
 
 -- the reset command of the controller
-abbrev pub asks_reset : (event : Event) → Bool
+abbrev pub asks_reset : (event : MachineEvent) → Bool
 asks_reset (PortWrite port value) = is_reset port value
 asks_reset _ = false
 
@@ -91,32 +91,32 @@ after_call (Some (Read offset)) s = state_after_read offset s
 after_call (Some op) s = step s op Asked.Nothing
 
 -- a reset makes the serial port anew. The clock goes on, and input that waits is for the guest that starts
-abbrev pub serial_after : (event : Event) (m : Machine) → State
+abbrev pub serial_after : (event : MachineEvent) (m : Machine) → State
 serial_after event m = if asks_reset event then fresh_state else after_call (call_of event) m.serial
 
-abbrev pub clock_after : (event : Event) (m : Machine) → RtcState
+abbrev pub clock_after : (event : MachineEvent) (m : Machine) → RtcState
 clock_after event m = option_map_or (clock_step m.clock) (access_of event m.moment) m.clock
 
 -- a byte that is typed waits if there is room
-abbrev pub typed_by : (event : Event) (m : Machine) → List ℕ
+abbrev pub typed_by : (event : MachineEvent) (m : Machine) → List ℕ
 typed_by (Typed byte) m = if nat_lt (length m.input.items) m.input.capacity then byte ∷ [] else []
 typed_by _ m = []
 
 -- the byte that a write to THR sends
-abbrev pub sent_at : (event : Event) (m : Machine) → List ℕ
-sent_at event m = option_map_or (λ op. sent_by (kind_in_state m.serial op)) (call_of event) []
+abbrev pub sent_at : (event : MachineEvent) (m : Machine) → List ℕ
+sent_at event m = option_map_or (λ op. sent_by (decode_in m.serial op)) (call_of event) []
 
-abbrev pub moment_after : (event : Event) (m : Machine) → ℕ
+abbrev pub moment_after : (event : MachineEvent) (m : Machine) → ℕ
 moment_after (Moment moment) m = moment
 moment_after _ m = m.moment
 
-abbrev pub refused_after : (event : Event) (m : Machine) → Bool
+abbrev pub refused_after : (event : MachineEvent) (m : Machine) → Bool
 refused_after Refused m = true
 refused_after Timer m = false
 refused_after _ m = m.is_refused
 
 -- the event alone
-abbrev pub act : (event : Event) (m : Machine) → Machine
+abbrev pub act : (event : MachineEvent) (m : Machine) → Machine
 act event m = record {
   serial = serial_after event m;
   clock = clock_after event m;
@@ -150,7 +150,7 @@ given m =
 abbrev pub fed : (m : Machine) → Machine
 fed m = given (noticed m)
 
-abbrev pub after_event : (event : Event) (m : Machine) → Machine
+abbrev pub after_event : (event : MachineEvent) (m : Machine) → Machine
 after_event event m = fed (act event m)
 
 -- ---- what is replied
@@ -165,7 +165,7 @@ abbrev pub memory_shown : (address : ℕ) (m : Machine) → ℕ
 memory_shown address m =
     option_map_or (λ offset. unwrap_or (clock_response m.clock (read offset m.moment)) 0) (clock_offset address) 0
 
-abbrev pub answer_to : (event : Event) (m : Machine) → Answer
+abbrev pub answer_to : (event : MachineEvent) (m : Machine) → Answer
 answer_to (PortRead port) m = answer.Shows (port_shown port m.serial)
 answer_to (PortWrite port value) m = if asks_reset (PortWrite port value) then answer.Reset else answer.Done
 answer_to (MemoryRead address) m = answer.Shows (memory_shown address m)
@@ -178,27 +178,27 @@ calls_by None s = 0
 calls_by (Some (Read offset)) s = calls_after_read offset s
 calls_by (Some op) s = step_calls s op
 
-abbrev pub is_retry : (event : Event) (is_refused : Bool) → Bool
+abbrev pub is_retry : (event : MachineEvent) (is_refused : Bool) → Bool
 is_retry Timer is_refused = is_refused
 is_retry _ is_refused = false
 
-abbrev pub interrupts_by : (event : Event) (m : Machine) → ℕ
+abbrev pub interrupts_by : (event : MachineEvent) (m : Machine) → ℕ
 interrupts_by event m =
-    if is_retry event m.is_refused then length (restore_calls (serial_after event m))
+    if is_retry event m.is_refused then length (conditions_due (serial_after event m))
     else calls_by (call_of event) m.serial
 
 abbrev pub feed_calls : (m : Machine) → ℕ
 feed_calls m = if takes_input (noticed m) then step_calls m.serial (Enqueue m.input.items) else 0
 
-abbrev pub reply_to : (event : Event) (m : Machine) → Reply
+abbrev pub reply_to : (event : MachineEvent) (m : Machine) → MachineReply
 reply_to event m = record {
   answer = answer_to event m;
   interrupts = interrupts_by event m + feed_calls (act event m);
-  clock_line = is_line_up (clock_after event m);
+  clock_line = rtc_irq_level (clock_after event m);
 }
 
 -- an event alone: what it answers, how often it asks for the interrupt, and what becomes of the machine
-pub record Acts (event : Event) (answered : Answer) (asked : ℕ) (old new : Machine) : Type 0 where
+pub record Acts (event : MachineEvent) (answered : Answer) (asked : ℕ) (old new : Machine) : Type 0 where
   pub answer : answered ≡ answer_to event old
   pub interrupts : asked ≡ interrupts_by event old
   pub at_most_2 : asked ≤ 2
@@ -206,16 +206,16 @@ pub record Acts (event : Event) (answered : Answer) (asked : ℕ) (old new : Mac
 
 -- ---- several events, in order
 
-abbrev pub after : (events : List Event) (m : Machine) → Machine
+abbrev pub after : (events : List MachineEvent) (m : Machine) → Machine
 after [] m = m
 after (event ∷ events) m = after events (after_event event m)
 
-abbrev pub replies_to : (events : List Event) (m : Machine) → List Reply
+abbrev pub replies_to : (events : List MachineEvent) (m : Machine) → List MachineReply
 replies_to [] m = []
 replies_to (event ∷ events) m = reply_to event m ∷ replies_to events (after_event event m)
 
 -- what each event has, one after the other
-abbrev pub in_each : (of : Event → Machine → List ℕ) (events : List Event) (m : Machine) → List ℕ
+abbrev pub in_each : (of : MachineEvent → Machine → List ℕ) (events : List MachineEvent) (m : Machine) → List ℕ
 in_each of [] m = []
 in_each of (event ∷ events) m = of event m ++ in_each of events (after_event event m)
 
@@ -226,21 +226,21 @@ abbrev pub is_reset_answer : (answer : Answer) → Bool
 is_reset_answer answer.Reset = true
 is_reset_answer _ = false
 
-abbrev pub is_reset_reply : (reply : Reply) → Bool
+abbrev pub is_reset_reply : (reply : MachineReply) → Bool
 is_reset_reply reply = is_reset_answer reply.answer
 
 -- the byte that a read of RBR takes from the FIFO and shows. A reset takes all that are held
-abbrev pub left_at : (event : Event) (m : Machine) → List ℕ
+abbrev pub left_at : (event : MachineEvent) (m : Machine) → List ℕ
 left_at event m =
     if asks_reset event then m.serial.in_buffer
     else option_map_or (λ op.
-    byte_read (kind_in_state m.serial op) m.serial.in_buffer (step_response m.serial op Asked.Nothing Sent.Nothing))
+    byte_read (decode_in m.serial op) m.serial.in_buffer (step_response m.serial op Asked.Nothing Sent.Nothing))
     (call_of event) []
 
 -- the byte that comes back to the guest in loopback
-abbrev pub looped_at : (event : Event) (m : Machine) → List ℕ
+abbrev pub looped_at : (event : MachineEvent) (m : Machine) → List ℕ
 looped_at event m =
-    option_map_or (λ op. accepted_by (kind_in_state m.serial op) m.serial.in_buffer) (call_of event) []
+    option_map_or (λ op. accepted_by (decode_in m.serial op) m.serial.in_buffer) (call_of event) []
 
 -- what left the FIFO, then what is held, is what was held, then what arrived. What arrived is input and looped bytes,
 -- each in order. The input that arrived, then what waits, is what waited, then what was typed
@@ -252,10 +252,10 @@ pub record KeepsInput (left looped typed : List ℕ) (old new : Machine) : Type 
   pub none_lost : input ++ new.input.items ≡ old.input.items ++ typed
 
 -- input may go in after none of these events
-abbrev pub StaysShut : (events : List Event) (m : Machine) → Type 0
+abbrev pub StaysShut : (events : List MachineEvent) (m : Machine) → Type 0
 StaysShut [] m = ⊤
 StaysShut (event ∷ events) m = (is_open (after_event event m) ≡ false) × StaysShut events (after_event event m)
 
 -- then what waits is what waited, and behind it all that was typed
-abbrev pub KeepsOut : (events : List Event) (old new : Machine) → Type 0
+abbrev pub KeepsOut : (events : List MachineEvent) (old new : Machine) → Type 0
 KeepsOut events old new = StaysShut events old → new.input.items ≡ old.input.items ++ in_each typed_by events old

@@ -1,9 +1,9 @@
 -- A monitor as plain data.
 use Rattle.std.specs.Prelude.{◌≡◌, ℕ, max, length}
 use Rattle.circular_buffer.specs.Buffer.{Buffer, buffer}
-use Rattle.superio_core.specs.declared.rtc_pl031.saved_form.RtcState.{RtcState}
+use Rattle.superio_core.specs.declared.rtc_pl031.encoding.RtcState.{RtcState}
 use Rattle.superio_core.specs.Serial.{State}
-use Rattle.superio_core.specs.Saved.{serial_form, clock_form}
+use Rattle.superio_core.specs.Saved.{serial_encoding, clock_encoding}
 use Rattle.superio_examples.specs.Monitor.{Machine}
 use Rattle.superio_examples.specs.Queues.{Waiting}
 use Rattle.superio_examples.specs.declared.saved_monitor.SavedMonitor.{SavedMonitor}
@@ -34,6 +34,6 @@ saved_machine saved serial clock = record {
 
 -- the devices have the saved states, and everything else is as it was saved
 pub record IsSavedAs (saved : SavedMonitor) (m : Machine) : Type 0 where
-  pub serial : saved.serial.items ≡ serial_form m.serial
-  pub clock : saved.clock.items ≡ clock_form m.clock
+  pub serial : saved.serial.items ≡ serial_encoding m.serial
+  pub clock : saved.clock.items ≡ clock_encoding m.clock
   pub rest : m ≡ saved_machine saved m.serial m.clock

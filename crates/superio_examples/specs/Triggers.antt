@@ -16,11 +16,11 @@ pub record TakesCalls
   pub waiting : new.waiting ≡ old.waiting + count_by is_ok answers
   pub limit : new.limit ≡ old.limit
 
--- the law `no_call`: without a call nothing changes
+-- the law `empty`: without a call nothing changes
 pub TakesCalls-nil : {E : Type 0} (old new : InterruptLine) → TakesCalls {E = E} old [] new ↔ (old ≡ new)
 TakesCalls-nil old new = (λ silent. grind arith, λ same. grind arith)
 
--- the law `joined`: calls that follow each other are one list of calls
+-- the law `append`: calls that follow each other are one list of calls
 pub TakesCalls-append :
     {E : Type 0} (old between new : InterruptLine) (first second : List (Result (Unit {0}) E))
     → TakesCalls old first between → TakesCalls between second new → TakesCalls old (first ++ second) new

@@ -6,14 +6,14 @@
 #![tactic(auto, unfolding(superio_core::specs::Bits::has_bits, superio_core::specs::Bits::only_bits, superio_core::specs::Bits::with_bits, superio_core::specs::Bits::without_bits))]
 
 ghost use Rattle.std.specs.Prelude.{◌≡◌, ◌++◌, ◌<◌, length, min, take, true, false, [], IfOk, if◌then◌else◌};
-ghost use Rattle.superio_core.specs.Serial.{CoherentPort, state_of_port, not_empty};
+ghost use Rattle.superio_core.specs.Serial.{CoherentUart, state_of_uart, not_empty};
 ghost use Rattle.superio_core.specs.Serial.Operations.{count_if};
 ghost use Rattle.superio_examples.specs.Echo.{IsOpen, held, pending};
 
 pub mod over_serial;
 
 use std::alloc::{AllocError, Global};
-use superio_core::SerialPort;
+use superio_core::Uart;
 
 /// IER: received data interrupts.
 const IER_RDA_BIT: u8 = 0x01;
@@ -25,27 +25,27 @@ const IIR_NONE_BIT: u8 = 0x01;
 // ---- the driver
 
 /// Whether LSR shows that a byte is held.
-fn has_data(port: &mut SerialPort) -> bool
-    requires coherent { CoherentPort port.old }
+fn has_data(port: &mut Uart) -> bool
+    requires coherent { CoherentUart port.old }
     ensures data { result ≡ not_empty (held port.old) }
-    ensures rest_unchanged { state_of_port port.new ≡ state_of_port port.old }
-    ensures coherent { CoherentPort port.new }
+    ensures rest_unchanged { state_of_uart port.new ≡ state_of_uart port.old }
+    ensures coherent { CoherentUart port.new }
 {
     port.read(5).byte & LSR_DATA_READY_BIT == LSR_DATA_READY_BIT
 }
 
 /// Takes the oldest byte and sends it back.
 #[tactic(auto, using(crate::proofs::EchoLemmas::first_then_others), unfolding(superio_core::specs::Bits::has_bits, superio_core::specs::Bits::only_bits, superio_core::specs::Bits::with_bits, superio_core::specs::Bits::without_bits))]
-fn echo_byte(port: &mut SerialPort, output: &mut Vec<u8>) -> Result<(), AllocError>
-    requires coherent { CoherentPort port.old }
-    requires open { IsOpen (state_of_port port.old) }
+fn echo_byte(port: &mut Uart, output: &mut Vec<u8>) -> Result<(), AllocError>
+    requires coherent { CoherentUart port.old }
+    requires open { IsOpen (state_of_uart port.old) }
     requires idle { pending port.old ≡ 0x01 }
     requires some { 0 < length (held port.old) }
     ensures in_order { IfOk result (λ done. output.new.items ++ held port.new ≡ output.old.items ++ held port.old) }
     ensures fewer { length (held port.new) < length (held port.old) }
-    ensures open { IsOpen (state_of_port port.new) }
+    ensures open { IsOpen (state_of_uart port.new) }
     ensures idle { pending port.new ≡ 0x01 }
-    ensures coherent { CoherentPort port.new }
+    ensures coherent { CoherentUart port.new }
 {
     let byte = port.read(0).byte;
     if port.write(0, byte).sends {
@@ -55,16 +55,16 @@ fn echo_byte(port: &mut SerialPort, output: &mut Vec<u8>) -> Result<(), AllocErr
 }
 
 /// Takes bytes and sends each back, until LSR shows none or it has taken `bound`.
-fn echo_up_to(port: &mut SerialPort, bound: usize, output: &mut Vec<u8>) -> Result<(), AllocError>
-    requires coherent { CoherentPort port.old }
-    requires open { IsOpen (state_of_port port.old) }
+fn echo_up_to(port: &mut Uart, bound: usize, output: &mut Vec<u8>) -> Result<(), AllocError>
+    requires coherent { CoherentUart port.old }
+    requires open { IsOpen (state_of_uart port.old) }
     requires idle { pending port.old ≡ 0x01 }
     ensures in_order { IfOk result (λ done. output.new.items ++ held port.new ≡ output.old.items ++ held port.old) }
     ensures fewer { IfOk result (λ done.
         0 < bound → 0 < length (held port.old) → length (held port.new) < length (held port.old)) }
-    ensures open { IsOpen (state_of_port port.new) }
+    ensures open { IsOpen (state_of_uart port.new) }
     ensures idle { pending port.new ≡ 0x01 }
-    ensures coherent { CoherentPort port.new }
+    ensures coherent { CoherentUart port.new }
 {
     for _ in 0..bound {
         if !has_data(port) {
@@ -76,24 +76,24 @@ fn echo_up_to(port: &mut SerialPort, bound: usize, output: &mut Vec<u8>) -> Resu
 }
 
 /// Whether IIR shows an interrupt.
-fn finds_interrupt(port: &mut SerialPort) -> bool
-    requires coherent { CoherentPort port.old }
-    requires open { IsOpen (state_of_port port.old) }
+fn finds_interrupt(port: &mut Uart) -> bool
+    requires coherent { CoherentUart port.old }
+    requires open { IsOpen (state_of_uart port.old) }
     ensures none { pending port.old ≡ 0x01 → result ≡ false }
     ensures some { pending port.old ≡ 0x04 → result ≡ true }
     ensures idle { pending port.new ≡ 0x01 }
     ensures held { held port.new ≡ held port.old }
-    ensures open { IsOpen (state_of_port port.new) }
-    ensures coherent { CoherentPort port.new }
+    ensures open { IsOpen (state_of_uart port.new) }
+    ensures coherent { CoherentUart port.new }
 {
     port.read(2).byte & IIR_NONE_BIT == 0
 }
 
 /// The handler: reads IIR until nothing is pending, and echoes at most `bound` bytes after each read that shows an
 /// interrupt. As nothing is pending then, the monitor makes a character timeout. Returns how often it interrupts.
-fn run_handler(port: &mut SerialPort, bound: usize, output: &mut Vec<u8>) -> Result<u8, AllocError>
-    requires coherent { CoherentPort port.old }
-    requires open { IsOpen (state_of_port port.old) }
+fn run_handler(port: &mut Uart, bound: usize, output: &mut Vec<u8>) -> Result<u8, AllocError>
+    requires coherent { CoherentUart port.old }
+    requires open { IsOpen (state_of_uart port.old) }
     requires pending { pending port.old ≡ 0x04 }
     requires some { 0 < length (held port.old) }
     requires bound { 0 < bound }
@@ -101,8 +101,8 @@ fn run_handler(port: &mut SerialPort, bound: usize, output: &mut Vec<u8>) -> Res
     ensures fewer { IfOk result (λ due. length (held port.new) < length (held port.old)) }
     ensures due { IfOk result (λ due. due ≡ count_if (not_empty (held port.new))) }
     ensures pending { IfOk result (λ due. pending port.new ≡ (if not_empty (held port.new) then 0x04 else 0x01)) }
-    ensures open { IsOpen (state_of_port port.new) }
-    ensures coherent { CoherentPort port.new }
+    ensures open { IsOpen (state_of_uart port.new) }
+    ensures coherent { CoherentUart port.new }
 {
     while finds_interrupt(port) {
         echo_up_to(port, bound, output)?;
@@ -114,21 +114,21 @@ fn run_handler(port: &mut SerialPort, bound: usize, output: &mut Vec<u8>) -> Res
 
 /// Runs the handler as long as an interrupt is due.
 fn serve(
-    port: &mut SerialPort,
+    port: &mut Uart,
     bound: usize,
     asked: u8,
     output: &mut Vec<u8>,
 ) -> Result<(), AllocError>
-    requires coherent { CoherentPort port.old }
-    requires open { IsOpen (state_of_port port.old) }
+    requires coherent { CoherentUart port.old }
+    requires open { IsOpen (state_of_uart port.old) }
     requires due { asked ≡ count_if (not_empty (held port.old)) }
     requires pending { pending port.old ≡ (if not_empty (held port.old) then 0x04 else 0x01) }
     requires bound { 0 < bound }
     ensures sent { IfOk result (λ done. output.new.items ≡ output.old.items ++ held port.old) }
     ensures none_left { IfOk result (λ done. held port.new ≡ []) }
     ensures idle { IfOk result (λ done. pending port.new ≡ 0x01) }
-    ensures open { IsOpen (state_of_port port.new) }
-    ensures coherent { CoherentPort port.new }
+    ensures open { IsOpen (state_of_uart port.new) }
+    ensures coherent { CoherentUart port.new }
 {
     let mut due = asked;
     while due > 0 {
@@ -139,13 +139,13 @@ fn serve(
 
 /// A piece of input comes, and the driver echoes it. Returns how many of its bytes there was room for.
 fn echo_piece(
-    port: &mut SerialPort,
+    port: &mut Uart,
     bound: usize,
     piece: &[u8],
     output: &mut Vec<u8>,
 ) -> Result<usize, AllocError>
-    requires coherent { CoherentPort port.old }
-    requires open { IsOpen (state_of_port port.old) }
+    requires coherent { CoherentUart port.old }
+    requires open { IsOpen (state_of_uart port.old) }
     requires none_held { held port.old ≡ [] }
     requires idle { pending port.old ≡ 0x01 }
     requires bound { 0 < bound }
@@ -153,24 +153,24 @@ fn echo_piece(
     ensures taken { IfOk result (λ taken. taken ≡ min 64 (length piece.now)) }
     ensures none_left { IfOk result (λ taken. held port.new ≡ []) }
     ensures idle { IfOk result (λ taken. pending port.new ≡ 0x01) }
-    ensures open { IsOpen (state_of_port port.new) }
-    ensures coherent { CoherentPort port.new }
+    ensures open { IsOpen (state_of_uart port.new) }
+    ensures coherent { CoherentUart port.new }
 {
     let enqueued = port.enqueue_raw_bytes(piece);
     serve(port, bound, enqueued.interrupts, output)?;
-    Ok(enqueued.taken)
+    Ok(enqueued.accepted)
 }
 
 /// All input comes: first in pieces of at most these sizes, and then as much at a time as there is room for.
 fn echo_input(
-    port: &mut SerialPort,
+    port: &mut Uart,
     bound: usize,
     input: &[u8],
     pieces: &[usize],
     output: &mut Vec<u8>,
 ) -> Result<(), AllocError>
-    requires coherent { CoherentPort port.old }
-    requires open { IsOpen (state_of_port port.old) }
+    requires coherent { CoherentUart port.old }
+    requires open { IsOpen (state_of_uart port.old) }
     requires none_held { held port.old ≡ [] }
     requires idle { pending port.old ≡ 0x01 }
     requires bound { 0 < bound }
@@ -207,7 +207,7 @@ pub fn echo(
     requires bound { 0 < bound }
     ensures sent { IfOk result (λ output. output.items ≡ input.now) }
 {
-    let mut port = SerialPort::new();
+    let mut port = Uart::new();
     let mut output = Vec::new(alloc);
     port.write(1, IER_RDA_BIT);
     echo_input(&mut port, bound, input, pieces, &mut output)?;

@@ -3,7 +3,7 @@
 #![tactic(auto, unfolding(superio_core::specs::Bits::has_bits, superio_core::specs::Bits::only_bits, superio_core::specs::Bits::with_bits))]
 
 ghost use Rattle.std.specs.Prelude.{◌≡◌, ◌+◌, ◌-◌, ◌<◌, ◌^◌, [], ◌∷◌, ◌++◌, take, length, true, false, IsTrue, IfOk, IfErr, OnOk};
-ghost use Rattle.vm_superio.specs.Claims.{held, shows_data, is_outside, is_inside, wants_data, data_pending};
+ghost use Rattle.vm_superio.specs.Claims.{held, dlab_clear, not_in_loopback, in_loopback, rda_enabled, data_pending};
 ghost use Rattle.vm_superio.specs.Claims.{SameSettings, has_bits, not_empty, Coherent, is_reset_command, fresh_clock};
 ghost use Rattle.std.specs.Int.{w32, to_le_bytes};
 ghost use Rattle.std.specs.Io.KnownBytes.{Appends};
@@ -23,8 +23,8 @@ pub fn enqueued_is_read<T: Trigger, EV: SerialEvents, W: Write>(
     serial: &mut Serial<T, EV, W>,
     byte: u8,
 ) -> u8
-    requires data { shows_data serial.old }
-    requires outside { is_outside serial.old }
+    requires data { dlab_clear serial.old }
+    requires outside { not_in_loopback serial.old }
     requires empty { held serial.old ≡ [] }
     ensures { result ≡ byte }
 {
@@ -37,7 +37,7 @@ pub fn enqueued_is_read<T: Trigger, EV: SerialEvents, W: Write>(
 pub fn read_takes_oldest<T: Trigger, EV: SerialEvents, W: Write>(
     serial: &mut Serial<T, EV, W>,
 ) -> u8
-    requires data { shows_data serial.old }
+    requires data { dlab_clear serial.old }
     requires some { 0 < length (held serial.old) }
     ensures oldest { result ∷ held serial.new ≡ held serial.old }
     ensures settings { SameSettings serial.old.state serial.new.state }
@@ -51,7 +51,7 @@ pub fn read_all<T: Trigger, EV: SerialEvents, W: Write>(
     alloc: Global,
     serial: &mut Serial<T, EV, W>,
 ) -> Result<Vec<u8>, AllocError>
-    requires data { shows_data serial.old }
+    requires data { dlab_clear serial.old }
     ensures { IfOk result (λ read. read.items ≡ held serial.old) }
 {
     let count = 64 - serial.fifo_capacity();
@@ -67,7 +67,7 @@ pub fn full_accepts_nothing<T: Trigger, EV: SerialEvents, W: Write>(
     serial: &mut Serial<T, EV, W>,
     more: u8,
 ) -> Result<usize, Error<T::E>>
-    requires outside { is_outside serial.old }
+    requires outside { not_in_loopback serial.old }
     requires full { length (held serial.old) ≡ 64 }
     ensures reply { result ≡ Err Error.FullFifo }
     ensures same { serial.new ≡ serial.old }
@@ -80,7 +80,7 @@ pub fn refused_keeps_bytes<T: Trigger, EV: SerialEvents, W: Write>(
     serial: &mut Serial<T, EV, W>,
     bytes: &[u8],
 ) -> Result<usize, Error<T::E>>
-    requires outside { is_outside serial.old }
+    requires outside { not_in_loopback serial.old }
     ensures { (refusal : T.E) → result ≡ Err (Error.Trigger refusal) →
         held serial.new ≡ held serial.old ++ take (64 - length (held serial.old)) bytes.now }
 {
@@ -94,8 +94,8 @@ pub fn sent_is_appended<T: Trigger, EV: SerialEvents, W: Write>(
     serial: &mut Serial<T, EV, W>,
     byte: u8,
 ) -> Result<(), Error<T::E>>
-    requires data { shows_data serial.old }
-    requires outside { is_outside serial.old }
+    requires data { dlab_clear serial.old }
+    requires outside { not_in_loopback serial.old }
     ensures { OnOk result (Appends (W.contents serial.old.out) (W.contents serial.new.out) (byte ∷ [])) }
 {
     serial.write(0, byte)
@@ -106,8 +106,8 @@ pub fn loopback_returns_byte<T: Trigger, EV: SerialEvents, W: Write>(
     serial: &mut Serial<T, EV, W>,
     sent: u8,
 ) -> u8
-    requires data { shows_data serial.old }
-    requires inside { is_inside serial.old }
+    requires data { dlab_clear serial.old }
+    requires inside { in_loopback serial.old }
     requires empty { held serial.old ≡ [] }
     ensures back { result ≡ sent }
     ensures out { serial.new.out ≡ serial.old.out }
@@ -147,7 +147,7 @@ pub fn line_status_shows_data<T: Trigger, EV: SerialEvents, W: Write>(
 
 /// A guest that enables received data while a byte waits is interrupted once.
 pub fn enabling_calls_once<EV: SerialEvents, W: Write>(serial: &mut Serial<Counter, EV, W>)
-    requires data { shows_data serial.old }
+    requires data { dlab_clear serial.old }
     requires some { 0 < length (held serial.old) }
     requires none_pending { data_pending serial.old ≡ false }
     requires countable { serial.old.trigger.calls < 1000 }
@@ -171,7 +171,7 @@ pub fn timeout_shows_data<T: Trigger, EV: SerialEvents, W: Write>(
     serial: &mut Serial<T, EV, W>,
 ) -> u8
     requires some { IsTrue (not_empty (held serial.old)) }
-    requires wanted { IsTrue (wants_data serial.old) }
+    requires wanted { IsTrue (rda_enabled serial.old) }
     ensures { IsTrue (has_bits result 0x04) }
 {
     let _answer = serial.character_timeout();

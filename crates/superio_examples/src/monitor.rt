@@ -1,16 +1,16 @@
 //! A whole monitor without its virtual processor: the devices of a machine, its input and its output, as one struct.
 //!
-//! A loop around it makes [`Event`]s of what its hypervisor, its terminal and its timers report, passes them to
+//! A loop around it makes [`MachineEvent`]s of what its hypervisor, its terminal and its timers report, passes them to
 //! [`Monitor::run`], and carries out the replies. What `run` claims rests on no object: it calls none.
 ghost use Rattle.std.specs.Prelude.{◌≡◌, ◌≤◌, map, OnOk, OnErr, IfOk};
 
 use crate::bus::{COM1, I8042_COMMAND, I8042_DATA, serial_offset};
 use crate::mmio::offset_in;
-use crate::queues::{Input, Output, shows_ready};
+use crate::queues::{InputQueue, OutputQueue, shows_ready};
 use crate::timed_read::read_timed;
 use std::alloc::{AllocError, Global};
 use superio_core::fifo::FIFO_SIZE;
-use superio_core::{Clock, SerialPort, is_reset_command};
+use superio_core::{Pl031, Uart, is_reset_command};
 
 /// The offset of the command port.
 const COMMAND_OFFSET: u8 = (I8042_COMMAND - I8042_DATA) as u8;
@@ -23,7 +23,7 @@ const CLOCK: u64 = 0x0901_0000;
 
 /// What happens to a machine.
 #[derive(Clone, Copy, Debug, Eq, PartialEq)]
-pub enum Event {
+pub enum MachineEvent {
     /// The guest reads the byte at this port.
     PortRead(u16),
     /// The guest writes this byte at this port.
@@ -57,7 +57,7 @@ pub enum Answer {
 
 /// What an event returns, and what is left to do.
 #[derive(Clone, Copy, Debug, Eq, PartialEq)]
-pub struct Reply {
+pub struct MachineReply {
     pub answer: Answer,
     /// How often to raise the serial port's interrupt.
     pub interrupts: u8,
@@ -69,18 +69,18 @@ pub struct Reply {
 #[derive(Drop)]
 pub struct Monitor {
     /// The serial port, at COM1.
-    pub port: SerialPort,
+    pub port: Uart,
     /// The clock, at 0x0901_0000.
-    pub clock: Clock,
+    pub clock: Pl031,
     /// What was typed, until the serial port has room.
-    pub input: Input,
+    pub input: InputQueue,
     /// What the guest sent, until a sink takes it.
-    pub output: Output,
+    pub output: OutputQueue,
     /// The host's time, in seconds since 1970.
     pub moment: u64,
     /// An interrupt was refused since the last timer.
     pub is_refused: bool,
-    /// Input goes in although the guest is not ready, as one that polls needs it. False in a new monitor.
+    /// InputQueue goes in although the guest is not ready, as one that polls needs it. False in a new monitor.
     pub is_early: bool,
     /// The guest has enabled RDA and not THRE since the last reset. No test of a port does so.
     pub is_ready: bool,
@@ -88,7 +88,7 @@ pub struct Monitor {
 
 impl Monitor {
     ghost use Rattle.superio_examples.specs.Monitor.{machine_of, new_machine, fed, after_event, after};
-    ghost use Rattle.superio_examples.specs.declared.monitor.Event.{Event};
+    ghost use Rattle.superio_examples.specs.declared.monitor.MachineEvent.{MachineEvent};
     ghost use Rattle.superio_examples.specs.Monitor.{in_each, sent_at, left_at, looped_at, typed_by, KeepsInput, KeepsOut};
     ghost use Rattle.superio_examples.specs.Monitor.{is_reset_reply, asks_reset};
     ghost use Rattle.superio_examples.specs.Queues.{after_sent};
@@ -103,10 +103,10 @@ impl Monitor {
         ensures { IfOk result (λ monitor. machine_of monitor ≡ new_machine input output) }
     {
         Ok(Monitor {
-            port: SerialPort::new(),
-            clock: Clock::new(),
-            input: Input::new(alloc, input)?,
-            output: Output::new(alloc, output)?,
+            port: Uart::new(),
+            clock: Pl031::new(),
+            input: InputQueue::new(alloc, input)?,
+            output: OutputQueue::new(alloc, output)?,
             moment: 0,
             is_refused: false,
             is_early: false,
@@ -119,7 +119,7 @@ impl Monitor {
     /// # Errors
     ///
     /// Returns `AllocError` if memory is refused for the replies. Then no event was made.
-    pub fn run(&mut self, alloc: Global, events: &[Event]) -> Result<Vec<Reply>, AllocError>
+    pub fn run(&mut self, alloc: Global, events: &[MachineEvent]) -> Result<Vec<MachineReply>, AllocError>
         ensures replies { IfOk result (λ replies. replies.items ≡ replies_to events.now (machine_of self.old)) }
         ensures machine { OnOk result (machine_of self.new ≡ after events.now (machine_of self.old)) }
         ensures refused { OnErr result (self.new ≡ self.old) }
@@ -142,14 +142,14 @@ impl Monitor {
     }
 
     /// Makes an event.
-    pub fn step(&mut self, event: Event) -> Reply
+    pub fn step(&mut self, event: MachineEvent) -> MachineReply
         ensures reply { result ≡ reply_to event (machine_of self.old) }
         ensures machine { machine_of self.new ≡ after_event event (machine_of self.old) }
     {
         let (answer, asked) = self.act(event);
         let clock_line = self.clock.interrupt_line();
         let fed = self.feed();
-        Reply {
+        MachineReply {
             answer,
             interrupts: asked + fed,
             clock_line,
@@ -157,21 +157,21 @@ impl Monitor {
     }
 
     /// Makes an event alone. Returns the answer, and how often to raise the interrupt.
-    fn act(&mut self, event: Event) -> (Answer, u8)
+    fn act(&mut self, event: MachineEvent) -> (Answer, u8)
         ensures acts { Acts event result.0 result.1 (machine_of self.old) (machine_of self.new) }
     {
         match event {
-            Event::PortRead(port) => self.read_port(port),
-            Event::PortWrite(port, value) => self.write_port(port, value),
-            Event::MemoryRead(address) => self.read_memory(address),
-            Event::MemoryWrite(address, value) => self.write_memory(address, value),
-            Event::Typed(byte) => self.take_typed(byte),
-            Event::Moment(moment) => {
+            MachineEvent::PortRead(port) => self.read_port(port),
+            MachineEvent::PortWrite(port, value) => self.write_port(port, value),
+            MachineEvent::MemoryRead(address) => self.read_memory(address),
+            MachineEvent::MemoryWrite(address, value) => self.write_memory(address, value),
+            MachineEvent::Typed(byte) => self.take_typed(byte),
+            MachineEvent::Moment(moment) => {
                 self.moment = moment;
                 (Answer::Done, 0)
             }
-            Event::Timer => self.time_out(),
-            Event::Refused => {
+            MachineEvent::Timer => self.time_out(),
+            MachineEvent::Refused => {
                 self.is_refused = true;
                 (Answer::Done, 0)
             }
@@ -181,7 +181,7 @@ impl Monitor {
     /// A guest's read of a port. One of IIR that shows nothing pending is followed by a character timeout, so that
     /// bytes which the guest left in the FIFO interrupt it again.
     fn read_port(&mut self, port: u16) -> (Answer, u8)
-        ensures acts { Acts (Event.PortRead port) result.0 result.1 (machine_of self.old) (machine_of self.new) }
+        ensures acts { Acts (MachineEvent.PortRead port) result.0 result.1 (machine_of self.old) (machine_of self.new) }
     {
         match (serial_offset(COM1, port), port) {
             (Some(offset), _) => {
@@ -195,7 +195,7 @@ impl Monitor {
 
     /// A guest's write of a port. A byte that it sends waits in the output.
     fn write_port(&mut self, port: u16, value: u8) -> (Answer, u8)
-        ensures acts { Acts (Event.PortWrite port value) result.0 result.1 (machine_of self.old) (machine_of self.new) }
+        ensures acts { Acts (MachineEvent.PortWrite port value) result.0 result.1 (machine_of self.old) (machine_of self.new) }
     {
         match (serial_offset(COM1, port), port) {
             (Some(offset), _) => {
@@ -206,7 +206,7 @@ impl Monitor {
                 (Answer::Done, effects.interrupts)
             }
             (None, I8042_COMMAND) if is_reset_command(COMMAND_OFFSET, value) => {
-                self.port = SerialPort::new();
+                self.port = Uart::new();
                 self.is_ready = false;
                 (Answer::Reset, 0)
             }
@@ -216,7 +216,7 @@ impl Monitor {
 
     /// A guest's read of memory.
     fn read_memory(&mut self, address: u64) -> (Answer, u8)
-        ensures acts { Acts (Event.MemoryRead address) result.0 result.1 (machine_of self.old) (machine_of self.new) }
+        ensures acts { Acts (MachineEvent.MemoryRead address) result.0 result.1 (machine_of self.old) (machine_of self.new) }
     {
         match offset_in(CLOCK, address) {
             Some(offset) => {
@@ -229,7 +229,7 @@ impl Monitor {
 
     /// A guest's write of memory.
     fn write_memory(&mut self, address: u64, value: u32) -> (Answer, u8)
-        ensures acts { Acts (Event.MemoryWrite address value) result.0 result.1 (machine_of self.old)
+        ensures acts { Acts (MachineEvent.MemoryWrite address value) result.0 result.1 (machine_of self.old)
             (machine_of self.new) }
     {
         if let Some(offset) = offset_in(CLOCK, address) {
@@ -240,7 +240,7 @@ impl Monitor {
 
     /// A typed byte waits if there is room.
     fn take_typed(&mut self, byte: u8) -> (Answer, u8)
-        ensures acts { Acts (Event.Typed byte) result.0 result.1 (machine_of self.old) (machine_of self.new) }
+        ensures acts { Acts (MachineEvent.Typed byte) result.0 result.1 (machine_of self.old) (machine_of self.new) }
     {
         if self.input.room() == 0 {
             return (Answer::Full, 0);
@@ -251,7 +251,7 @@ impl Monitor {
 
     /// A timer: the clock finds its alarm, bytes that are held interrupt the guest, and refused interrupts are retried.
     fn time_out(&mut self) -> (Answer, u8)
-        ensures acts { Acts Event.Timer result.0 result.1 (machine_of self.old) (machine_of self.new) }
+        ensures acts { Acts MachineEvent.Timer result.0 result.1 (machine_of self.old) (machine_of self.new) }
     {
         self.clock.read(RTCMIS, self.moment);
         let raised = self.port.character_timeout();
@@ -265,7 +265,7 @@ impl Monitor {
     }
 
     /// Gives the serial port input if it holds no byte and input may go in, and returns how often to raise the
-    /// interrupt. Input may go in from the event on by which the guest is ready.
+    /// interrupt. InputQueue may go in from the event on by which the guest is ready.
     fn feed(&mut self) -> u8
         ensures interrupts { result ≡ feed_calls (machine_of self.old) }
         ensures at_most_1 { result ≤ 1 }

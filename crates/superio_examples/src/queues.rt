@@ -4,7 +4,7 @@ ghost use Rattle.std.specs.Prelude.{◌≡◌, ◌≤◌, ◌-◌, ◌==◌, ℕ
 ghost use Rattle.std.specs.Io.{WritesAtMost};
 ghost use Rattle.std.specs.Io.KnownBytes.{WriteAppends, Keeps};
 ghost use Rattle.circular_buffer.specs.Buffer.{Buffer, buffer};
-ghost use Rattle.vm_superio.specs.Serial.{state_of_port, CoherentPort, Asked, Enqueue, step_calls, step};
+ghost use Rattle.vm_superio.specs.Serial.{state_of_uart, CoherentUart, Asked, Enqueue, step_calls, step};
 ghost use Rattle.superio_examples.specs.Queues.{room_in, shows_ready, Waiting, OutputLaw, after_sent, dropped_by};
 
 use circular_buffer::HeapCircularBuffer;
@@ -12,34 +12,34 @@ use std::alloc::{AllocError, Global};
 use std::io;
 use std::io::Write;
 use std::marker::Model;
-use superio_core::SerialPort;
+use superio_core::Uart;
 
 // ---- input
 
 /// The bytes that wait for the guest, oldest first, in a ring. Their number is limited, and `new` allocates the memory
 /// for this limit. In contracts the bytes are `items`, and the limit is `capacity`.
 #[derive(Drop)]
-pub struct Input {
+pub struct InputQueue {
     waiting: HeapCircularBuffer<u8>,
 }
 
-impl Model for Input {
+impl Model for InputQueue {
     ghost Value = { Buffer ℕ };
 
     ghost view = { λ input. input.waiting };
 }
 
-impl Input {
+impl InputQueue {
     /// An empty queue of at most `limit` bytes.
     ///
     /// # Errors
     ///
     /// Returns `AllocError` if the allocator refuses memory.
-    pub fn new(alloc: Global, limit: usize) -> Result<Input, AllocError>
+    pub fn new(alloc: Global, limit: usize) -> Result<InputQueue, AllocError>
         ensures { IfOk result (λ input. input ≡ buffer [] limit) }
     {
         let waiting = HeapCircularBuffer::with_capacity(alloc, limit)?;
-        Ok(Input { waiting })
+        Ok(InputQueue { waiting })
     }
 
     /// A queue where these bytes wait, and at most `limit`, or as many as wait now if these are more.
@@ -47,10 +47,10 @@ impl Input {
     /// # Errors
     ///
     /// Returns `AllocError` if the allocator refuses memory.
-    pub fn restored(alloc: Global, waiting: &[u8], limit: usize) -> Result<Input, AllocError>
+    pub fn restored(alloc: Global, waiting: &[u8], limit: usize) -> Result<InputQueue, AllocError>
         ensures { IfOk result (λ input. input ≡ buffer waiting.now (max limit (length waiting.now))) }
     {
-        let mut input = Input::new(alloc, limit.max(waiting.len()))?;
+        let mut input = InputQueue::new(alloc, limit.max(waiting.len()))?;
         input.push(waiting);
         Ok(input)
     }
@@ -92,16 +92,16 @@ impl Input {
 
     /// Gives the port the first waiting bytes, as many as its FIFO has room for: 0 to 64, and none in loopback. The
     /// others stay. Returns how often to raise the interrupt: 0 or 1 times.
-    pub fn feed(&mut self, port: &mut SerialPort) -> u8
-        ensures port { state_of_port port.new ≡ step (state_of_port port.old) (Enqueue self.old.items) Asked.Nothing }
-        ensures room { self.new ≡ buffer (drop (room_in (state_of_port port.old)) self.old.items) self.old.capacity }
-        ensures interrupts { result ≡ step_calls (state_of_port port.old) (Enqueue self.old.items) }
+    pub fn feed(&mut self, port: &mut Uart) -> u8
+        ensures port { state_of_uart port.new ≡ step (state_of_uart port.old) (Enqueue self.old.items) Asked.Nothing }
+        ensures room { self.new ≡ buffer (drop (room_in (state_of_uart port.old)) self.old.items) self.old.capacity }
+        ensures interrupts { result ≡ step_calls (state_of_uart port.old) (Enqueue self.old.items) }
         ensures at_most_1 { result ≤ 1 }
-        ensures coherent { CoherentPort port.old → CoherentPort port.new }
+        ensures coherent { CoherentUart port.old → CoherentUart port.new }
     {
         let enqueued = port.enqueue_raw_bytes(self.waiting.make_contiguous());
         self.waiting
-            .truncate_front(self.waiting.len() - enqueued.taken);
+            .truncate_front(self.waiting.len() - enqueued.accepted);
         enqueued.interrupts
     }
 }
@@ -118,16 +118,16 @@ pub(crate) fn shows_ready(enable: u8) -> bool
 /// The bytes that wait for the monitor's sink, oldest first, in a ring. Their number is limited, and `new` allocates
 /// the memory for this limit. A byte that finds no room is dropped, and counted.
 ///
-/// A monitor passes each byte that the guest sends to [`Output::push`]. An `Output` may also be a port's own writer.
+/// A monitor passes each byte that the guest sends to [`OutputQueue::push`]. An `OutputQueue` may also be a port's own writer.
 /// Then the guest's write returns an I/O error of the kind `WriteZero` for a byte that is dropped, which the monitor
 /// can log, and no contract says what the output holds after an I/O error.
 #[derive(Drop)]
-pub struct Output {
+pub struct OutputQueue {
     ring: HeapCircularBuffer<u8>,
     dropped: u64,
 }
 
-impl Model for Output {
+impl Model for OutputQueue {
     ghost Value = { Waiting };
 
     ghost view = { λ output. record {
@@ -137,17 +137,17 @@ impl Model for Output {
     } };
 }
 
-impl Output {
+impl OutputQueue {
     /// An empty output, where at most `limit` bytes may wait.
     ///
     /// # Errors
     ///
     /// Returns `AllocError` if the allocator refuses memory.
-    pub fn new(alloc: Global, limit: usize) -> Result<Output, AllocError>
+    pub fn new(alloc: Global, limit: usize) -> Result<OutputQueue, AllocError>
         ensures { IfOk result (λ output. output ≡ record { items = []; capacity = limit; dropped = 0 }) }
     {
         let ring = HeapCircularBuffer::with_capacity(alloc, limit)?;
-        Ok(Output { ring, dropped: 0 })
+        Ok(OutputQueue { ring, dropped: 0 })
     }
 
     /// An output where these bytes wait, and `dropped` were dropped. At most `limit` may wait, or as many as wait now
@@ -161,7 +161,7 @@ impl Output {
         waiting: &[u8],
         limit: usize,
         dropped: u64,
-    ) -> Result<Output, AllocError>
+    ) -> Result<OutputQueue, AllocError>
         ensures { IfOk result (λ output. output ≡ record {
           items = waiting.now;
           capacity = max limit (length waiting.now);
@@ -170,7 +170,7 @@ impl Output {
     {
         let mut ring = HeapCircularBuffer::with_capacity(alloc, limit.max(waiting.len()))?;
         ring.fill_from_slice(waiting);
-        Ok(Output { ring, dropped })
+        Ok(OutputQueue { ring, dropped })
     }
 
     /// How many bytes may wait.
@@ -233,7 +233,7 @@ impl Output {
     }
 }
 
-impl Write for Output {
+impl Write for OutputQueue {
     ghost contents = { λ output. Some output.items };
 
     /// Takes the first of these bytes, as many as there is room for, and returns how many. If there is room for none,

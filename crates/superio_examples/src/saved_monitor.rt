@@ -8,10 +8,10 @@ ghost use Rattle.superio_examples.specs.Monitor.{machine_of};
 ghost use Rattle.superio_examples.specs.SavedMonitor.{IsSavedAs, saved_input, saved_output};
 
 use crate::monitor::Monitor;
-use crate::queues::{Input, Output};
+use crate::queues::{InputQueue, OutputQueue};
 use std::alloc::{AllocError, Global};
-use superio_core::{Clock, RtcState, SerialPort};
-use vm_superio::saved::Error;
+use superio_core::{Pl031, RtcState, Uart};
+use vm_superio::saved::LoadError;
 
 /// A saved monitor.
 #[derive(Debug, Drop, Eq, PartialEq)]
@@ -34,7 +34,7 @@ pub struct SavedMonitor {
     pub moment: u64,
     /// An interrupt was refused since the last timer.
     pub is_refused: bool,
-    /// Input goes in although the guest is not ready.
+    /// InputQueue goes in although the guest is not ready.
     pub is_early: bool,
     /// The guest has shown that it is ready since the last reset.
     pub is_ready: bool,
@@ -70,12 +70,12 @@ pub fn save_monitor(alloc: Global, monitor: &Monitor) -> Result<SavedMonitor, Al
 ///
 /// Returns the first check that fails, of the clock's bytes and then of the serial port's, and otherwise `Memory` if
 /// memory is refused.
-pub fn restore_monitor(alloc: Global, saved: &SavedMonitor) -> Result<Monitor, Error>
+pub fn restore_monitor(alloc: Global, saved: &SavedMonitor) -> Result<Monitor, LoadError>
     ensures saved { IfOk result (λ monitor. IsSavedAs saved.now (machine_of monitor)) }
     ensures clock { IfOk result (λ monitor. IsClock (state_of_clock monitor.clock)) }
 {
-    let clock = Clock::from_state(&RtcState::from_bytes(&saved.clock)?);
-    let port = SerialPort::from_bytes(&saved.serial)?;
+    let clock = Pl031::from_state(&RtcState::from_bytes(&saved.clock)?);
+    let port = Uart::from_bytes(&saved.serial)?;
     match queues(alloc, saved) {
         Ok((input, output)) => Ok(Monitor {
             port,
@@ -87,17 +87,17 @@ pub fn restore_monitor(alloc: Global, saved: &SavedMonitor) -> Result<Monitor, E
             is_early: saved.is_early,
             is_ready: saved.is_ready,
         }),
-        Err(AllocError) => Err(Error::Memory),
+        Err(AllocError) => Err(LoadError::Memory),
     }
 }
 
 /// The input and the output of a saved monitor.
-fn queues(alloc: Global, saved: &SavedMonitor) -> Result<(Input, Output), AllocError>
+fn queues(alloc: Global, saved: &SavedMonitor) -> Result<(InputQueue, OutputQueue), AllocError>
     ensures input { IfOk result (λ queues. queues.0 ≡ saved_input saved.now) }
     ensures output { IfOk result (λ queues. queues.1 ≡ saved_output saved.now) }
 {
-    let input = Input::restored(alloc, &saved.input, saved.input_limit)?;
-    let output = Output::restored(alloc, &saved.output, saved.output_limit, saved.dropped)?;
+    let input = InputQueue::restored(alloc, &saved.input, saved.input_limit)?;
+    let output = OutputQueue::restored(alloc, &saved.output, saved.output_limit, saved.dropped)?;
     Ok((input, output))
 }
 
@@ -107,13 +107,13 @@ fn queues(alloc: Global, saved: &SavedMonitor) -> Result<(Input, Output), AllocE
 /// # Errors
 ///
 /// Returns `Memory` if memory is refused.
-pub fn move_monitor(alloc: Global, monitor: &Monitor) -> Result<Monitor, Error>
+pub fn move_monitor(alloc: Global, monitor: &Monitor) -> Result<Monitor, LoadError>
     ensures machine { IfOk result (λ moved. machine_of moved ≡ machine_of monitor.now) }
 {
     numbers_fit(monitor.clock.state());
     match save_monitor(alloc, monitor) {
         Ok(saved) => restore_monitor(alloc, &saved),
-        Err(AllocError) => Err(Error::Memory),
+        Err(AllocError) => Err(LoadError::Memory),
     }
 }
 

@@ -3,8 +3,8 @@
 //! some interrupts and refuses the others, with a link of its own.
 ghost use Rattle.std.specs.Prelude.{◌≡◌, ◌<◌, ◌≤◌, ◌-◌, ◌==◌, not, [], ◌∷◌, OnOk, OnErr};
 ghost use Rattle.std.specs.Io.KnownBytes.{Appends};
-ghost use Rattle.vm_superio.specs.Links.ForAnyObject.{FoldsEvents, FoldsEvents-nil, FoldsEvents-append};
-ghost use Rattle.vm_superio.specs.Links.ForAnyObject.{Unspecified, Unspecified-nil, Unspecified-append};
+ghost use Rattle.vm_superio.specs.Links.ForAnyObject.{FoldsCalls, FoldsCalls-nil, FoldsCalls-append};
+ghost use Rattle.vm_superio.specs.Links.ForAnyObject.{AnyCalls, AnyCalls-nil, AnyCalls-append};
 ghost use Rattle.superio_examples.specs.Triggers.{after_call, TakesCalls, TakesCalls-nil, TakesCalls-append};
 
 use std::convert::Infallible;
@@ -25,11 +25,11 @@ pub struct EventFd<W: Write> {
 impl<W: Write> Trigger for EventFd<W> {
     type E = io::Error;
 
-    ghost link = { Unspecified };
+    ghost link = { AnyCalls };
 
-    ghost no_call = { Unspecified-nil };
+    ghost empty = { AnyCalls-nil };
 
-    ghost joined = { Unspecified-append };
+    ghost append = { AnyCalls-append };
 
     /// Adds 1 to the descriptor's counter: writes eight bytes.
     ///
@@ -37,7 +37,7 @@ impl<W: Write> Trigger for EventFd<W> {
     ///
     /// Returns the write's error. From a nonblocking descriptor, `WouldBlock` says that its counter is full.
     fn trigger(&mut self) -> io::Result<()>
-        ensures link { Unspecified self.old (result ∷ []) self.new }
+        ensures link { AnyCalls self.old (result ∷ []) self.new }
         ensures written { OnOk result (Appends (W.contents self.old.file) (W.contents self.new.file)
             (1 ∷ 0 ∷ 0 ∷ 0 ∷ 0 ∷ 0 ∷ 0 ∷ 0 ∷ [])) }
     {
@@ -78,14 +78,14 @@ impl Counter {
 impl Trigger for Counter {
     type E = Infallible;
 
-    ghost link = { FoldsEvents after_call };
+    ghost link = { FoldsCalls after_call };
 
-    ghost no_call = { FoldsEvents-nil };
+    ghost empty = { FoldsCalls-nil };
 
-    ghost joined = { FoldsEvents-append };
+    ghost append = { FoldsCalls-append };
 
     fn trigger(&mut self) -> Result<(), Infallible>
-        ensures link { FoldsEvents after_call self.old (result ∷ []) self.new }
+        ensures link { FoldsCalls after_call self.old (result ∷ []) self.new }
         ensures taken { result ≡ Ok tt }
     {
         let calls = &mut self.calls;
@@ -143,9 +143,9 @@ impl Trigger for InterruptLine {
 
     ghost link = { TakesCalls };
 
-    ghost no_call = { TakesCalls-nil };
+    ghost empty = { TakesCalls-nil };
 
-    ghost joined = { TakesCalls-append };
+    ghost append = { TakesCalls-append };
 
     /// One more interrupt waits, if there is room.
     ///

@@ -8,12 +8,12 @@
 #![tactic(auto)]
 
 ghost use Rattle.superio_laws.specs.Serial.Laws.{RegisterLaw, HeldBytesLaw, LineStatusLaw, InterruptLaw, CoherenceLaw, StateLaw, ResponseLaw, StepLaw, CallLaw, RetryLaw, WholeRunLaw};
-ghost use Rattle.superio_laws.specs.Serial.Laws.Consequences.{PendingByPrefixesLaw, TriggerBoundLaw, WaitingBytesLaw, SameReadsLaw, TakenThenHeldLaw, ReadsAreTakenLaw, ReadThenHeldLaw, OutputLaw, PollingDriverLaw, DriverGetsAllLaw, PollsAfterDataReadyLaw};
-ghost use Rattle.superio_laws.specs.Serial.Laws.Line.{NoByteWaitsLaw, TimeoutCallsLaw, TimeoutsShowLaw, OwedAfterRunLaw, TakenAfterRunsLaw, LineAfterLaw, UpAfterCallLaw, GoesUpLaw, StaysUpLaw, LineOfHistoryLaw};
+ghost use Rattle.superio_laws.specs.Serial.Laws.Consequences.{PendingByPrefixesLaw, TriggerBoundLaw, WaitingBytesLaw, SameReadsLaw, ReadOutThenHeldLaw, RepliesAreReadOutLaw, ReadThenHeldLaw, OutputLaw, PollingDriverLaw, DriverGetsAllLaw, PollsAfterDataReadyLaw};
+ghost use Rattle.superio_laws.specs.Serial.Laws.Line.{NoByteWaitsLaw, TimeoutCallsLaw, RdaFollowsTimeoutsLaw, InterruptAfterPassLaw, ReadOutAfterPassesLaw, LineAfterLaw, UpAfterCallLaw, GoesUpLaw, StaysUpLaw, LineOfHistoryLaw};
 ghost use Rattle.superio_laws.specs.Serial.Laws.Transmit.{IerWriteAsksLaw, ThrWriteAsksLaw, RefusedWriteLaw, RetriedLaw, CalledSinceLaw};
-ghost use Rattle.superio_laws.specs.Serial.Laws.Console.{AskedToTakeLaw, AskedToSendLaw, TakenInRunsLaw, SentInRunsLaw, HandlerRunLaw, HandlerEndsLaw};
+ghost use Rattle.superio_laws.specs.Serial.Laws.Console.{InterruptToReadLaw, InterruptToSendLaw, ReadOutInPassesLaw, SentInPassesLaw, HandlerRunLaw, HandlerEndsLaw};
 ghost use Rattle.superio_laws.specs.Rtc.{ClockIsHistory, RawBitsByHistory, AlarmDueByHistory, SetTimeLaw};
-ghost use Rattle.superio_laws.specs.Serial.Laws.PortRun.{PortRunLaw, PortOutputLaw, PortBoundLaw};
+ghost use Rattle.superio_laws.specs.Serial.Laws.UartRun.{UartRunLaw, UartOutputLaw, UartBoundLaw};
 ghost use Rattle.superio_laws.specs.Serial.Laws.OneCall.{OneCallLaw, OneReadLaw, ReceivedLaw, RbrReadLaw, RbrDataReadyLaw, ThrWriteLaw, OutcomeEventsLaw, TurnedBitsLaw};
 
 /// From any start, each register that stores writes holds its last effective one, and MSR never changes.
@@ -31,7 +31,7 @@ pub fn held_bytes()
 {}
 
 /// The interrupt law, from a start whose IIR is 1, 2, 4 or 6: IIR shows the conditions raised and not acknowledged
-/// since, an entry is admissible exactly if it is well-formed, and a restore makes the trigger calls that are due. The
+/// since, an entry is fitting exactly if it is fitting, and a restore makes the trigger calls that are due. The
 /// trace may contain refused trigger calls and IER writes that end early.
 pub fn interrupts()
     ensures { InterruptLaw }
@@ -62,7 +62,7 @@ pub fn steps_of_history()
     by_lemmas();
 }
 
-/// From a coherent start, a call in the state that a trace leads to is well-formed there, replies as the history says,
+/// From a coherent start, a call in the state that a trace leads to is fitting there, replies as the history says,
 /// and leaves the state of the trace with its entry added. The premises are the fields of the call's clause `step`.
 pub fn calls_of_history()
     ensures { CallLaw }
@@ -78,22 +78,22 @@ pub fn retries_of_history()
     by_lemmas();
 }
 
-/// From a coherent start, entries connected by steps form a well-formed trace with these responses. They end in the
+/// From a coherent start, entries connected by steps form a fitting trace with these responses. They end in the
 /// state that it leads to, which is coherent.
 #[tactic(auto, using(crate::proofs::Lemmas::Serial::Laws::StepsOfHistory::whole_run_law))]
 pub fn whole_runs()
     ensures { WholeRunLaw }
 {}
 
-/// Calls of a coherent `SerialPort` have the effects that the history says, by the start and the operations
+/// Calls of a coherent `Uart` have the effects that the history says, by the start and the operations
 /// alone: the byte and events of each read, the bytes taken, and how often to ask for the interrupt. They end in the
 /// state of the history, which is coherent. The bytes that the caller is told to send are the output. It is told to ask
 /// for the interrupt at most twice, plus twice for each IIR read and once for each RBR read; restores do not count.
-#[tactic(auto, using(crate::proofs::Lemmas::Serial::Laws::StepsOfHistory::port_run_laws))]
-pub fn whole_runs_of_ports()
-    ensures run { PortRunLaw }
-    ensures output { PortOutputLaw }
-    ensures bound { PortBoundLaw }
+#[tactic(auto, using(crate::proofs::Lemmas::Serial::Laws::StepsOfHistory::uart_run_laws))]
+pub fn whole_runs_of_uarts()
+    ensures run { UartRunLaw }
+    ensures output { UartOutputLaw }
+    ensures bound { UartBoundLaw }
 {}
 
 /// From any start, a condition is pending exactly if it was raised at some point or pending at the start, and no later
@@ -103,7 +103,7 @@ pub fn pending_by_prefixes()
     ensures { PendingByPrefixesLaw }
 {}
 
-/// From any start, a well-formed trace calls the trigger at most twice, plus twice for each IIR read and once for each
+/// From any start, a fitting trace calls the trigger at most twice, plus twice for each IIR read and once for each
 /// RBR read. Calls of restores do not count.
 #[tactic(auto, using(crate::proofs::Lemmas::Serial::Laws::Consequences::trigger_bound_law))]
 pub fn trigger_bound()
@@ -123,7 +123,7 @@ pub fn waiting_bytes()
 pub fn no_byte_waits()
     ensures pending { NoByteWaitsLaw }
     ensures called { TimeoutCallsLaw }
-    ensures in_a_trace { TimeoutsShowLaw }
+    ensures in_a_trace { RdaFollowsTimeoutsLaw }
 {
     by_lemmas();
 }
@@ -133,8 +133,8 @@ pub fn no_byte_waits()
 /// After as many runs as bytes are held, all of these are taken, in order, whatever arrives meanwhile.
 #[tactic(auto, using(crate::proofs::Lemmas::Serial::Laws::InterruptDriver::interrupt_driver_laws))]
 pub fn interrupt_driver()
-    ensures owed { OwedAfterRunLaw }
-    ensures taken { TakenAfterRunsLaw }
+    ensures owed { InterruptAfterPassLaw }
+    ensures taken { ReadOutAfterPassesLaw }
 {}
 
 /// From any start, an IER write that enables THRE, and each THR write outside loopback while IER enables it, raise THRE,
@@ -164,10 +164,10 @@ pub fn transmitter_interrupt()
 /// A driver that has bytes left and ends its run with a read of IIR that shows THRE is not asked again, neither here nor
 /// by a 16550A.
 pub fn console_driver()
-    ensures asked_to_take { AskedToTakeLaw }
-    ensures asked_to_send { AskedToSendLaw }
-    ensures taken { TakenInRunsLaw }
-    ensures sent { SentInRunsLaw }
+    ensures asked_to_take { InterruptToReadLaw }
+    ensures asked_to_send { InterruptToSendLaw }
+    ensures taken { ReadOutInPassesLaw }
+    ensures sent { SentInPassesLaw }
 {}
 
 /// From any start, for a handler of Linux's shape: it reads IIR until nothing is pending, and after each read sends, and
@@ -202,16 +202,16 @@ pub fn same_reads()
 {}
 
 /// From any start, the bytes taken, then those held, are those held at the start, then those accepted.
-#[tactic(auto, using(crate::proofs::Lemmas::Serial::Laws::taken_then_held))]
-pub fn taken_then_held()
-    ensures { TakenThenHeldLaw }
+#[tactic(auto, using(crate::proofs::Lemmas::Serial::Laws::read_out_then_held))]
+pub fn read_out_then_held()
+    ensures { ReadOutThenHeldLaw }
 {}
 
 /// From any start, if calls respond as the history says, the bytes that they give a guest from the FIFO are those that
 /// they take. So the bytes read, then those held, are those held at the start, then those accepted.
-#[tactic(auto, using(crate::proofs::Lemmas::Serial::Laws::Reads::reads_are_taken_laws))]
-pub fn reads_are_taken()
-    ensures taken { ReadsAreTakenLaw }
+#[tactic(auto, using(crate::proofs::Lemmas::Serial::Laws::Reads::replies_are_read_out_laws))]
+pub fn replies_are_read_out()
+    ensures taken { RepliesAreReadOutLaw }
     ensures held { ReadThenHeldLaw }
 {}
 
@@ -226,7 +226,7 @@ pub fn polling_driver()
     ensures after_data_ready { PollsAfterDataReadyLaw }
 {}
 
-/// From any start, the bytes that the newest entries of a well-formed trace record as sent are the output.
+/// From any start, the bytes that the newest entries of a fitting trace record as sent are the output.
 #[tactic(auto, using(crate::proofs::Lemmas::Serial::Laws::Consequences::output_law))]
 pub fn output()
     ensures { OutputLaw }
@@ -297,7 +297,7 @@ fn by_lemmas()
     ensures steps { StepLaw }
     ensures calls { CallLaw }
     ensures retries { RetryLaw }
-    ensures timeouts { TimeoutsShowLaw }
+    ensures timeouts { RdaFollowsTimeoutsLaw }
     ensures line { LineOfHistoryLaw }
     ensures set_time { SetTimeLaw }
 {}

@@ -3,8 +3,8 @@ use Rattle.std.proofs.Common.{◌≡◌, ◌≢◌, lit<, ℕ, suc, ◌+◌, ◌
 use Rattle.std.proofs.lemmas.Bool.{false≢true}
 use Rattle.std.specs.Int.Bits.{and_mask}
 use Rattle.vm_superio.specs.Links.{Link, TriggerAnswer, Contents}
-use Rattle.vm_superio.specs.Serial.{Port, has_bits, without_bits, State, not_empty, Coherent, RbrThr, register_at, is_dlab, register_read, identification_of, Read, Response, ByteRead, Event, buffer_read, in_buffer_empty, rbr_read, read_step, step, read_events, Asked}
-use Rattle.vm_superio.specs.Serial.Step.{IsReadStep}
+use Rattle.vm_superio.specs.Serial.{SerialView, has_bits, without_bits, State, not_empty, Coherent, Data, register_at, is_dlab, register_read, identification_of, Read, Response, ByteRead, Event, buffer_read, in_buffer_empty, rbr_read, read_step, step, read_events, Asked}
+use Rattle.vm_superio.specs.Serial.Step.{IsSerialRead}
 use Rattle.superio_laws.specs.Serial.Laws.{CoherenceLaw}
 use Rattle.superio_laws.specs.Serial.Laws.OneCall.{RbrDataReadyLaw}
 use Rattle.superio_script.specs.Driver.{IsReady, ReadsWhileReady, without_bytes, drain_events, TakesAll}
@@ -33,28 +33,28 @@ byte_in _ = 0
 
 module _ {T E EV W : Type 0} (trigger : Link T (TriggerAnswer E)) (events : Link EV Event) (contents : Contents W) where
   -- a read at offset 0 with DLAB clear
-  pub record IsRbrRead (byte : ℕ) (old new : Port T EV W) : Type 0 where
+  pub record IsRbrRead (byte : ℕ) (old new : SerialView T EV W) : Type 0 where
     pub value : byte ≡ slice_index old.state.in_buffer 0
     pub state : new.state ≡ rbr_read old.state
-    pub reported : events old.events (read_events RbrThr old.state.in_buffer) new.events
+    pub reported : events old.events (read_events Data old.state.in_buffer) new.events
 
   -- a read of LSR that shows data ready, and then one of RBR
-  pub record IsPass (byte : ℕ) (old new : Port T EV W) : Type 0 where
+  pub record IsPass (byte : ℕ) (old new : SerialView T EV W) : Type 0 where
     pub ready : IsReady old.state
-    pub made : IsReadStep trigger events contents 0 byte old new
+    pub made : IsSerialRead trigger events contents 0 byte old new
     pub hidden : is_dlab new.state.line_control ≡ false
     pub less : reads_left new.state + 1 ≡ reads_left old.state
 
 module _ {T E EV W : Type 0} {trigger : Link T (TriggerAnswer E)} {events : Link EV Event} {contents : Contents W} where
   -- a read of LCR, and of LSR, gives its byte
-  pub lcr_read : {byte : ℕ} {old new : Port T EV W} → IsReadStep trigger events contents 3 byte old new → byte ≡ old.state.line_control
+  pub lcr_read : {byte : ℕ} {old new : SerialView T EV W} → IsSerialRead trigger events contents 3 byte old new → byte ≡ old.state.line_control
   lcr_read made = ap byte_in made.response
 
-  pub lsr_read : {byte : ℕ} {old new : Port T EV W} → IsReadStep trigger events contents 5 byte old new → byte ≡ old.state.line_status
+  pub lsr_read : {byte : ℕ} {old new : SerialView T EV W} → IsSerialRead trigger events contents 5 byte old new → byte ≡ old.state.line_status
   lsr_read made = ap byte_in made.response
 
-  pub rbr_read-from_step : {byte : ℕ} {old new : Port T EV W} → is_dlab old.state.line_control ≡ false
-      → IsReadStep trigger events contents 0 byte old new → IsRbrRead trigger events contents byte old new
+  pub rbr_read-from_step : {byte : ℕ} {old new : SerialView T EV W} → is_dlab old.state.line_control ≡ false
+      → IsSerialRead trigger events contents 0 byte old new → IsRbrRead trigger events contents byte old new
   rbr_read-from_step {byte} {old} {new} hidden made = record {
     value = ap byte_in made.response ∙ ap (λ latch. register_read (register_at latch 0) old.state) hidden;
     state = made.state ∙ ap (λ latch. read_step (register_at latch 0) old.state) hidden;
@@ -62,13 +62,13 @@ module _ {T E EV W : Type 0} {trigger : Link T (TriggerAnswer E)} {events : Link
         hidden made.events;
   }
 
-  pub pass : {status byte : ℕ} {old seen new : Port T EV W} → RbrDataReadyLaw → is_dlab old.state.line_control ≡ false
-      → IsReadStep trigger events contents 5 status old seen → seen ≡ old → has_bits status 0x01 ≡ true
-      → IsReadStep trigger events contents 0 byte seen new → IsPass trigger events contents byte old new
+  pub pass : {status byte : ℕ} {old seen new : SerialView T EV W} → RbrDataReadyLaw → is_dlab old.state.line_control ≡ false
+      → IsSerialRead trigger events contents 5 status old seen → seen ≡ old → has_bits status 0x01 ≡ true
+      → IsSerialRead trigger events contents 0 byte seen new → IsPass trigger events contents byte old new
   pass {status} {byte} {old} {seen} {new} law hidden looked same shows read =
       let ready = ap (λ lsr. has_bits lsr 0x01) (sym (lsr_read looked)) ∙ shows in
-      let made : IsReadStep trigger events contents 0 byte old new =
-      subst (λ (port : Port T EV W). IsReadStep trigger events contents 0 byte port new) same read in
+      let made : IsSerialRead trigger events contents 0 byte old new =
+      subst (λ (port : SerialView T EV W). IsSerialRead trigger events contents 0 byte port new) same read in
       let state = (rbr_read-from_step hidden made).state in
       let left = ap (λ (s : State). s.in_buffer) state in
       let still = ap (λ (s : State). has_bits s.line_status 0x01) made.state ∙ law old.state hidden
@@ -154,23 +154,23 @@ events-of_all left = grind arith
 
 module _
     {T E EV W : Type 0} (trigger : Link T (TriggerAnswer E)) (events : Link EV Event) (contents : Contents W)
-    (no_event : (x y : EV) → events x [] y ↔ (x ≡ y))
-    (joined : (x y z : EV) (first second : List Event) → events x first y → events y second z → events x (first ++ second) z)
+    (empty : (x y : EV) → events x [] y ↔ (x ≡ y))
+    (append : (x y z : EV) (first second : List Event) → events x first y → events y second z → events x (first ++ second) z)
     (coherence : CoherenceLaw) where
-  pub coherent_after : (bytes : List ℕ) (old new : Port T EV W) → Coherent old.state
+  pub coherent_after : (bytes : List ℕ) (old new : SerialView T EV W) → Coherent old.state
       → ReadsWhileReady trigger events contents bytes old new → Coherent new.state
-  coherent_after [] old new is same = subst (λ (port : Port T EV W). Coherent port.state) (sym same) is
+  coherent_after [] old new is same = subst (λ (port : SerialView T EV W). Coherent port.state) (sym same) is
   coherent_after (byte ∷ bytes) old new is (ready, (middle, made, later)) =
       coherent_after bytes middle new (subst Coherent (sym made.state) (coherence old.state (Read 0) Asked.Nothing is)) later
 
-  pub takes_all : (bytes : List ℕ) (old new : Port T EV W) → Coherent old.state → is_dlab old.state.line_control ≡ false
+  pub takes_all : (bytes : List ℕ) (old new : SerialView T EV W) → Coherent old.state → is_dlab old.state.line_control ≡ false
       → ReadsWhileReady trigger events contents bytes old new → has_bits new.state.line_status 0x01 ≡ false
       → TakesAll events bytes old new
   takes_all [] old new is hidden same clear =
-      let clear_before = ap (λ (port : Port T EV W). has_bits port.state.line_status 0x01) (sym same) ∙ clear in record {
+      let clear_before = ap (λ (port : SerialView T EV W). has_bits port.state.line_status 0x01) (sym same) ∙ clear in record {
         bytes = sym (none-held old.state.in_buffer (sym clear_before ∙ is.data_ready));
-        state = ap (λ (port : Port T EV W). port.state) same ∙ sym (without_bytes-of_empty old.state is clear_before);
-        events = (no_event old.events new.events).1 (ap (λ (port : Port T EV W). port.events) (sym same));
+        state = ap (λ (port : SerialView T EV W). port.state) same ∙ sym (without_bytes-of_empty old.state is clear_before);
+        events = (empty old.events new.events).1 (ap (λ (port : SerialView T EV W). port.events) (sym same));
       }
   takes_all (byte ∷ bytes) old new is hidden (ready, (middle, made, later)) clear =
       let read = rbr_read-from_step hidden made in
@@ -183,7 +183,7 @@ module _
         bytes = oldest old.state.in_buffer bytes byte (sym ready ∙ is.data_ready) read.value left;
         state = rest.state ∙ ap without_bytes read.state ∙ without_bytes-after_read old.state is after;
         events = subst (λ (reported : List Event). events old.events reported new.events)
-            (ap (λ left. read_events RbrThr old.state.in_buffer ++ drain_events (length left)) left
+            (ap (λ left. read_events Data old.state.in_buffer ++ drain_events (length left)) left
             ∙ events-of_all (drop 1 old.state.in_buffer) ∙ ap (λ left. drain_events (suc (length left))) (sym left))
-            (joined _ _ _ _ _ read.reported rest.events);
+            (append _ _ _ _ _ read.reported rest.events);
       }

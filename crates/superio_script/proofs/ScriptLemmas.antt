@@ -8,7 +8,7 @@ use Rattle.std.specs.Io.KnownBytes.{Appends, Keeps}
 use Rattle.std.specs.List.{list_all}
 use Rattle.vm_superio.specs.Rtc.{ClockDevice}
 use Rattle.superio_laws.specs.Rtc.{Access}
-use Rattle.vm_superio.specs.Serial.{Port, Trace}
+use Rattle.vm_superio.specs.Serial.{SerialView, Trace}
 use Rattle.vm_superio.proofs.Lemmas.{Appends-nothing, Appends-append}
 use Rattle.superio_laws.proofs.Lemmas.Rtc.{fresh_clock-history}
 use Rattle.superio_script.specs.Objects.{Line, Counts, Output}
@@ -76,7 +76,7 @@ module _ (mask : ℕ) (trace : Trace) (accesses : List Access) (line reply : Lis
       record {
         next = trace;
         next_accesses = access_of_line clock ∷ accesses;
-        serial = subst (λ (port : Port Line Counts Output). IsAfter mask trace port) (sym same_serial) at;
+        serial = subst (λ (port : SerialView Line Counts Output). IsAfter mask trace port) (sym same_serial) at;
         clock = after;
         good = ap (λ (command : Option Command). is_some command) is;
         outcomes = [];

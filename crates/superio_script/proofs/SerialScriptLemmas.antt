@@ -7,16 +7,16 @@ use Rattle.std.proofs.lemmas.Bool.Decides.{nat_tests}
 use Rattle.std.proofs.lemmas.List.Sums.{sum_by-append}
 use Rattle.std.specs.Cmp.Derive.{both_true}
 use Rattle.superio_core.proofs.Lemmas.Serial.{fresh_coherent}
-use Rattle.vm_superio.specs.Serial.Step.{RefusesRestore, IsPortStep}
-use Rattle.superio_laws.specs.Serial.History.{none_lost, output, kind_at, held_bytes, dlab, state_of_history, history_events, calls_due, restore_calls_due, is_well_formed, is_well_formed_entry, trigger_calls}
+use Rattle.vm_superio.specs.Serial.Step.{RefusesRestore, IsSerialStep}
+use Rattle.superio_laws.specs.Serial.History.{none_lost, output, decode_at, held_bytes, dlab_after, state_of_history, history_events, calls_due, conditions_due_after, is_fitting, is_fitting_entry, trigger_calls}
 use Rattle.superio_laws.specs.Serial.Laws.{StepLaw, CallLaw, StateLaw, CoherenceLaw, CallAgrees, StepAgrees, state_after}
 use Rattle.vm_superio.specs.Links.{Contents, answers_of, all_ok, StopsAtRefusal}
-use Rattle.vm_superio.specs.Links.Writer.{PortLinks, port_links, WriterLink}
-use Rattle.vm_superio.specs.Serial.{bytes_sent, outcome_of, Port, OpKind, failure_response, Asked, Sent, Op, Read, Write, Enqueue, Trace, TraceEntry, Response, Event, buffer_read, out_byte, tx_lost_byte, in_buffer_empty, is_sent, is_lost, answer_count, ends_in_refusal, sent_by, State, not_empty, fresh_state, has_bits, only_bits, Coherent, Condition, is_dlab, pending_in_order, answers_all, is_admissible, step_events, step_calls, sends_byte, restore_calls}
+use Rattle.vm_superio.specs.Links.Writer.{SerialLinks, serial_links, WriterLink}
+use Rattle.vm_superio.specs.Serial.{bytes_sent, outcome_of, SerialView, DecodedOp, failure_response, Asked, Sent, Op, Read, Write, Enqueue, Trace, TraceEntry, Response, Event, buffer_read, out_byte, tx_lost_byte, in_buffer_empty, is_sent, is_lost, answer_count, ends_in_refusal, sent_by, State, not_empty, fresh_state, has_bits, only_bits, Coherent, Condition, is_dlab, pending_in_order, answers_all, answers_fit, step_events, step_calls, sends_byte, conditions_due}
 use Rattle.vm_superio.proofs.Lemmas.{known_output_law}
 use Rattle.vm_superio.specs.declared.serial.errors.Error.{Error}
 use Rattle.vm_superio.specs.declared.serial.errors.Error.TheVariants.{Trigger, IOError, FullFifo, Memory}
-use Rattle.vm_superio.specs.Links.ForAnyObject.{FoldsEvents}
+use Rattle.vm_superio.specs.Links.ForAnyObject.{FoldsCalls}
 use Rattle.superio_script.specs.Objects.{fresh_interrupt_line, InterruptLineLink, is_call_refused, saturated, no_counts, counts_after_event, written_bytes, Line, Counts, Output, LineRefused}
 use Rattle.superio_script.specs.Reply.{with_lf, response_reply, digits_reply, count_digits, counts_reply}
 use Rattle.superio_script.specs.SerialScript.{calls_of_entry, calls_made, interrupt_line_after, events_reported, is_event, counts_of, Outcome, Out, Lost, out_before_loss, outcome_of_sent, outcomes_of, next_outcome, next_printed, trigger_answers, sends, sent_with, call_entry, entry_reply, rbr_read_entry, after_rbr_reads, drained_bytes, restore_entry, is_restore_refused, serial_reply, trace_after_line, line_sends, prints_after_loss, serial_replies}
@@ -85,20 +85,20 @@ out_before_loss-all [] out = refl
 out_before_loss-all (Out ∷ outcomes) out = grind (arith, out_before_loss-all outcomes out)
 out_before_loss-all (Lost ∷ outcomes) out = absurd (false≢true out)
 
-one-outcome : (sent : Sent) (kind : OpKind) → IsTrue (beq (is_sent sent) (not_empty (sent_by kind))) → length (outcome_of_sent sent) ≡ length (sent_by kind)
+one-outcome : (sent : Sent) (kind : DecodedOp) → IsTrue (beq (is_sent sent) (not_empty (sent_by kind))) → length (outcome_of_sent sent) ≡ length (sent_by kind)
 one-outcome sent kind fits = grind arith
 
--- in a well-formed trace each outcome is that of a byte of the output
-length-outcomes_of : (trace : Trace) → IsTrue (is_well_formed fresh_state trace) → length (outcomes_of trace) ≡ length (output fresh_state [] trace)
+-- in a fitting trace each outcome is that of a byte of the output
+length-outcomes_of : (trace : Trace) → IsTrue (is_fitting fresh_state trace) → length (outcomes_of trace) ≡ length (output fresh_state [] trace)
 length-outcomes_of [] fits = refl
 length-outcomes_of (entry ∷ trace) fits =
-    let (one, earlier) = and_parts (is_well_formed_entry fresh_state trace entry) (is_well_formed fresh_state trace) fits in
+    let (one, earlier) = and_parts (is_fitting_entry fresh_state trace entry) (is_fitting fresh_state trace) fits in
     let (asked, sent) = and_parts (answer_count entry.asked == trigger_calls fresh_state trace entry) (beq (is_sent entry.sent) (sends trace entry.op)) one in
     let here = subst (λ (before : Trace). IsTrue (beq (is_sent entry.sent) (sends before entry.op))) (sym (append-nil trace)) sent in
     length-append (outcomes_of trace) (outcome_of_sent entry.sent)
     ∙ ap (λ n. n + length (outcome_of_sent entry.sent)) (length-outcomes_of trace earlier)
-    ∙ ap (λ n. length (output fresh_state [] trace) + n) (one-outcome entry.sent (kind_at fresh_state (trace ++ []) entry.op) here)
-    ∙ sym (length-append (output fresh_state [] trace) (sent_by (kind_at fresh_state (trace ++ []) entry.op)))
+    ∙ ap (λ n. length (output fresh_state [] trace) + n) (one-outcome entry.sent (decode_at fresh_state (trace ++ []) entry.op) here)
+    ∙ sym (length-append (output fresh_state [] trace) (sent_by (decode_at fresh_state (trace ++ []) entry.op)))
 
 loss-adds_nothing : (outcomes : List Outcome) (sent : Sent) → (all_out outcomes && all_out (outcome_of_sent sent)) ≡ false
     → out_before_loss outcomes ≤ 256 → out_before_loss (outcomes ++ outcome_of_sent sent) ≤ 256
@@ -108,7 +108,7 @@ loss-adds_nothing outcomes sent lost few =
 -- while no byte is lost, the output has all of them, and it holds at most 256
 within_room-after :
     (trace : Trace) (entry : TraceEntry) (written : List ℕ) →
-    IsTrue (is_well_formed fresh_state (entry ∷ trace)) → out_before_loss (outcomes_of trace) ≤ 256 →
+    IsTrue (is_fitting fresh_state (entry ∷ trace)) → out_before_loss (outcomes_of trace) ≤ 256 →
     (IsTrue (none_lost (entry ∷ trace)) → written ≡ output fresh_state [] (entry ∷ trace)) → length written ≤ 256 →
     out_before_loss (outcomes_of (entry ∷ trace)) ≤ 256
 within_room-after trace entry written fits before known few = by_loss (none_lost (entry ∷ trace)) refl
@@ -126,7 +126,7 @@ within_room-after trace entry written fits before known few = by_loss (none_lost
 
 -- a fresh port is after no call
 pub at-start :
-    (mask : ℕ) (port : Port Line Counts Output) →
+    (mask : ℕ) (port : SerialView Line Counts Output) →
     port.state ≡ fresh_state → port.trigger ≡ fresh_interrupt_line mask → port.events ≡ no_counts → written_bytes port.out ≡ [] → IsAfter mask [] port
 unfolding has_bits only_bits
 at-start mask port state line counts output = record {
@@ -134,7 +134,7 @@ at-start mask port state line counts output = record {
   interrupt_line = line;
   counts = counts;
   output = λ _. output;
-  well_formed = refl;
+  fitting = refl;
   within_room = omega arith;
 }
 
@@ -156,8 +156,8 @@ output-after_call sent accepted bytes before old new link kept same was =
     ∙ ap (λ held. held ++ accepted) was ∙ ap (λ more. before ++ more) same
 
 -- the links of the board's objects
-abbrev pub board_links : PortLinks Line LineRefused Counts Output
-board_links = port_links InterruptLineLink (FoldsEvents counts_after_event) output_link
+abbrev pub board_links : SerialLinks Line LineRefused Counts Output
+board_links = serial_links InterruptLineLink (FoldsCalls counts_after_event) output_link
 
 outcome_in : (sent : Sent) → Outcome
 outcome_in Sent.Lost = Lost
@@ -167,8 +167,8 @@ sent-is : (sent : Sent) (sends : Bool) → IsTrue (beq (is_sent sent) sends) →
 unfolding outcome_in
 sent-is sent sends fits = grind arith
 
-module _ (steps : StepLaw) (calls : CallLaw) {op : Op} {asked : Asked} {sent : Sent} {response : Response} {refusal : Option LineRefused} {old new : Port Line Counts Output}
-    (made : IsPortStep board_links op asked sent response refusal old new) (mask : ℕ) (trace : Trace) (at : IsAfter mask trace old)
+module _ (steps : StepLaw) (calls : CallLaw) {op : Op} {asked : Asked} {sent : Sent} {response : Response} {refusal : Option LineRefused} {old new : SerialView Line Counts Output}
+    (made : IsSerialStep board_links op asked sent response refusal old new) (mask : ℕ) (trace : Trace) (at : IsAfter mask trace old)
     (counted : calls_of_entry trace op asked ≡ answer_count asked) where
   abbrev made_entry : TraceEntry
   made_entry = record { op = op; asked = asked; sent = sent }
@@ -176,17 +176,17 @@ module _ (steps : StepLaw) (calls : CallLaw) {op : Op} {asked : Asked} {sent : S
   abbrev now : State
   now = state_of_history fresh_state trace
 
-  was-admissible : IsTrue (is_admissible now op asked sent)
-  was-admissible = subst (λ s. IsTrue (is_admissible s op asked sent)) at.state made.admissible
+  was-fits : IsTrue (answers_fit now op asked sent)
+  was-fits = subst (λ s. IsTrue (answers_fit s op asked sent)) at.state made.fits
 
   agreed : CallAgrees fresh_state trace made_entry response new.state
-  agreed = calls fresh_state trace made_entry response old.state new.state fresh_coherent at.state made.admissible made.response made.state
+  agreed = calls fresh_state trace made_entry response old.state new.state fresh_coherent at.state made.fits made.response made.state
 
   stepped : StepAgrees fresh_state trace made_entry
-  stepped = (steps fresh_state trace fresh_coherent).steps made_entry was-admissible
+  stepped = (steps fresh_state trace fresh_coherent).steps made_entry was-fits
 
   parts : IsTrue (answers_all (step_calls now op) asked) × IsTrue (beq (is_sent sent) (sends trace op))
-  parts = and_parts (answers_all (step_calls now op) asked) (beq (is_sent sent) (sends_byte now op)) was-admissible
+  parts = and_parts (answers_all (step_calls now op) asked) (beq (is_sent sent) (sends_byte now op)) was-fits
 
   answered : (asked ≡ trigger_answers mask (calls_made trace) (calls_due fresh_state trace op))
       × (new.trigger ≡ interrupt_line_after mask (calls_made trace + answer_count asked))
@@ -207,13 +207,13 @@ module _ (steps : StepLaw) (calls : CallLaw) {op : Op} {asked : Asked} {sent : S
   output-after : IsTrue (none_lost (made_entry ∷ trace)) → written_bytes new.out ≡ output fresh_state [] (made_entry ∷ trace)
   output-after kept =
       let (here, earlier) = and_parts (not (is_lost sent)) (none_lost trace) kept in
-      output-after_call sent (bytes_sent op sent) (sent_by (kind_at fresh_state (trace ++ []) op)) (output fresh_state [] trace) old.out new.out
+      output-after_call sent (bytes_sent op sent) (sent_by (decode_at fresh_state (trace ++ []) op)) (output fresh_state [] trace) old.out new.out
       made.out here
-      (stepped.output ∙ ap (λ (before : Trace). sent_by (kind_at fresh_state before op)) (sym (append-nil trace)))
+      (stepped.output ∙ ap (λ (before : Trace). sent_by (decode_at fresh_state before op)) (sym (append-nil trace)))
       (at.output earlier)
 
-  fitting : IsTrue (is_well_formed fresh_state (made_entry ∷ trace))
-  fitting = both_true agreed.well_formed at.well_formed
+  fitting : IsTrue (is_fitting fresh_state (made_entry ∷ trace))
+  fitting = both_true agreed.fitting at.fitting
 
   pub call-after : IsAfter mask (made_entry ∷ trace) new
   call-after = record {
@@ -221,7 +221,7 @@ module _ (steps : StepLaw) (calls : CallLaw) {op : Op} {asked : Asked} {sent : S
     interrupt_line = answered.1 ∙ ap (λ more. interrupt_line_after mask (calls_made trace + more)) (sym counted);
     counts = counts-after;
     output = output-after;
-    well_formed = fitting;
+    fitting = fitting;
     within_room = within_room-after trace made_entry (written_bytes new.out) fitting at.within_room output-after new.out.few;
   }
 
@@ -243,7 +243,7 @@ module _ (steps : StepLaw) (calls : CallLaw) {op : Op} {asked : Asked} {sent : S
   }
 
 -- a line that sends no byte, and prints nothing that is left open
-module _ {mask : ℕ} {trace : Trace} {line : SerialCommand} {reply : List ℕ} {new : Port Line Counts Output} where
+module _ {mask : ℕ} {trace : Trace} {line : SerialCommand} {reply : List ℕ} {new : SerialView Line Counts Output} where
   without_choice : reply ≡ serial_reply mask trace Lost [] line → IsAfter mask (trace_after_line mask trace Lost line) new → SerialLineStep mask trace line reply new
   without_choice replied after = record { outcome = Lost; printed = []; short = omega arith; replied = replied; after = after }
 
@@ -251,8 +251,8 @@ module _ {mask : ℕ} {trace : Trace} {line : SerialCommand} {reply : List ℕ} 
 
 module _ (steps : StepLaw) (calls : CallLaw) where
   -- the reads of a driver, each of which is a call
-  reads-after : (bytes : List ℕ) (old new : Port Line Counts Output) (mask : ℕ) (trace : Trace) → IsAfter mask trace old
-      → ReadsWhileReady InterruptLineLink (FoldsEvents counts_after_event) output_link bytes old new
+  reads-after : (bytes : List ℕ) (old new : SerialView Line Counts Output) (mask : ℕ) (trace : Trace) → IsAfter mask trace old
+      → ReadsWhileReady InterruptLineLink (FoldsCalls counts_after_event) output_link bytes old new
       → IsAfter mask (after_rbr_reads (length bytes) trace) new
   reads-after [] old new mask trace at same = subst (IsAfter mask trace) (sym same) at
   reads-after (byte ∷ bytes) old new mask trace at (ready, (middle, made, later)) =
@@ -267,16 +267,16 @@ drained-are : (latch : Bool) (bytes held : List ℕ) → (latch ≡ true → byt
 drained-are latch bytes held set clear = grind arith
 
 pub drain-step :
-    StepLaw → CallLaw → StateLaw → CoherenceLaw → (bytes : List ℕ) (old new : Port Line Counts Output)
-    → ReadsWhileReady InterruptLineLink (FoldsEvents counts_after_event) output_link bytes old new
+    StepLaw → CallLaw → StateLaw → CoherenceLaw → (bytes : List ℕ) (old new : SerialView Line Counts Output)
+    → ReadsWhileReady InterruptLineLink (FoldsCalls counts_after_event) output_link bytes old new
     → (IsTrue (is_dlab old.state.line_control) → bytes ≡ [])
-    → (Coherent old.state → is_dlab old.state.line_control ≡ false → TakesAll (FoldsEvents counts_after_event) bytes old new)
+    → (Coherent old.state → is_dlab old.state.line_control ≡ false → TakesAll (FoldsCalls counts_after_event) bytes old new)
     → IsSerialLineStep line.Drain (digits_reply bytes) old new
 drain-step steps calls states coherence bytes old new reads latch all mask trace at =
     let latched = ap (λ (s : State). is_dlab s.line_control) at.state in
     let coherent = subst Coherent (states fresh_state trace fresh_coherent ∙ sym at.state) (coherent-after coherence trace) in
     let taken : bytes ≡ drained_bytes trace =
-    drained-are (dlab fresh_state trace) bytes (held_bytes fresh_state trace) (λ set. latch (latched ∙ set))
+    drained-are (dlab_after fresh_state trace) bytes (held_bytes fresh_state trace) (λ set. latch (latched ∙ set))
     (λ clear. (all coherent (latched ∙ clear)).bytes ∙ ap (λ (s : State). s.in_buffer) at.state) in
     without_choice
     (ap digits_reply taken)
@@ -285,7 +285,7 @@ drain-step steps calls states coherence bytes old new reads latch all mask trace
 
 -- ---- the lines that change nothing
 
-module _ (port : Port Line Counts Output) (reply : List ℕ) where
+module _ (port : SerialView Line Counts Output) (reply : List ℕ) where
   pub capacity-step : reply ≡ digits_reply ((64 - length port.state.in_buffer) ∷ []) → IsSerialLineStep line.Capacity reply port port
   capacity-step is mask trace at = without_choice (is ∙ ap (λ (s : State). digits_reply ((64 - length s.in_buffer) ∷ [])) at.state) at
 
@@ -345,11 +345,11 @@ all-answered calls asked fits none = grind (arith, nat_tests)
 -- whether the restore is refused, and the interrupt line after its calls
 module _ (mask : ℕ) (trace : Trace) where
   restore-answered : (after : Line) (refusal : Option LineRefused) (responses : List (Result (Unit {0}) LineRefused)) (refused : Bool) →
-      AreAnswered (restore_calls_due fresh_state trace) refusal responses refused → InterruptLineLink (interrupt_line_after mask (calls_made trace)) responses after →
+      AreAnswered (conditions_due_after fresh_state trace) refusal responses refused → InterruptLineLink (interrupt_line_after mask (calls_made trace)) responses after →
       (is_restore_refused mask trace ≡ refused)
       × (refused ≡ false → after ≡ interrupt_line_after mask (calls_made (restore_entry ∷ trace)))
   restore-answered after refusal responses refused (asked, all, some, are, ends) link =
-      let due = length (restore_calls_due fresh_state trace) in
+      let due = length (conditions_due_after fresh_state trace) in
       let answered = answers-from_link mask (calls_made trace) after due asked refusal all some
       (subst (λ responses. InterruptLineLink (interrupt_line_after mask (calls_made trace)) responses after) are link) in (
         sym (ap ends_in_refusal answered.0) ∙ ends,
@@ -357,7 +357,7 @@ module _ (mask : ℕ) (trace : Trace) where
       )
 
   -- the port after an accepted restore
-  restored-after : (steps : StepLaw) (old new : Port Line Counts Output) → IsAfter mask trace old → new.state ≡ old.state →
+  restored-after : (steps : StepLaw) (old new : SerialView Line Counts Output) → IsAfter mask trace old → new.state ≡ old.state →
       new.trigger ≡ interrupt_line_after mask (calls_made (restore_entry ∷ trace)) → new.events ≡ old.events → new.out ≡ old.out →
       IsAfter mask (restore_entry ∷ trace) new
   restored-after steps old new at state line events out = record {
@@ -365,18 +365,18 @@ module _ (mask : ℕ) (trace : Trace) where
     interrupt_line = line;
     counts = events ∙ at.counts ∙ ap counts_of (sym (append-nil (events_reported trace)));
     output = λ kept. ap written_bytes out ∙ at.output kept ∙ sym (append-nil (output fresh_state [] trace));
-    well_formed = both_true refl at.well_formed;
+    fitting = both_true refl at.fitting;
     within_room = subst (λ outcomes. out_before_loss outcomes ≤ 256) (sym (append-nil (outcomes_of trace))) at.within_room;
   }
 
 -- a restore whose calls were accepted
-pub restore-accepts : StepLaw → (old new : Port Line Counts Output) →
-    new.state ≡ old.state → InterruptLineLink old.trigger (all_ok (restore_calls old.state)) new.trigger → new.events ≡ old.events → new.out ≡ old.out →
+pub restore-accepts : StepLaw → (old new : SerialView Line Counts Output) →
+    new.state ≡ old.state → InterruptLineLink old.trigger (all_ok (conditions_due old.state)) new.trigger → new.events ≡ old.events → new.out ≡ old.out →
     IsSerialLineStep line.Restore (with_lf (codes "ok")) old new
 restore-accepts steps old new state link events out mask trace at =
-    let due = ap restore_calls at.state ∙ (steps fresh_state trace fresh_coherent).restoring in
-    let (accepted, after) = restore-answered mask trace new.trigger None (all_ok (restore_calls_due fresh_state trace)) false (accepted-answers _ _)
-    (subst (λ line. InterruptLineLink line (all_ok (restore_calls_due fresh_state trace)) new.trigger) at.interrupt_line
+    let due = ap conditions_due at.state ∙ (steps fresh_state trace fresh_coherent).restoring in
+    let (accepted, after) = restore-answered mask trace new.trigger None (all_ok (conditions_due_after fresh_state trace)) false (accepted-answers _ _)
+    (subst (λ line. InterruptLineLink line (all_ok (conditions_due_after fresh_state trace)) new.trigger) at.interrupt_line
     (subst (λ due. InterruptLineLink old.trigger (all_ok due) new.trigger) due link)) in
     without_choice
     (ap (λ refused. with_lf (if refused then codes "trigger" else codes "ok")) (sym accepted))
@@ -384,7 +384,7 @@ restore-accepts steps old new state link events out mask trace at =
     (restored-after mask trace steps old new at state (after refl) events out))
 
 -- one of whose calls was refused
-pub restore-refuses : StepLaw → (old : Port Line Counts Output) (state : State) (after : Line) (error : Error LineRefused) →
+pub restore-refuses : StepLaw → (old : SerialView Line Counts Output) (state : State) (after : Line) (error : Error LineRefused) →
     state ≡ old.state → length old.state.in_buffer ≤ 64 → RefusesRestore InterruptLineLink state error old.trigger after → error ≢ Memory →
     IsSerialLineStep line.Restore (response_reply (failure_response error)) old old
 restore-refuses steps old state after FullFifo is few refuses other mask trace at =
@@ -392,9 +392,9 @@ restore-refuses steps old state after FullFifo is few refuses other mask trace a
 restore-refuses steps old state after (IOError fault) is few refuses other mask trace at = absurd refuses.1
 restore-refuses steps old state after Memory is few refuses other mask trace at = absurd (other refl)
 restore-refuses steps old state after (Trigger refusal) is few (none_more, (responses, stops, link)) other mask trace at =
-    let due = ap restore_calls (is ∙ at.state) ∙ (steps fresh_state trace fresh_coherent).restoring in
+    let due = ap conditions_due (is ∙ at.state) ∙ (steps fresh_state trace fresh_coherent).restoring in
     let (refused, line) = restore-answered mask trace after (Some refusal) responses true
-    (refused-answers refusal (restore_calls_due fresh_state trace) responses (few-pending _ _)
+    (refused-answers refusal (conditions_due_after fresh_state trace) responses (few-pending _ _)
     (subst (λ due. StopsAtRefusal due refusal responses) due stops))
     (subst (λ line. InterruptLineLink line responses after) at.interrupt_line link) in
     without_choice

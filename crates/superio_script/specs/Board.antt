@@ -1,7 +1,7 @@
 -- What a contract sees of a board, and of one line on it.
 use Rattle.std.specs.Prelude.{◌≡◌, ◌≤◌, ℕ, List, [], ◌∷◌, length, IsTrue}
-use Rattle.vm_superio.specs.Serial.{Port, Trace, fresh_state}
-use Rattle.superio_laws.specs.Serial.History.{state_of_history, none_lost, output, is_well_formed}
+use Rattle.vm_superio.specs.Serial.{SerialView, Trace, fresh_state}
+use Rattle.superio_laws.specs.Serial.History.{state_of_history, none_lost, output, is_fitting}
 use Rattle.vm_superio.specs.Rtc.{ClockDevice}
 use Rattle.superio_laws.specs.Rtc.{RtcState, Access, fresh_clock}
 use Rattle.superio_script.specs.Objects.{fresh_interrupt_line, no_counts, written_bytes, Line, Counts, Output}
@@ -12,24 +12,24 @@ use Rattle.superio_script.specs.Command.{Command, Serial, Clock, Controller, Ser
 
 -- the devices. Of the controller, a contract sees its reset line
 pub record Devices : Type 0 where
-  pub serial : Port Line Counts Output
+  pub serial : SerialView Line Counts Output
   pub clock : ClockDevice Counts
   pub controller : Line
 
 -- a board's serial port after this trace, with this mask of its interrupt line: the history gives its state and its
 -- objects, the output only while no byte is lost. Before the first loss the output takes at most 256 bytes
-pub record IsAfter (mask : ℕ) (trace : Trace) (port : Port Line Counts Output) : Type 0 where
+pub record IsAfter (mask : ℕ) (trace : Trace) (port : SerialView Line Counts Output) : Type 0 where
   pub state : port.state ≡ state_of_history fresh_state trace
   pub interrupt_line : port.trigger ≡ interrupt_line_after mask (calls_made trace)
   pub counts : port.events ≡ counts_of (events_reported trace)
   pub output : IsTrue (none_lost trace) → written_bytes port.out ≡ output fresh_state [] trace
-  pub well_formed : IsTrue (is_well_formed fresh_state trace)
+  pub fitting : IsTrue (is_fitting fresh_state trace)
   pub within_room : out_before_loss (outcomes_of trace) ≤ 256
 
 -- a board between two lines: some trace led to the serial port, and some accesses to the clock. The reset line was
 -- never called, since a fresh controller replaces one that was reset
 pub record IsBetweenLines
-    (port : Port Line Counts Output) (rtc : ClockDevice Counts) (reset_line : Line) :
+    (port : SerialView Line Counts Output) (rtc : ClockDevice Counts) (reset_line : Line) :
     Type 0 where
   pub mask : ℕ
   pub trace : Trace
@@ -49,7 +49,7 @@ pub record IsFresh (mask : ℕ) (board : Devices) : Type 0 where
 -- a line of the serial port, after a trace. For some outcome and some printed bytes the trace gives the reply, and the
 -- port is then after the longer trace
 pub record SerialLineStep
-    (mask : ℕ) (trace : Trace) (line : SerialCommand) (reply : List ℕ) (new : Port Line Counts Output) :
+    (mask : ℕ) (trace : Trace) (line : SerialCommand) (reply : List ℕ) (new : SerialView Line Counts Output) :
     Type 0 where
   pub outcome : Outcome
   pub printed : List ℕ
@@ -58,7 +58,7 @@ pub record SerialLineStep
   pub after : IsAfter mask (trace_after_line mask trace outcome line) new
 
 -- so it is after every trace that leads to the port
-abbrev pub IsSerialLineStep : (line : SerialCommand) (reply : List ℕ) (old new : Port Line Counts Output) → Type 0
+abbrev pub IsSerialLineStep : (line : SerialCommand) (reply : List ℕ) (old new : SerialView Line Counts Output) → Type 0
 IsSerialLineStep line reply old new =
     (mask : ℕ) (trace : Trace) → IsAfter mask trace old → SerialLineStep mask trace line reply new
 

@@ -3,7 +3,7 @@
 use Rattle.std.specs.Prelude.{ℕ, zero, suc, ◌+◌, ◌-◌, Bool, true, false, not, if◌then◌else◌, List, [], ◌∷◌, ◌++◌, length, drop, count_by, codes, nat_le}
 use Rattle.std.specs.List.{list_all}
 use Rattle.vm_superio.specs.Serial.{Asked, Sent, Op, Read, Write, Enqueue, Restore, TraceEntry, Trace, answer_count, ends_in_refusal, sent_by, Event, buffer_read, out_byte, tx_lost_byte, in_buffer_empty, fresh_state, not_empty}
-use Rattle.superio_laws.specs.Serial.History.{kind_at, dlab, held_bytes, guest_read, none_lost, output, history_events, history_response, calls_due, restore_calls_due}
+use Rattle.superio_laws.specs.Serial.History.{decode_at, dlab_after, held_bytes, guest_read, none_lost, output, history_events, history_response, calls_due, conditions_due_after}
 use Rattle.superio_script.specs.Objects.{is_call_refused, saturated, Line, Counts}
 use Rattle.superio_script.specs.Reply.{with_lf, response_reply, digits_reply, count_digits, counts_reply}
 use Rattle.superio_script.specs.declared.command.SerialCommand.{SerialCommand}
@@ -13,7 +13,7 @@ use Rattle.superio_script.specs.declared.command.SerialCommand.TheVariants as se
 
 -- how many trigger calls an entry made: at a restore all that were due, else as many as were answered
 abbrev pub calls_of_entry : (trace : Trace) (op : Op) (asked : Asked) → ℕ
-calls_of_entry trace Restore asked = length (restore_calls_due fresh_state trace)
+calls_of_entry trace Restore asked = length (conditions_due_after fresh_state trace)
 calls_of_entry trace op asked = answer_count asked
 
 -- how often the interrupt line was called
@@ -97,7 +97,7 @@ trigger_answers mask number (suc (suc more)) =
 
 -- whether a call sends a byte
 abbrev pub sends : (trace : Trace) (op : Op) → Bool
-sends trace op = not_empty (sent_by (kind_at fresh_state trace op))
+sends trace op = not_empty (sent_by (decode_at fresh_state trace op))
 
 -- the outcome as an entry has it, which has none if no byte is sent
 abbrev pub sent_with : (sends : Bool) (outcome : Outcome) → Sent
@@ -129,7 +129,7 @@ after_rbr_reads (suc count) trace = after_rbr_reads count (rbr_read_entry ∷ tr
 
 -- the bytes that a driver gets: with DLAB set none, else all that are held
 abbrev pub drained_bytes : (trace : Trace) → List ℕ
-drained_bytes trace = if dlab fresh_state trace then [] else held_bytes fresh_state trace
+drained_bytes trace = if dlab_after fresh_state trace then [] else held_bytes fresh_state trace
 
 abbrev pub restore_entry : TraceEntry
 restore_entry = record { op = Restore; asked = Asked.Nothing; sent = Sent.Nothing }
@@ -137,7 +137,7 @@ restore_entry = record { op = Restore; asked = Asked.Nothing; sent = Sent.Nothin
 -- the interrupt line refuses one of the calls that are due for a restore
 abbrev pub is_restore_refused : (mask : ℕ) (trace : Trace) → Bool
 is_restore_refused mask trace =
-    ends_in_refusal (trigger_answers mask (calls_made trace) (length (restore_calls_due fresh_state trace)))
+    ends_in_refusal (trigger_answers mask (calls_made trace) (length (conditions_due_after fresh_state trace)))
 
 -- ---- the lines
 

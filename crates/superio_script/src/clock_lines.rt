@@ -5,11 +5,11 @@ ghost use Rattle.superio_script.specs.declared.command.ClockCommand.TheVariants.
 
 use crate::command::ClockCommand;
 use crate::objects::Counts;
-use crate::replies::{Reply, reply_digits, reply_text};
+use crate::replies::{ReplyText, reply_digits, reply_text};
 use vm_superio::Rtc;
 
 /// Executes a line on the clock and returns the reply.
-pub(crate) fn clock_line(clock: &mut Rtc<Counts>, line: ClockCommand) -> Reply
+pub(crate) fn clock_line(clock: &mut Rtc<Counts>, line: ClockCommand) -> ReplyText
     ensures step { IsClockLineStep line result.items clock.old.state clock.new.state }
 {
     match line {
@@ -23,7 +23,7 @@ pub(crate) fn clock_line(clock: &mut Rtc<Counts>, line: ClockCommand) -> Reply
 }
 
 /// Reads as the guest does.
-fn read(clock: &mut Rtc<Counts>, moment: u64, offset: u16) -> Reply
+fn read(clock: &mut Rtc<Counts>, moment: u64, offset: u16) -> ReplyText
     ensures step { IsClockLineStep (Read moment offset) result.items clock.old.state clock.new.state }
 {
     match clock.read_value(offset, moment) {
@@ -33,7 +33,7 @@ fn read(clock: &mut Rtc<Counts>, moment: u64, offset: u16) -> Reply
 }
 
 /// Writes as the guest does.
-fn write(clock: &mut Rtc<Counts>, moment: u64, offset: u16, value: u32) -> Reply
+fn write(clock: &mut Rtc<Counts>, moment: u64, offset: u16, value: u32) -> ReplyText
     ensures step { IsClockLineStep (Write moment offset value) result.items clock.old.state clock.new.state }
 {
     if clock.write_value(offset, value, moment) {

@@ -65,7 +65,7 @@ pub(crate) enum ControllerCommand {
 }
 
 /// The forms of the serial port's lines, a row each: the name, what it asks for, and the kinds of its fields in order.
-fn serial_form(name: &[u8], fields: &mut Fields) -> Option<SerialCommand>
+fn serial_encoding(name: &[u8], fields: &mut Fields) -> Option<SerialCommand>
     ensures { result ≡ by_form serial_forms name.now (remaining_fields fields.old.rest) }
 {
     let command = match name {
@@ -91,7 +91,7 @@ fn serial_form(name: &[u8], fields: &mut Fields) -> Option<SerialCommand>
 }
 
 /// The forms of the clock's lines.
-fn clock_form(name: &[u8], fields: &mut Fields) -> Option<ClockCommand>
+fn clock_encoding(name: &[u8], fields: &mut Fields) -> Option<ClockCommand>
     ensures { result ≡ by_form clock_forms name.now (remaining_fields fields.old.rest) }
 {
     let command = match name {
@@ -131,8 +131,8 @@ fn command_of_name(name: &[u8], fields: &mut Fields) -> Option<Command>
     ensures { result ≡ command_of_name name.now (remaining_fields fields.old.rest) }
 {
     Some(match name.first()? {
-        b's' => Command::Serial(serial_form(name, fields)?),
-        b'c' => Command::Clock(clock_form(name, fields)?),
+        b's' => Command::Serial(serial_encoding(name, fields)?),
+        b'c' => Command::Clock(clock_encoding(name, fields)?),
         b'k' => Command::Controller(controller_form(name, fields)?),
         _ => return None,
     })

@@ -7,8 +7,8 @@ ghost use Rattle.superio_script.specs.declared.replies.LineFault.TheVariants.{Ba
 use crate::clock_lines::clock_line;
 use crate::command::{Command, ControllerCommand, parse};
 use crate::objects::{Counts, Line, Output};
-use crate::replies::{LineFault, Reply, ScriptFault, reply_byte, reply_text};
-use crate::serial_lines::{Port, serial_line};
+use crate::replies::{LineFault, ReplyText, ScriptFault, reply_byte, reply_text};
+use crate::serial_lines::{BoardSerial, serial_line};
 use std::alloc::Global;
 use std::marker::Model;
 use vm_superio::{I8042Device, Rtc, Serial};
@@ -19,7 +19,7 @@ use vm_superio::{I8042Device, Rtc, Serial};
 /// of the clock's accesses, both since the board was new. [`Board::line`] states what a line adds to them.
 #[derive(Drop)]
 pub struct Board {
-    serial: Port,
+    serial: BoardSerial,
     clock: Rtc<Counts>,
     controller: I8042Device<Line>,
 }
@@ -62,7 +62,7 @@ impl Board {
     /// Returns [`LineFault::Bad`] if the line has no form or is `refuse`. Returns [`LineFault::Memory`] if memory is
     /// refused for the line `ss`. The board is unchanged after both.
     #[tactic(auto, using(crate::proofs::RestoreLine::restore_line))]
-    pub fn line(&mut self, alloc: Global, line: &[u8]) -> Result<Reply, LineFault>
+    pub fn line(&mut self, alloc: Global, line: &[u8]) -> Result<ReplyText, LineFault>
         ensures bad { IsErrOf result LineFault.Bad ↔ (command_of line.now ≡ None) }
         ensures memory { result ≡ Err LineFault.Memory → line.now ≡ codes "ss" }
         ensures step { IfOk result (λ reply.
@@ -77,7 +77,7 @@ impl Board {
     }
 
     /// Executes a line on the controller, leaves it fresh, and returns the reply.
-    fn controller_line(&mut self, line: ControllerCommand) -> Reply
+    fn controller_line(&mut self, line: ControllerCommand) -> ReplyText
         ensures reply { result.items ≡ controller_reply line }
         ensures same { self.new ≡ self.old }
     {

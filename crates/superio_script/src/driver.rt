@@ -51,7 +51,7 @@ pub fn drain<T: Trigger, EV: SerialEvents, W: Write>(
     if shows_latch(serial.read(LCR_OFFSET)) {
         return bytes;
     }
-    while shows_data(serial.read(LSR_OFFSET)) {
+    while has_data_ready(serial.read(LSR_OFFSET)) {
         bytes.push(serial.read(RBR_OFFSET));
     }
     bytes
@@ -67,7 +67,7 @@ fn shows_latch(line_control: u8) -> bool
 
 /// Whether LSR has data ready set.
 #[tactic(auto, unfolding(superio_core::specs::Bits::has_bits))]
-fn shows_data(line_status: u8) -> bool
+fn has_data_ready(line_status: u8) -> bool
     ensures { result ≡ has_bits line_status lsr_dr_bit }
 {
     line_status & LSR_DATA_READY_BIT == LSR_DATA_READY_BIT

@@ -14,5 +14,5 @@ mod serial_lines;
 pub use devices::Board;
 pub use driver::drain;
 pub use objects::{Counts, Line, LineRefused, Output};
-pub use replies::{LineFault, Reply, ScriptFault};
+pub use replies::{LineFault, ReplyText, ScriptFault};
 pub use script::run_script;

@@ -69,9 +69,9 @@ impl Trigger for Line {
 
     ghost link = { InterruptLineLink };
 
-    ghost no_call = { λ x y. (λ same. same, λ same. same) };
+    ghost empty = { λ x y. (λ same. same, λ same. same) };
 
-    ghost joined = { InterruptLineLink-append };
+    ghost append = { InterruptLineLink-append };
 
     fn trigger(&mut self) -> Result<(), LineRefused> {
         let number = self.calls;
@@ -165,14 +165,14 @@ impl Counts {
 }
 
 impl SerialEvents for Counts {
-    ghost use Rattle.vm_superio.specs.Links.ForAnyObject.{FoldsEvents, FoldsEvents-nil, FoldsEvents-append};
+    ghost use Rattle.vm_superio.specs.Links.ForAnyObject.{FoldsCalls, FoldsCalls-nil, FoldsCalls-append};
     ghost use Rattle.superio_script.specs.Objects.{counts_after_event};
 
-    ghost link = { FoldsEvents counts_after_event };
+    ghost link = { FoldsCalls counts_after_event };
 
-    ghost no_event = { FoldsEvents-nil };
+    ghost empty = { FoldsCalls-nil };
 
-    ghost joined = { FoldsEvents-append };
+    ghost append = { FoldsCalls-append };
 
     fn buffer_read(&mut self) {
         Counts::count(&mut self.buffer_reads);
@@ -192,14 +192,14 @@ impl SerialEvents for Counts {
 }
 
 impl RtcEvents for Counts {
-    ghost use Rattle.vm_superio.specs.Links.ForAnyObject.{FoldsEvents, FoldsEvents-nil, FoldsEvents-append};
+    ghost use Rattle.vm_superio.specs.Links.ForAnyObject.{FoldsCalls, FoldsCalls-nil, FoldsCalls-append};
     ghost use Rattle.superio_script.specs.Objects.{counts_after_clock_event};
 
-    ghost link = { FoldsEvents counts_after_clock_event };
+    ghost link = { FoldsCalls counts_after_clock_event };
 
-    ghost no_event = { FoldsEvents-nil };
+    ghost empty = { FoldsCalls-nil };
 
-    ghost joined = { FoldsEvents-append };
+    ghost append = { FoldsCalls-append };
 
     fn invalid_read(&mut self) {
         Counts::count(&mut self.invalid_reads);

@@ -8,21 +8,21 @@ use std::error::Error;
 use std::fmt;
 
 /// A reply with its LF. The longest has 512 digits, for the 256 bytes that the serial port's output can hold.
-pub type Reply = ArrayVec<u8, 513>;
+pub type ReplyText = ArrayVec<u8, 513>;
 
 /// The text, and LF.
-pub(crate) fn reply_text(text: &[u8]) -> Reply
+pub(crate) fn reply_text(text: &[u8]) -> ReplyText
     requires { length text.now < 513 }
     ensures { result.items ≡ with_lf text.now }
 {
-    let mut reply = Reply::new();
+    let mut reply = ReplyText::new();
     reply.try_extend_from_slice(text).unwrap();
     reply.push(b'\n');
     reply
 }
 
 /// Appends two digits for each byte, to a reply of several fields.
-pub(crate) fn push_digits(reply: &mut Reply, bytes: &[u8])
+pub(crate) fn push_digits(reply: &mut ReplyText, bytes: &[u8])
     requires at_most_256 { length bytes.now ≤ 256 }
     requires room { length reply.old.items + 2 * length bytes.now ≤ 513 }
     ensures digits { reply.new.items ≡ reply.old.items ++ encode_lower bytes.now }
@@ -35,25 +35,25 @@ pub(crate) fn push_digits(reply: &mut Reply, bytes: &[u8])
 }
 
 /// Two digits for each byte, and LF.
-pub(crate) fn reply_digits(bytes: &[u8]) -> Reply
+pub(crate) fn reply_digits(bytes: &[u8]) -> ReplyText
     requires { length bytes.now ≤ 256 }
     ensures { result.items ≡ digits_reply bytes.now }
 {
-    let mut reply = Reply::new();
+    let mut reply = ReplyText::new();
     push_digits(&mut reply, bytes);
     reply.push(b'\n');
     reply
 }
 
 /// The byte as two digits, and LF.
-pub(crate) fn reply_byte(value: u8) -> Reply
+pub(crate) fn reply_byte(value: u8) -> ReplyText
     ensures { result.items ≡ digits_reply (value ∷ []) }
 {
     reply_digits(&[value])
 }
 
 /// The count as sixteen digits, and LF.
-pub(crate) fn reply_count(count: u64) -> Reply
+pub(crate) fn reply_count(count: u64) -> ReplyText
     ensures { result.items ≡ with_lf (count_digits count) }
 {
     reply_digits(&count.to_be_bytes())

@@ -9,7 +9,7 @@ use crate::command::SerialCommand;
 use crate::driver::drain;
 use crate::objects::{Counts, Line, LineRefused, Output};
 use crate::replies::{
-    LineFault, Reply, push_digits, reply_byte, reply_count, reply_digits, reply_text,
+    LineFault, ReplyText, push_digits, reply_byte, reply_count, reply_digits, reply_text,
 };
 use std::alloc::Global;
 use std::mem;
@@ -17,16 +17,16 @@ use vm_superio::serial::Error;
 use vm_superio::{Serial, laws};
 
 /// The serial port of a board.
-pub(crate) type Port = Serial<Line, Counts, Output>;
+pub(crate) type BoardSerial = Serial<Line, Counts, Output>;
 
 /// Executes a line on the serial port and returns the reply. Only `ss` can fail, for lack of memory. The port is then
 /// unchanged.
 #[tactic(auto, using(crate::proofs::SerialScriptLemmas::unchanged_lines))]
 pub(crate) fn serial_line(
     alloc: Global,
-    serial: &mut Port,
+    serial: &mut BoardSerial,
     line: SerialCommand,
-) -> Result<Reply, LineFault>
+) -> Result<ReplyText, LineFault>
     ensures step { IfOk result (λ reply. IsSerialLineStep line reply.items serial.old serial.new) }
     ensures unchanged { OnErr result (serial.new ≡ serial.old) }
     ensures only_memory { IfErr result (λ fault. fault ≡ LineFault.Memory) }
@@ -51,10 +51,10 @@ pub(crate) fn serial_line(
 }
 
 /// The counts of a serial port's events, and LF.
-fn reply_events(counts: &Counts) -> Reply
+fn reply_events(counts: &Counts) -> ReplyText
     ensures { result.items ≡ counts_reply counts.now }
 {
-    let mut reply = Reply::new();
+    let mut reply = ReplyText::new();
     push_digits(&mut reply, &counts.buffer_read_count().to_be_bytes());
     reply.push(b' ');
     push_digits(&mut reply, &counts.out_byte_count().to_be_bytes());
@@ -67,7 +67,7 @@ fn reply_events(counts: &Counts) -> Reply
 }
 
 /// Reads what the port holds, as a driver does.
-fn drain_line(serial: &mut Port) -> Reply
+fn drain_line(serial: &mut BoardSerial) -> ReplyText
     ensures step { IsSerialLineStep Drain result.items serial.old serial.new }
 {
     laws::steps_of_history();
@@ -79,7 +79,7 @@ fn drain_line(serial: &mut Port) -> Reply
 
 /// Makes the port again from its own state, with copies of its interrupt line and counts, and with its output. If the
 /// copy of the interrupt line refuses a call, the old port stays.
-fn restore(alloc: Global, serial: &mut Port) -> Result<Reply, LineFault>
+fn restore(alloc: Global, serial: &mut BoardSerial) -> Result<ReplyText, LineFault>
     ensures step { IfOk result (λ reply. IsSerialLineStep Restore reply.items serial.old serial.new) }
     ensures unchanged { OnErr result (serial.new ≡ serial.old) }
     ensures only_memory { IfErr result (λ fault. fault ≡ LineFault.Memory) }
@@ -104,7 +104,7 @@ fn restore(alloc: Global, serial: &mut Port) -> Result<Reply, LineFault>
 }
 
 /// The reply to a write with this result.
-fn write_reply(answer: Result<(), Error<LineRefused>>) -> Reply
+fn write_reply(answer: Result<(), Error<LineRefused>>) -> ReplyText
     ensures { result.items ≡ response_reply (write_response answer) }
 {
     match answer {
@@ -114,7 +114,7 @@ fn write_reply(answer: Result<(), Error<LineRefused>>) -> Reply
 }
 
 /// The reply to an enqueue with this result.
-fn enqueue_reply(enqueued: Result<usize, Error<LineRefused>>) -> Reply
+fn enqueue_reply(enqueued: Result<usize, Error<LineRefused>>) -> ReplyText
     requires { IfOk enqueued (λ count. count < 256) }
     ensures { result.items ≡ response_reply (enqueue_response enqueued) }
 {
@@ -125,7 +125,7 @@ fn enqueue_reply(enqueued: Result<usize, Error<LineRefused>>) -> Reply
 }
 
 /// The reply to a call that failed with this error.
-fn error_reply(error: Error<LineRefused>) -> Reply
+fn error_reply(error: Error<LineRefused>) -> ReplyText
     ensures { result.items ≡ response_reply (failure_response error) }
 {
     match error {
@@ -133,6 +133,6 @@ fn error_reply(error: Error<LineRefused>) -> Reply
         Error::IOError(_) => reply_text(b"io"),
         Error::FullFifo => reply_text(b"full"),
         // Only a restore allocates memory. If that fails, it has no reply.
-        Error::Memory => Reply::new(),
+        Error::Memory => ReplyText::new(),
     }
 }

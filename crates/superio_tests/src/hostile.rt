@@ -16,10 +16,10 @@ use vm_superio::{I8042Device, Rtc, Serial};
 // ---- a serial port beside its model
 
 /// A port over the objects of a board.
-type Port = Serial<Line, Counts, Output>;
+type TestSerial = Serial<Line, Counts, Output>;
 
 /// A fresh port over a line that refuses the calls of this mask.
-fn fresh(alloc: Global, mask: u64) -> Result<Port, Error<LineRefused>> {
+fn fresh(alloc: Global, mask: u64) -> Result<TestSerial, Error<LineRefused>> {
     Serial::with_events(alloc, Line::new(mask), Counts::new(), Output::new()).map_err(
         Refused::into_error,
     )
@@ -35,7 +35,7 @@ fn failed(error: Error<LineRefused>) -> Answer {
 }
 
 /// Makes a call.
-fn make(serial: &mut Port, act: Act) -> Answer {
+fn make(serial: &mut TestSerial, act: Act) -> Answer {
     match act {
         Act::Read(offset) => Answer::Byte(serial.read(offset)),
         Act::Write(offset, value) => match serial.write(offset, value) {
@@ -69,7 +69,7 @@ fn answers(mask: u64, first: u64, count: u64) -> Option<Asked> {
 
 /// Makes a call, adds it to the past, and returns whether it replied, called the line and left bytes as the past says.
 fn is_as_modelled<'a>(
-    serial: &mut Port,
+    serial: &mut TestSerial,
     past: &mut Vec<Record<'a>>,
     act: Act<'a>,
 ) -> Result<bool, AllocError> {

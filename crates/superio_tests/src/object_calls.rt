@@ -3,7 +3,7 @@
 //! event, an output that is drained, and a script, which calls its streams no more than it has to. A call that takes
 //! and drops objects does not call them before.
 use crate::objects::{
-    Log, Object, PortCall, Then, Writing, by_std, faults, in_order, is_same, port, port_over,
+    Log, Object, SerialCall, Then, Writing, by_std, faults, in_order, is_same, port, port_over,
     writings,
 };
 use std::alloc::Global;
@@ -11,7 +11,7 @@ use std::io;
 use std::io::{Read, Write};
 use std::test::Fail;
 use superio_examples::bus::{Bus, BusError, COM1, Keyboard};
-use superio_examples::queues::Output;
+use superio_examples::queues::OutputQueue;
 use superio_examples::triggers::EventFd;
 use superio_script::{LineRefused, ScriptFault, run_script};
 use vm_superio::run::{Call, Reply, run};
@@ -111,7 +111,7 @@ fn a_data_write_turns_to_the_writer_then_events_then_trigger(rt: HostRuntime) ->
 /// Whether the data write of a run over these objects returned their fault, and called `write` and `flush` no more than
 /// it has to.
 fn is_right_in_a_run(alloc: Global, object: Object<'_>, writing: Writing) -> Result<bool, Fail> {
-    let calls: Vec<PortCall> = vec![in alloc; Call::Read(7), Call::Write(0, b'x')]?;
+    let calls: Vec<SerialCall> = vec![in alloc; Call::Read(7), Call::Write(0, b'x')]?;
     let mut serial = port_over(alloc, object)?;
     let done = run(alloc, &mut serial, calls)?;
     let Some(record) = done.get(1) else {
@@ -172,7 +172,7 @@ fn a_drained_output_is_one_write_and_returns_its_fault(rt: HostRuntime) -> Resul
             (takes_some, b"ting"),
         ];
         for (writing, left) in rows {
-            let mut output = Output::restored(alloc, b"waiting", 7, 0)?;
+            let mut output = OutputQueue::restored(alloc, b"waiting", 7, 0)?;
             let log = Log::new();
             log.start(writing);
             let drained = output.drain_into(&mut Object(&log));

@@ -1,8 +1,8 @@
 //! The objects that the tests give to a device: a trigger, an events object and a writer, which share a log; and the
 //! faults of writers.
 ghost use Rattle.std.specs.Prelude.{IfOk};
-ghost use Rattle.vm_superio.specs.Claims.{shows_data, is_outside};
-ghost use Rattle.vm_superio.specs.Links.ForAnyObject.{Unspecified, Unspecified-nil, Unspecified-append};
+ghost use Rattle.vm_superio.specs.Claims.{dlab_clear, not_in_loopback};
+ghost use Rattle.vm_superio.specs.Links.ForAnyObject.{AnyCalls, AnyCalls-nil, AnyCalls-append};
 
 use std::alloc::{AllocError, Global};
 use std::cell::Cell;
@@ -204,18 +204,18 @@ fn counted(calls: &Cell<u64>) -> u64 {
 pub struct Object<'a>(pub &'a Log);
 
 /// A port over three objects of a log.
-pub type Port<'a> = Serial<Object<'a>, Object<'a>, Object<'a>>;
+pub type TestSerial<'a> = Serial<Object<'a>, Object<'a>, Object<'a>>;
 
 /// A call of such a port in a run.
-pub type PortCall<'a> = Call<Object<'a>, Object<'a>, Object<'a>>;
+pub type SerialCall<'a> = Call<Object<'a>, Object<'a>, Object<'a>>;
 
 /// A new port.
-pub fn port(alloc: Global, log: &Log) -> Result<Port<'_>, Error<LineRefused>> {
+pub fn port(alloc: Global, log: &Log) -> Result<TestSerial<'_>, Error<LineRefused>> {
     port_over(alloc, Object(log))
 }
 
 /// A new port over this object, which can be used beside it.
-pub fn port_over(alloc: Global, object: Object<'_>) -> Result<Port<'_>, Error<LineRefused>> {
+pub fn port_over(alloc: Global, object: Object<'_>) -> Result<TestSerial<'_>, Error<LineRefused>> {
     Serial::with_events(alloc, object, object, object).map_err(Refused::into_error)
 }
 
@@ -225,8 +225,8 @@ pub fn port_over_vector(
     alloc: Global,
     object: Object<'_>,
 ) -> Result<Serial<Object<'_>, NoEvents, Vec<u8>>, Error<LineRefused>>
-    ensures data { IfOk result (λ serial. shows_data serial) }
-    ensures outside { IfOk result (λ serial. is_outside serial) }
+    ensures data { IfOk result (λ serial. dlab_clear serial) }
+    ensures outside { IfOk result (λ serial. not_in_loopback serial) }
 {
     Serial::new(alloc, object, Vec::new(alloc)).map_err(Refused::into_error)
 }
@@ -234,11 +234,11 @@ pub fn port_over_vector(
 impl Trigger for Object<'_> {
     type E = LineRefused;
 
-    ghost link = { Unspecified };
+    ghost link = { AnyCalls };
 
-    ghost no_call = { Unspecified-nil };
+    ghost empty = { AnyCalls-nil };
 
-    ghost joined = { Unspecified-append };
+    ghost append = { AnyCalls-append };
 
     fn trigger(&mut self) -> Result<(), LineRefused> {
         self.0.note(b'T');
@@ -251,11 +251,11 @@ impl Trigger for Object<'_> {
 }
 
 impl SerialEvents for Object<'_> {
-    ghost link = { Unspecified };
+    ghost link = { AnyCalls };
 
-    ghost no_event = { Unspecified-nil };
+    ghost empty = { AnyCalls-nil };
 
-    ghost joined = { Unspecified-append };
+    ghost append = { AnyCalls-append };
 
     fn buffer_read(&mut self) {
         self.0.note(b'r');
@@ -279,11 +279,11 @@ impl SerialEvents for Object<'_> {
 }
 
 impl RtcEvents for Object<'_> {
-    ghost link = { Unspecified };
+    ghost link = { AnyCalls };
 
-    ghost no_event = { Unspecified-nil };
+    ghost empty = { AnyCalls-nil };
 
-    ghost joined = { Unspecified-append };
+    ghost append = { AnyCalls-append };
 
     fn invalid_read(&mut self) {
         counted(&self.0.events);

@@ -5,7 +5,7 @@ use std::error::Error as StdError;
 use std::test::Fail;
 use superio_script::LineRefused;
 use vm_superio::saved;
-use vm_superio::saved::Fault;
+use vm_superio::saved::SavedStateError;
 use vm_superio::serial::Error;
 
 /// What an error prints to a caller that knows only std's `Error`.
@@ -32,23 +32,23 @@ fn errors_print_what_failed_and_why(rt: HostRuntime) -> Result<(), Fail> {
         assert!(rt; text(alloc, &error)? == expected, "{fault:?}");
     }
     for (fault, printed) in [
-        (Fault::TooShort, "Too short for a saved state"),
-        (Fault::NotASavedState, "Not a saved state"),
-        (Fault::OtherDevice, "The saved state of another device"),
+        (SavedStateError::TooShort, "Too short for a saved state"),
+        (SavedStateError::NotASavedState, "Not a saved state"),
+        (SavedStateError::OtherDevice, "The saved state of another device"),
         (
-            Fault::UnknownVersion(2),
+            SavedStateError::UnknownVersion(2),
             "A saved state of an unknown version",
         ),
-        (Fault::WrongLength, "A saved state of the wrong length"),
-        (Fault::TooManyBytes, "More than 64 received bytes"),
+        (SavedStateError::WrongLength, "A saved state of the wrong length"),
+        (SavedStateError::TooManyBytes, "More than 64 received bytes"),
         (
-            Fault::InvalidArmed,
+            SavedStateError::InvalidArmed,
             "An alarm that is neither set nor clear",
         ),
     ] {
         assert!(rt; text(alloc, &fault)?.as_str() == printed);
-        assert!(rt; text(alloc, &saved::Error::from(fault))?.as_str() == printed);
+        assert!(rt; text(alloc, &saved::LoadError::from(fault))?.as_str() == printed);
     }
-    assert!(rt; text(alloc, &saved::Error::Memory)?.as_str() == "Out of memory");
+    assert!(rt; text(alloc, &saved::LoadError::Memory)?.as_str() == "Out of memory");
     Ok(())
 }

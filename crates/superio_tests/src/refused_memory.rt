@@ -1,4 +1,4 @@
-//! What is left if memory is refused. `tools/checks/refused_memory` runs each of these tests without its first
+//! What is left if memory is refused. `tests/checks/refused_memory` runs each of these tests without its first
 //! allocation, without its second, and so on, until a run has them all. As a run goes without one at most, a call that
 //! was refused memory has to succeed when it is made again.
 use std::alloc::{AllocError, Global};
@@ -11,9 +11,9 @@ use vm_superio::run::{Call, Reply, run};
 use vm_superio::serial::{Error, NoEvents, Refused, SerialEvents};
 use vm_superio::{Serial, SerialState};
 
-type Port = Serial<Line, Counts, Output>;
+type TestSerial = Serial<Line, Counts, Output>;
 
-type PortCall = Call<Line, Counts, Output>;
+type SerialCall = Call<Line, Counts, Output>;
 
 // ---- objects that differ from fresh ones, and ports
 
@@ -59,7 +59,7 @@ fn state(alloc: Global) -> Result<SerialState, AllocError> {
 }
 
 /// A port of this state over a line with mask 0.
-fn port(alloc: Global, state: &SerialState) -> Result<Port, Error<LineRefused>> {
+fn port(alloc: Global, state: &SerialState) -> Result<TestSerial, Error<LineRefused>> {
     match Serial::from_state(alloc, state, Line::new(0), Counts::new(), Output::new()) {
         Ok(serial) => Ok(serial),
         Err(_) => Serial::from_state(
@@ -145,7 +145,7 @@ fn calls_of_a_port_take_no_memory(rt: HostRuntime) -> Result<(), Fail> {
 // ---- runs
 
 /// Calls with a restore among them.
-fn calls(alloc: Global) -> Result<Vec<PortCall>, AllocError> {
+fn calls(alloc: Global) -> Result<Vec<SerialCall>, AllocError> {
     let bytes = b"a".to_vec(alloc)?;
     Ok(vec![in alloc;
         Call::Write(1, 0x01),

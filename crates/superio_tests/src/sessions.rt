@@ -6,18 +6,18 @@ use std::test::Fail;
 use superio_examples::bus::{Bus, BusError, COM1, COM2, COM3, COM4, Keyboard};
 use superio_examples::mmio::ClockWindow;
 use superio_examples::monitor::Answer::{Done, Full, Reset, Shows};
-use superio_examples::monitor::Event::{
+use superio_examples::monitor::MachineEvent::{
     MemoryRead, MemoryWrite, Moment, PortRead, PortWrite, Refused, Timer, Typed,
 };
-use superio_examples::monitor::{Answer, Event, Monitor, Reply};
+use superio_examples::monitor::{Answer, MachineEvent, Monitor, MachineReply};
 use superio_examples::saved_monitor::{move_monitor, restore_monitor, save_monitor};
-use vm_superio::saved::{Error, Fault};
+use vm_superio::saved::{LoadError, SavedStateError};
 use vm_superio::{I8042Device, Rtc};
 
 // ---- buses
 
 /// A bus over objects of a log.
-type PortBus<'a> = Bus<Object<'a>, Object<'a>, Object<'a>, Object<'a>>;
+type TestBus<'a> = Bus<Object<'a>, Object<'a>, Object<'a>, Object<'a>>;
 
 /// Writes of one, two or four bytes, or of none that a guest has. At the first bus the keyboard is silent, and at the
 /// second there is none.
@@ -70,7 +70,7 @@ const READS: [(u16, &[u8], &[u8]); 16] = [
 ];
 
 /// Whether a read of so many bytes at this port gives these.
-fn gives(bus: &mut PortBus<'_>, at: u16, expected: &[u8]) -> bool {
+fn gives(bus: &mut TestBus<'_>, at: u16, expected: &[u8]) -> bool {
     let mut bytes = [0xAA; 4];
     let read = &mut bytes[..expected.len().min(4)];
     bus.port_in(at, read);
@@ -170,7 +170,7 @@ const CLOCK: u64 = 0x0901_0000;
 
 /// Events, and to each the answer, how often the interrupt is raised, and whether the clock's line is up. At most one
 /// byte waits.
-const SESSION: [(Event, Answer, u8, bool); 48] = [
+const SESSION: [(MachineEvent, Answer, u8, bool); 48] = [
     // What is typed waits while the guest tests its port.
     (Typed(b'a'), Done, 0, false),
     (PortWrite(0x3F9, 0x0F), Done, 1, false),
@@ -230,7 +230,7 @@ const SESSION: [(Event, Answer, u8, bool); 48] = [
 ];
 
 /// The place of the first reply that is not as in the session.
-fn first_wrong(before: &[Reply], after: &[Reply]) -> Option<usize> {
+fn first_wrong(before: &[MachineReply], after: &[MachineReply]) -> Option<usize> {
     let replies = before.iter().chain(after.iter());
     SESSION.iter().zip(replies).position(|((_, answer, interrupts, line), reply)| {
         reply.answer != *answer || reply.interrupts != *interrupts || reply.clock_line != *line
@@ -273,6 +273,6 @@ fn a_guest_that_polls_gets_its_input_at_once(rt: HostRuntime) -> Result<(), Fail
     assert!(rt; restore_monitor(rt.alloc(), &saved).is_ok());
     saved.serial = saved.clock.clone()?;
     let error = restore_monitor(rt.alloc(), &saved).err();
-    assert!(rt; matches!(error, Some(Error::Bytes(Fault::OtherDevice))));
+    assert!(rt; matches!(error, Some(LoadError::Invalid(SavedStateError::OtherDevice))));
     Ok(())
 }

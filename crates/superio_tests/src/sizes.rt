@@ -1,6 +1,6 @@
 //! Calls that may return that memory was refused do not, while there is memory. A body that gives up at some size meets
 //! each contract.
-use crate::objects::{Log, Object, Port, PortCall, port_over, port_over_vector};
+use crate::objects::{Log, Object, TestSerial, SerialCall, port_over, port_over_vector};
 use std::alloc::{AllocError, Global};
 use std::io::Write;
 use std::test::Fail;
@@ -11,7 +11,7 @@ use superio_examples::monitor::{Event, Monitor};
 use superio_examples::queues::{Input, Output};
 use superio_examples::saved_monitor::{move_monitor, save_monitor};
 use vm_superio::run::{Call, run};
-use vm_superio::serial::SerialPort;
+use vm_superio::serial::Uart;
 use vm_superio::{Serial, SerialState};
 
 /// Sizes about the FIFO's, and above.
@@ -27,7 +27,7 @@ fn states_of_each_size_are_made(rt: HostRuntime) -> Result<(), Fail> {
         state.in_buffer = b"x".repeat(alloc, held)?;
         let form = state.to_bytes().unwrap();
         assert!(rt; SerialState::from_bytes(alloc, form.as_bytes())? == state);
-        assert!(rt; SerialState::from_port(alloc, &state.to_port().unwrap())? == state);
+        assert!(rt; SerialState::from_uart(alloc, &state.to_uart().unwrap())? == state);
         let made = Serial::from_state(alloc, &state, object, object, object).map_err(
             |_| AllocError,
         )?;
@@ -42,8 +42,8 @@ fn calls_of<'a>(
     alloc: Global,
     object: Object<'a>,
     bytes: Vec<u8>,
-) -> Result<Vec<PortCall<'a>>, AllocError> {
-    let mut calls: Vec<PortCall<'a>> = Vec::new(alloc);
+) -> Result<Vec<SerialCall<'a>>, AllocError> {
+    let mut calls: Vec<SerialCall<'a>> = Vec::new(alloc);
     for _ in 0..bytes.len() {
         calls.push(Call::Read(5))?;
     }
@@ -55,8 +55,8 @@ fn calls_of<'a>(
 /// How many records a run of so many reads, an enqueue and a restore gives, and how many bytes a new port gives back.
 fn counts_of<'a>(alloc: Global, object: Object<'a>, size: usize) -> Result<[usize; 2], Fail> {
     let bytes = b"x".repeat(alloc, size)?;
-    let calls: Vec<PortCall<'a>> = calls_of(alloc, object, bytes.clone()?)?;
-    let mut serial: Port<'a> = port_over(alloc, object)?;
+    let calls: Vec<SerialCall<'a>> = calls_of(alloc, object, bytes.clone()?)?;
+    let mut serial: TestSerial<'a> = port_over(alloc, object)?;
     let done = run(alloc, &mut serial, calls)?;
     restored_reads_same(alloc, &mut serial, object, object, object, 0)?;
     Ok([done.len(), read_back(alloc, object, object, &bytes)?.len()])
@@ -79,7 +79,7 @@ fn queues_and_monitors_of_each_size_are_made(rt: HostRuntime) -> Result<(), Fail
         let bytes = b"x".repeat(alloc, size)?;
         let mut input = Input::new(alloc, size)?;
         assert!(rt; input.push(&bytes) == size && input.room() == 0 && input.limit() == size);
-        input.feed(&mut SerialPort::new());
+        input.feed(&mut Uart::new());
         assert!(rt; Input::restored(alloc, &bytes, 0)?.waiting(alloc)? == bytes);
         let mut output = Output::new(alloc, size)?;
         assert!(rt;

@@ -1,7 +1,7 @@
 -- The PL031 clock: the events that an access reports, and the clock with its events object.
 use Rattle.std.specs.Prelude.{if◌then◌else◌, List, [], ◌∷◌}
 pub use Rattle.superio_core.specs.Rtc.{Access, read, write, clock_register_at, is_readable, is_writable}
-use Rattle.superio_core.specs.declared.rtc_pl031.saved_form.RtcState.{RtcState}
+use Rattle.superio_core.specs.declared.rtc_pl031.encoding.RtcState.{RtcState}
 
 -- a read, or a write, at an offset that has no such access
 pub data RtcEvent : Type 0 where

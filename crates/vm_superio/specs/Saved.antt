@@ -1,14 +1,14 @@
 -- Saved states: the state of one, what an error prints, and the version, which is that of the writer. A reader refuses
 -- every other.
 use Rattle.std.specs.Prelude.{ℕ, List, codes, Option, Some, ◌≡◌, ◌≢◌, ◌∷◌, ◌++◌, slice_index}
-use Rattle.vm_superio.specs.declared.serial.saved_form.SerialState.{SerialState}
+use Rattle.vm_superio.specs.declared.serial.encoding.SerialState.{SerialState}
 use Rattle.superio_core.specs.Serial.{State}
-use Rattle.vm_superio.specs.declared.saved.Error.{Error}
-use Rattle.vm_superio.specs.declared.saved.Error.TheVariants.{Bytes, Memory}
-use Rattle.superio_core.specs.declared.rtc_pl031.saved_form.RtcState.{RtcState}
-use Rattle.superio_core.specs.declared.saved.Error.{Error as Fault}
-use Rattle.superio_core.specs.declared.saved.Error.TheVariants.{UnknownVersion}
-use Rattle.superio_core.specs.Saved.{serial_fault, clock_fault, magic, serial_kind, clock_kind, version, serial_form, clock_form}
+use Rattle.vm_superio.specs.declared.saved.LoadError.{LoadError}
+use Rattle.vm_superio.specs.declared.saved.LoadError.TheVariants.{Invalid, Memory}
+use Rattle.superio_core.specs.declared.rtc_pl031.encoding.RtcState.{RtcState}
+use Rattle.superio_core.specs.declared.saved.SavedStateError.{SavedStateError}
+use Rattle.superio_core.specs.declared.saved.SavedStateError.TheVariants.{UnknownVersion}
+use Rattle.superio_core.specs.Saved.{serial_fault, clock_fault, magic, serial_kind, clock_kind, version, serial_encoding, clock_encoding}
 use Rattle.superio_core.specs.Saved as check
 
 -- the fields of a saved state, with the received bytes as a list
@@ -28,21 +28,21 @@ state_of saved = record {
 
 -- ---- what an error of a saved port prints
 
-abbrev pub text_of : (error : Error) → Option (List ℕ)
-text_of (Bytes fault) = check.text_of fault
-text_of Memory = Some (codes "Out of memory")
+abbrev pub load_error_text : (error : LoadError) → Option (List ℕ)
+load_error_text (Invalid fault) = check.saved_state_error_text fault
+load_error_text Memory = Some (codes "Out of memory")
 
 -- ---- the version in a saved state: each form has that of its writer, and a reader refuses every other
 
 -- the version is at place 5 of each form
 abbrev pub SerialVersionLaw : Type 0
-SerialVersionLaw = (state : State) → slice_index (serial_form state) 5 ≡ version
+SerialVersionLaw = (state : State) → slice_index (serial_encoding state) 5 ≡ version
 
 abbrev pub ClockVersionLaw : Type 0
-ClockVersionLaw = (state : RtcState) → slice_index (clock_form state) 5 ≡ version
+ClockVersionLaw = (state : RtcState) → slice_index (clock_encoding state) 5 ≡ version
 
 -- bytes of the device that have another version at this place are refused for it, whatever follows
-abbrev IsRefusedForVersion : (fault : List ℕ → Option Fault) (kind : ℕ) → Type 0
+abbrev IsRefusedForVersion : (fault : List ℕ → Option SavedStateError) (kind : ℕ) → Type 0
 IsRefusedForVersion fault kind = (other : ℕ) (rest : List ℕ) (low high : ℕ) → other ≢ version
     → fault (magic ++ kind ∷ other ∷ low ∷ high ∷ rest) ≡ Some (UnknownVersion other)
 

@@ -4,7 +4,7 @@ ghost use Rattle.std.specs.Prelude.{◌≡◌, ◌≤◌, List, ℕ, [], length,
 use circular_buffer::HeapCircularBuffer;
 use std::alloc::{AllocError, Global};
 use std::marker::Model;
-use superio_core::fifo::{FIFO_SIZE, ReceiveFifo};
+use superio_core::fifo::{FIFO_SIZE, RxFifo};
 
 /// The received bytes that no guest has read, as a list. Their memory is allocated once, at creation.
 #[derive(Drop)]
@@ -56,10 +56,10 @@ impl Fifo {
     }
 }
 
-impl ReceiveFifo for Fifo {
+impl RxFifo for Fifo {
     ghost held = { λ fifo. fifo };
 
-    ghost canonical = { λ fifo. Unit {0} };
+    ghost len_in_range = { λ fifo. Unit {0} };
 
     fn len(&self) -> usize {
         self.bytes.len()

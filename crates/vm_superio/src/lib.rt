@@ -35,9 +35,9 @@ pub trait Trigger {
         ensures { link self.old (result ∷ []) self.new };
 
     /// The empty list links equal values only.
-    ghost no_call: { (x y : Self) → link x [] y ↔ (x ≡ y) };
+    ghost empty: { (x y : Self) → link x [] y ↔ (x ≡ y) };
 
     /// Consecutive calls join into one list.
-    ghost joined: { (x y z : Self) (first second : List (Result (Unit {0}) Self.E)) →
+    ghost append: { (x y z : Self) (first second : List (Result (Unit {0}) Self.E)) →
         link x first y → link y second z → link x (first ++ second) z };
 }

@@ -10,13 +10,13 @@ ghost use Rattle.std.specs.Prelude.{◌≡◌, ◌↔◌, ◌<◌, ◌^◌, ◌=
 ghost use Rattle.std.specs.Bool.{OnTrue, OnFalse};
 ghost use Rattle.std.proofs.Common.{◌∙◌};
 ghost use Rattle.std.specs.Int.{w32, to_le_bytes};
-ghost use Rattle.superio_core.specs.Rtc.Step.{guest_time_in, is_line_up, IsAlarmDue, after_alarm, clock_response, clock_step};
+ghost use Rattle.superio_core.specs.Rtc.Step.{guest_time_in, rtc_irq_level, IsAlarmDue, after_alarm, clock_response, clock_step};
 ghost use Rattle.vm_superio.specs.Rtc.{RtcEvent, invalid_read, invalid_write, ClockDevice, clock_events};
 ghost use Rattle.superio_laws.specs.Rtc.{GoesOnFrom, ReadsByHistory, GoesOnByHistory};
 ghost use Rattle.superio_core.specs.Rtc.{state_of_clock, read, write, write_of, clock_register_at, is_readable, is_writable, host_time, bytes_left, fresh_clock};
 
 use std::marker::Model;
-pub use superio_core::rtc_pl031::{Clock, ClockRegister, RtcState, saved_form};
+pub use superio_core::rtc_pl031::{Pl031, ClockRegister, RtcState, encoding};
 
 /// Receives a clock's invalid accesses.
 ///
@@ -37,10 +37,10 @@ pub trait RtcEvents {
         ensures { link self.old (invalid_write ∷ []) self.new };
 
     /// The empty list links equal values only.
-    ghost no_event: { (x y : Self) → link x [] y ↔ (x ≡ y) };
+    ghost empty: { (x y : Self) → link x [] y ↔ (x ≡ y) };
 
     /// Consecutive events join into one list.
-    ghost joined: { (x y z : Self) (first second : List RtcEvent) →
+    ghost append: { (x y z : Self) (first second : List RtcEvent) →
         link x first y → link y second z → link x (first ++ second) z };
 }
 
@@ -51,9 +51,9 @@ pub struct NoEvents;
 impl RtcEvents for NoEvents {
     ghost link = { λ old _ new. old ≡ new };
 
-    ghost no_event = { λ _ _. (λ same. same, λ same. same) };
+    ghost empty = { λ _ _. (λ same. same, λ same. same) };
 
-    ghost joined = { λ _ _ _ _ _ first second. first ∙ second };
+    ghost append = { λ _ _ _ _ _ first second. first ∙ second };
 
     fn invalid_read(&mut self) {}
 
@@ -65,7 +65,7 @@ impl RtcEvents for NoEvents {
 /// An access is four bytes, lowest byte first. Contracts see the clock as its state and its events object.
 #[derive(Drop)]
 pub struct Rtc<EV: RtcEvents> {
-    clock: Clock,
+    clock: Pl031,
     events: EV,
 }
 
@@ -123,7 +123,7 @@ impl<EV: RtcEvents> Rtc<EV> {
         ensures events { result.events ≡ rtc_events }
     {
         Rtc {
-            clock: Clock::from_state(state),
+            clock: Pl031::from_state(state),
             events: rtc_events,
         }
     }
@@ -171,7 +171,7 @@ impl<EV: RtcEvents> Rtc<EV> {
     /// Whether the interrupt line is up: bit 0 of RTCMIS, set if both the raw interrupt status and the mask have it.
     /// Only an access changes it.
     pub fn interrupt_line(&self) -> bool
-        ensures { result ≡ is_line_up self.now.state }
+        ensures { result ≡ rtc_irq_level self.now.state }
     {
         self.clock.interrupt_line()
     }

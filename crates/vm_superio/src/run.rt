@@ -1,7 +1,7 @@
 //! Runs: a list of calls to a serial port as one call, with a record of each.
 ghost use Rattle.std.specs.Prelude.{◌≡◌, ◌≤◌, ◌+◌, IfOk, OnErr};
 ghost use Rattle.superio_core.specs.Serial.{Coherent};
-ghost use Rattle.vm_superio.specs.Links.Writer.{port_links};
+ghost use Rattle.vm_superio.specs.Links.Writer.{serial_links};
 ghost use Rattle.vm_superio.specs.Serial.Run.{act_of, acknowledged_in, answers_in_records};
 ghost use Rattle.vm_superio.specs.Serial.Run.Steps.{IsCallStep, IsRun, by_steps};
 ghost use Rattle.vm_superio.specs.Serial.Run.Segments.{SegmentsAre};
@@ -94,12 +94,12 @@ pub fn run<T: Trigger + Drop, EV: SerialEvents + Drop, W: Write + Drop>(
     calls: Vec<Call<T, EV, W>>,
 ) -> Result<Vec<Done<T, EV, W>>, AllocError>
     ensures run { IfOk result (λ done.
-        IsRun (port_links T.link EV.link W.contents) serial.old calls.items done.items serial.new) }
+        IsRun (serial_links T.link EV.link W.contents) serial.old calls.items done.items serial.new) }
     ensures segments { IfOk result (λ done.
-        SegmentsAre (port_links T.link EV.link W.contents) (by_steps serial.old.state)
+        SegmentsAre (serial_links T.link EV.link W.contents) (by_steps serial.old.state)
         serial.old calls.items done.items serial.new) }
     ensures history { IfOk result (λ done. Coherent serial.old.state →
-        HistoryTheorem (port_links T.link EV.link W.contents) serial.old calls.items done.items serial.new) }
+        HistoryTheorem (serial_links T.link EV.link W.contents) serial.old calls.items done.items serial.new) }
     // Two for what was not pending at first, and one for each condition that a read acknowledges.
     ensures bound { IfOk result (λ done. answers_in_records done.items ≤ 2 + acknowledged_in calls.items) }
     ensures refused { OnErr result (serial.new ≡ serial.old) }
@@ -116,7 +116,7 @@ impl<T: Trigger, EV: SerialEvents, W: Write> Serial<T, EV, W> {
     /// Makes one call.
     fn make(&mut self, alloc: Global, call: Call<T, EV, W>) -> Done<T, EV, W>
         ensures act { result.act ≡ act_of call }
-        ensures made { IsCallStep (port_links T.link EV.link W.contents) call result.asked result.sent result.reply
+        ensures made { IsCallStep (serial_links T.link EV.link W.contents) call result.asked result.sent result.reply
             self.old self.new }
     {
         match call {
@@ -165,7 +165,7 @@ impl<T: Trigger, EV: SerialEvents, W: Write> Serial<T, EV, W> {
 
     /// Recreates the port from its own state, with these objects.
     fn restore(&mut self, alloc: Global, trigger: T, events: EV, out: W) -> Reply<T, EV, W>
-        ensures { IsCallStep (port_links T.link EV.link W.contents) (Call.Restore trigger events out)
+        ensures { IsCallStep (serial_links T.link EV.link W.contents) (Call.Restore trigger events out)
             Asked.Nothing Sent.Nothing result self.old self.new }
     {
         let Ok(state) = self.state(alloc) else {

@@ -1,40 +1,40 @@
 //! Why the bytes of a saved state were not read.
 use std::error::Error as StdError;
 use std::fmt;
-pub use superio_core::saved::Error as Fault;
+pub use superio_core::saved::SavedStateError;
 
 /// Why a serial port's state was not read.
 #[derive(Clone, Copy, Debug, Eq, PartialEq)]
-pub enum Error {
+pub enum LoadError {
     /// The first check of the bytes that failed.
-    Bytes(Fault),
+    Invalid(SavedStateError),
     /// Memory was refused.
     Memory,
 }
 
-impl fmt::Display for Error {
-    ghost use Rattle.vm_superio.specs.Saved.{text_of};
+impl fmt::Display for LoadError {
+    ghost use Rattle.vm_superio.specs.Saved.{load_error_text};
 
-    ghost output = { text_of };
+    ghost output = { load_error_text };
 
     fn fmt<W: fmt::Write>(&self, f: &mut fmt::Formatter<W>) -> fmt::Result {
         match self {
-            Error::Bytes(fault) => write!(f, "{fault}"),
-            Error::Memory => write!(f, "Out of memory"),
+            LoadError::Invalid(fault) => write!(f, "{fault}"),
+            LoadError::Memory => write!(f, "Out of memory"),
         }
     }
 }
 
-impl StdError for Error {}
+impl StdError for LoadError {}
 
-/// Lets `?` turn a failed check into [`Error::Bytes`].
-impl From<Fault> for Error {
+/// Lets `?` turn a failed check into [`LoadError::Invalid`].
+impl From<SavedStateError> for LoadError {
     ghost use Rattle.std.specs.Prelude.{◌≡◌};
-    ghost use Rattle.vm_superio.specs.declared.saved.Error.TheVariants.{Bytes};
+    ghost use Rattle.vm_superio.specs.declared.saved.LoadError.TheVariants.{Invalid};
 
-    ghost from_gives = { λ fault error. error ≡ Bytes fault };
+    ghost from_gives = { λ fault error. error ≡ Invalid fault };
 
-    fn from(fault: Fault) -> Self {
-        Self::Bytes(fault)
+    fn from(fault: SavedStateError) -> Self {
+        Self::Invalid(fault)
     }
 }

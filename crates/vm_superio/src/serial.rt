@@ -2,27 +2,27 @@
 ghost use Rattle.vm_superio.specs.Links.{all_ok, RefusesOwnState};
 ghost use Rattle.std.specs.Prelude.{◌≡◌, ◌<◌, ◌≤◌, ◌+◌, ◌-◌, ◌==◌, not, ℕ, [], ◌∷◌, ◌++◌, if◌then◌else◌, false, length, vec_len, IsErr, IfOk, OnOk, OnErr, IfErr};
 ghost use Rattle.vm_superio.specs.Saved.{state_of};
-ghost use Rattle.vm_superio.specs.Serial.{Coherent, fresh_state, is_line_up, restore_calls};
+ghost use Rattle.vm_superio.specs.Serial.{Coherent, fresh_state, irq_level, conditions_due};
 ghost use Rattle.vm_superio.specs.Serial.Step.{RefusesRestore};
 
 mod errors;
 mod events;
 mod recorded;
-pub mod saved_form;
+pub mod encoding;
 
 use crate::Trigger;
 use crate::fifo::Fifo;
 pub use errors::{Error, Refused};
 pub use events::{NoEvents, SerialEvents};
 use recorded::{call_again, report_read, restored};
-pub use saved_form::SerialState;
+pub use encoding::SerialState;
 use std::alloc::{AllocError, Global};
 use std::io::Write;
 use std::marker::Model;
-use superio_core::fifo::{FIFO_SIZE, ReceiveFifo};
+use superio_core::fifo::{FIFO_SIZE, RxFifo};
 use superio_core::serial::registers::Registers;
 pub use superio_core::serial::registers::{Condition, Register};
-pub use superio_core::serial::{EnqueueEffects, ReadEffects, RxRing, SerialPort, WriteEffects};
+pub use superio_core::serial::{EnqueueEffects, ReadEffects, ArrayFifo, Uart, WriteEffects};
 
 /// A 16550 serial port, reduced to what a guest's driver uses: its registers, a receive FIFO of 64 bytes that is always
 /// on, and two interrupt conditions.
@@ -38,9 +38,9 @@ pub struct Serial<T: Trigger, EV: SerialEvents, W: Write> {
 }
 
 impl<T: Trigger, EV: SerialEvents, W: Write> Model for Serial<T, EV, W> {
-    ghost use Rattle.vm_superio.specs.Serial.{Port, state_with};
+    ghost use Rattle.vm_superio.specs.Serial.{SerialView, state_with};
 
-    ghost Value = { Port T EV W };
+    ghost Value = { SerialView T EV W };
 
     ghost view = { λ serial. record {
       state = state_with serial.registers serial.in_buffer;
@@ -82,8 +82,8 @@ impl<T: Trigger, EV: SerialEvents, W: Write> Serial<T, EV, W> {
     ghost use Rattle.std.specs.Borrow.{Lends, sem};
     ghost use Rattle.vm_superio.specs.contracts.serial.Serial.{the_row};
     ghost use Rattle.std.specs.Io.KnownBytes.{Appends};
-    ghost use Rattle.vm_superio.specs.Serial.{Other, Read, SameSettings, ShowsHeldBytes, Write, acknowledged_at, enqueued_bytes, is_dlab, kind_in_state, sends_byte, sent_by, turned_on_count};
-    ghost use Rattle.vm_superio.specs.Serial.Step.{EnqueueFate, IsEnqueueStep, IsReadStep, IsRetryStep, IsTimeoutStep, IsWriteStep, SameElsewhere, TimeoutFate, WriteFate, pending_count, transmitter, with_events, with_trigger, with_writer};
+    ghost use Rattle.vm_superio.specs.Serial.{Other, Read, SameSettings, RdaCoversHeldBytes, Write, acknowledged_at, enqueued_bytes, is_dlab, decode_in, sends_byte, sent_by, turned_on_count};
+    ghost use Rattle.vm_superio.specs.Serial.Step.{EnqueueFate, IsSerialEnqueue, IsSerialRead, IsSerialRetry, IsSerialTimeout, IsSerialWrite, SameElsewhere, TimeoutFate, WriteFate, pending_count, transmitter, with_events, with_trigger, with_writer};
 
     /// Makes a serial port as `new` does, but reports events to `serial_evts`. Calls neither the trigger nor the events
     /// object.
@@ -145,7 +145,7 @@ impl<T: Trigger, EV: SerialEvents, W: Write> Serial<T, EV, W> {
     ) -> Result<Self, Refused<T, EV, W>>
         ensures state { IfOk result (λ serial. serial.state ≡ state_of state.now) }
         ensures called { IfOk result (λ serial.
-            T.link trigger (all_ok (restore_calls (state_of state.now))) serial.trigger) }
+            T.link trigger (all_ok (conditions_due (state_of state.now))) serial.trigger) }
         ensures events { IfOk result (λ serial. serial.events ≡ serial_evts) }
         ensures out { IfOk result (λ serial. serial.out ≡ out) }
         ensures coherent { IfOk result (λ serial. Coherent (state_of state.now) → Coherent serial.state) }
@@ -266,12 +266,12 @@ impl<T: Trigger, EV: SerialEvents, W: Write> Serial<T, EV, W> {
     /// if the writer fails to take the byte or to flush. The writer's failure has no effect on the registers. A refused
     /// condition stays pending: no access calls the trigger for it again until the guest has acknowledged it.
     pub fn write(&mut self, offset: u8, value: u8) -> Result<(), Error<T::E>>
-        ensures step { IsWriteStep T.link EV.link W.contents offset value result self.old self.new }
+        ensures step { IsSerialWrite T.link EV.link W.contents offset value result self.old self.new }
         // While IER is 0 the trigger is not called.
         ensures quiet { self.new.state.interrupt_enable ≡ 0 → self.new.trigger ≡ self.old.trigger }
         // `Ok` of a THR write outside loopback means that the writer took the byte.
         ensures sends { OnOk result (Appends (W.contents self.old.out) (W.contents self.new.out)
-            (sent_by (kind_in_state self.old.state (Write offset value)))) }
+            (sent_by (decode_in self.old.state (Write offset value)))) }
         // Only a THR write outside loopback reaches the writer.
         ensures silent { sends_byte self.old.state (Write offset value) ≡ false → self.new.out ≡ self.old.out }
         // What stands after an error.
@@ -289,18 +289,18 @@ impl<T: Trigger, EV: SerialEvents, W: Write> Serial<T, EV, W> {
     /// Whether a write at `offset` sends its byte, as a THR write outside loopback does. Changes nothing: an event loop
     /// may ask before the write whether its sink has room.
     pub fn sends(&self, offset: u8) -> bool
-        ensures { (value : ℕ) → sent_by (kind_in_state self.now.state (Write offset value))
+        ensures { (value : ℕ) → sent_by (decode_in self.now.state (Write offset value))
             ≡ (if result then value ∷ [] else []) }
     {
-        match self.registers.at(offset) {
-            Register::RbrThr => !self.registers.is_loopback(),
+        match self.registers.decode(offset) {
+            Register::Data => !self.registers.is_loopback(),
             _ => false,
         }
     }
 
     /// Reads the byte at `offset`, as a guest does. Neither calls the trigger nor uses the writer.
     pub fn read(&mut self, offset: u8) -> u8
-        ensures step { IsReadStep T.link EV.link W.contents offset result self.old self.new }
+        ensures step { IsSerialRead T.link EV.link W.contents offset result self.old self.new }
         // A read of RBR gives the oldest byte and leaves the others.
         ensures data { offset ≡ 0 → is_dlab self.old.state.line_control ≡ false →
             0 < length self.old.state.in_buffer → result ∷ self.new.state.in_buffer ≡ self.old.state.in_buffer }
@@ -310,13 +310,13 @@ impl<T: Trigger, EV: SerialEvents, W: Write> Serial<T, EV, W> {
         ensures keeps_pending { pending_count self.old.state
             ≤ pending_count self.new.state + acknowledged_at offset }
         // A read of any register but RBR and IIR.
-        ensures rest_unchanged { kind_in_state self.old.state (Read offset) ≡ Other → self.new ≡ self.old }
+        ensures rest_unchanged { decode_in self.old.state (Read offset) ≡ Other → self.new ≡ self.old }
         ensures at_most_64 { length self.new.state.in_buffer ≤ 64 }
         ensures trigger { self.new.trigger ≡ self.old.trigger }
         ensures out { self.new.out ≡ self.old.out }
         ensures coherent { Coherent self.old.state → Coherent self.new.state }
     {
-        let register = self.registers.at(offset);
+        let register = self.registers.decode(offset);
         let effects = self.registers.read(&mut self.in_buffer, register);
         report_read(&mut self.events, effects);
         prove!(self.fifo_capacity() <= FIFO_SIZE);
@@ -335,11 +335,11 @@ impl<T: Trigger, EV: SerialEvents, W: Write> Serial<T, EV, W> {
     /// Returns the trigger's refusal: a pending, enabled condition was not notified.
     pub fn retry_interrupts(&mut self) -> Result<(), T::E>
         ensures called { OnOk result
-            (T.link self.old.trigger (all_ok (restore_calls self.old.state)) self.new.trigger) }
-        ensures refused { IfErr result (λ refusal. RefusesOwnState T.link (restore_calls self.old.state)
+            (T.link self.old.trigger (all_ok (conditions_due self.old.state)) self.new.trigger) }
+        ensures refused { IfErr result (λ refusal. RefusesOwnState T.link (conditions_due self.old.state)
             (Error.Trigger refusal) self.old.trigger self.new.trigger) }
         ensures rest_unchanged { self.new ≡ with_trigger self.old self.new.trigger }
-        ensures step { IsRetryStep T.link EV.link W.contents self.old self.new }
+        ensures step { IsSerialRetry T.link EV.link W.contents self.old self.new }
         ensures coherent { Coherent self.old.state → Coherent self.new.state }
     {
         call_again(&self.registers, &mut self.interrupt_evt)
@@ -348,7 +348,7 @@ impl<T: Trigger, EV: SerialEvents, W: Write> Serial<T, EV, W> {
     /// How many interrupts are due, 0 to 2: the conditions that are both pending and enabled. A retry calls the trigger
     /// once for each.
     pub fn interrupts_due(&self) -> u8
-        ensures calls { result ≡ length (restore_calls self.now.state) }
+        ensures calls { result ≡ length (conditions_due self.now.state) }
         ensures at_most_2 { result ≤ 2 }
     {
         self.registers.interrupts_due()
@@ -364,8 +364,8 @@ impl<T: Trigger, EV: SerialEvents, W: Write> Serial<T, EV, W> {
     /// Whether the interrupt line is up: while a condition is pending and enabled. For a controller that takes levels,
     /// set your line to it after every call, and leave the trigger out.
     pub fn interrupt_line(&self) -> bool
-        ensures line { result ≡ is_line_up self.now.state }
-        ensures due { result ≡ not (length (restore_calls self.now.state) == 0) }
+        ensures line { result ≡ irq_level self.now.state }
+        ensures due { result ≡ not (length (conditions_due self.now.state) == 0) }
     {
         self.registers.interrupt_line()
     }
@@ -388,7 +388,7 @@ impl<T: Trigger, EV: SerialEvents, W: Write> Serial<T, EV, W> {
     /// Returns [`Error::FullFifo`] if there are bytes, outside loopback, and 64 are held: nothing changes. Returns
     /// [`Error::Trigger`] if the trigger refuses: the bytes are kept, and the guest finds them when it looks.
     pub fn enqueue_raw_bytes(&mut self, input: &[u8]) -> Result<usize, Error<T::E>>
-        ensures step { IsEnqueueStep T.link EV.link W.contents input.now result self.old self.new }
+        ensures step { IsSerialEnqueue T.link EV.link W.contents input.now result self.old self.new }
         ensures held { self.new.state.in_buffer ≡ self.old.state.in_buffer ++ enqueued_bytes self.old.state input.now }
         ensures settings { SameSettings self.old.state self.new.state }
         ensures transmitter { transmitter self.new.state ≡ transmitter self.old.state }
@@ -412,9 +412,9 @@ impl<T: Trigger, EV: SerialEvents, W: Write> Serial<T, EV, W> {
     ///
     /// Returns [`Error::Trigger`] if the trigger refuses: RDA is pending nonetheless.
     pub fn character_timeout(&mut self) -> Result<(), Error<T::E>>
-        ensures step { IsTimeoutStep T.link EV.link W.contents result self.old self.new }
+        ensures step { IsSerialTimeout T.link EV.link W.contents result self.old self.new }
         // No byte waits without an interrupt.
-        ensures pending { ShowsHeldBytes self.new.state }
+        ensures pending { RdaCoversHeldBytes self.new.state }
         ensures transmitter { transmitter self.new.state ≡ transmitter self.old.state }
         ensures keeps_pending { pending_count self.new.state
             ≡ pending_count self.old.state + turned_on_count self.old.state self.new.state }

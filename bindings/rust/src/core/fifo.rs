@@ -6,7 +6,7 @@
 pub const FIFO_SIZE: usize = 64;
 
 /// What a port needs from its receive FIFO: a list of at most 64 bytes, oldest first.
-pub trait ReceiveFifo {
+pub trait RxFifo {
     /// How many bytes are held.
     // Clauses in crates/superio_core/src/fifo.rt: value, bound.
     fn len(&self) -> usize;
@@ -16,15 +16,15 @@ pub trait ReceiveFifo {
     fn is_empty(&self) -> bool;
 
     /// Takes the oldest byte.
-    // Clauses in crates/superio_core/src/fifo.rt: byte, rest, canonical.
+    // Clauses in crates/superio_core/src/fifo.rt: byte, rest, len_in_range.
     fn take_first(&mut self) -> Option<u8>;
 
     /// Adds a byte if there is room, and returns whether there was.
-    // Clauses in crates/superio_core/src/fifo.rt: room, added, canonical.
+    // Clauses in crates/superio_core/src/fifo.rt: room, added, len_in_range.
     fn push(&mut self, byte: u8) -> bool;
 
     /// Adds as many of these bytes as fit, first ones first, and returns how many.
-    // Clauses in crates/superio_core/src/fifo.rt: count, added, canonical.
+    // Clauses in crates/superio_core/src/fifo.rt: count, added, len_in_range.
     fn fill(&mut self, bytes: &[u8]) -> usize;
 }
 
@@ -32,7 +32,7 @@ pub trait ReceiveFifo {
 /// 64.
 #[repr(C)]
 #[derive(Clone, Copy)]
-pub struct RxRing {
+pub struct ArrayFifo {
     /// The place of the oldest byte.
     pub head: u8,
     /// How many bytes are held.
@@ -41,10 +41,10 @@ pub struct RxRing {
     pub bytes: [u8; 64],
 }
 
-impl RxRing {
+impl ArrayFifo {
     /// An empty FIFO.
-    pub(crate) fn new() -> RxRing {
-        RxRing {
+    pub(crate) fn new() -> ArrayFifo {
+        ArrayFifo {
             head: 0,
             len: 0,
             bytes: [0; 64],
@@ -64,7 +64,7 @@ impl RxRing {
     }
 }
 
-impl ReceiveFifo for RxRing {
+impl RxFifo for ArrayFifo {
     #[inline(always)]
     fn len(&self) -> usize {
         self.count()

@@ -7,16 +7,16 @@
 
 mod alarm;
 mod registers;
-pub mod saved_form;
+pub mod encoding;
 
 use alarm::{guest_time, seconds_until};
 pub use registers::ClockRegister;
-pub use saved_form::RtcState;
+pub use encoding::RtcState;
 
 /// A clock without an events object. Any values are valid.
 #[repr(C)]
 #[derive(Clone, Copy)]
-pub struct Clock {
+pub struct Pl031 {
     /// RTCLR, the load register: the last loaded value, or 0 after a reset.
     pub lr: u32,
     /// RTCMR, the match register: the guest time that an alarm waits for.
@@ -31,11 +31,11 @@ pub struct Clock {
     pub armed: u64,
 }
 
-impl Clock {
+impl Pl031 {
     /// A fresh clock: it shows the host's time and has no alarm.
     // Clauses in crates/superio_core/src/rtc_pl031.rt: returns.
-    pub fn new() -> Clock {
-        Clock {
+    pub fn new() -> Pl031 {
+        Pl031 {
             lr: 0,
             mr: 0,
             imsc: 0,
@@ -47,8 +47,8 @@ impl Clock {
 
     /// The clock of this state.
     // Clauses in crates/superio_core/src/rtc_pl031.rt: returns.
-    pub fn from_state(state: &RtcState) -> Clock {
-        Clock {
+    pub fn from_state(state: &RtcState) -> Pl031 {
+        Pl031 {
             lr: state.lr,
             mr: state.mr,
             imsc: state.imsc,
@@ -140,16 +140,16 @@ impl Clock {
     // Clauses in crates/superio_core/src/rtc_pl031.rt: response, state.
     pub fn read(&mut self, offset: u16, now: u64) -> Option<u32> {
         let time = self.begin_access(now);
-        self.read_register(ClockRegister::at(offset), time)
+        self.read_register(ClockRegister::decode(offset), time)
     }
 
     /// Writes `value` at `offset` at the moment `now`, as `Rtc::write` does. Returns whether this
     /// offset takes a write.
     #[inline(always)]
-    // Clauses in crates/superio_core/src/rtc_pl031.rt: taken, state.
+    // Clauses in crates/superio_core/src/rtc_pl031.rt: writable, state.
     pub fn write(&mut self, offset: u16, value: u32, now: u64) -> bool {
         let time = self.begin_access(now);
-        self.store(ClockRegister::at(offset), value, time)
+        self.store(ClockRegister::decode(offset), value, time)
     }
 
     /// Whether the interrupt line is up: bit 0 of RTCMIS, the raw interrupt status under the mask.

@@ -22,7 +22,7 @@ pub(crate) const CLOCK_KIND: u8 = 2;
 /// Why a state was not written or bytes were not read. Bytes are checked in the order of the cases; the first check
 /// that fails is the error.
 #[derive(Clone, Copy, Debug, Eq, PartialEq)]
-pub enum Error {
+pub enum SavedStateError {
     /// Fewer bytes than a header.
     TooShort,
     /// The bytes do not begin with the magic.
@@ -50,9 +50,9 @@ pub(crate) fn header(kind: u8, length: u16) -> [u8; 8] {
 ///
 /// # Errors
 ///
-/// The first header check that fails: [`Error::TooShort`], [`Error::NotASavedState`], [`Error::OtherDevice`],
-/// [`Error::UnknownVersion`] or [`Error::WrongLength`].
-pub(crate) fn contents_of(kind: u8, bytes: &[u8]) -> Result<&[u8], Error> {
+/// The first header check that fails: [`SavedStateError::TooShort`], [`SavedStateError::NotASavedState`], [`SavedStateError::OtherDevice`],
+/// [`SavedStateError::UnknownVersion`] or [`SavedStateError::WrongLength`].
+pub(crate) fn decode_header(kind: u8, bytes: &[u8]) -> Result<&[u8], SavedStateError> {
     match bytes {
         [
             m0,
@@ -66,19 +66,19 @@ pub(crate) fn contents_of(kind: u8, bytes: &[u8]) -> Result<&[u8], Error> {
             contents @ ..,
         ] => {
             if [*m0, *m1, *m2, *m3] != MAGIC {
-                return Err(Error::NotASavedState);
+                return Err(SavedStateError::NotASavedState);
             }
             if *its_kind != kind {
-                return Err(Error::OtherDevice);
+                return Err(SavedStateError::OtherDevice);
             }
             if *its_version != VERSION {
-                return Err(Error::UnknownVersion(*its_version));
+                return Err(SavedStateError::UnknownVersion(*its_version));
             }
             if usize::from(u16::from_le_bytes([*low, *high])) != contents.len() {
-                return Err(Error::WrongLength);
+                return Err(SavedStateError::WrongLength);
             }
             Ok(contents)
         }
-        _ => Err(Error::TooShort),
+        _ => Err(SavedStateError::TooShort),
     }
 }

@@ -9,10 +9,10 @@
 //! work with every receive FIFO.
 
 pub mod registers;
-pub mod saved_form;
+pub mod encoding;
 
-pub use super::fifo::RxRing;
-use super::fifo::{FIFO_SIZE, ReceiveFifo};
+pub use super::fifo::ArrayFifo;
+use super::fifo::{FIFO_SIZE, RxFifo};
 pub use registers::Registers;
 use registers::{
     Condition, IER_UART_VALID_BITS, IIR_FIFO_BITS, IIR_NONE_BIT, LSR_DATA_READY_BIT, Register,
@@ -22,20 +22,20 @@ use registers::{
 /// A serial port without objects: its registers and received bytes. Any bytes are valid.
 #[repr(C)]
 #[derive(Clone, Copy)]
-pub struct SerialPort {
+pub struct Uart {
     /// The registers.
     pub registers: Registers,
     /// The received bytes that no guest has read.
-    pub in_buffer: RxRing,
+    pub in_buffer: ArrayFifo,
 }
 
-impl SerialPort {
+impl Uart {
     /// A fresh port: divisor 12, 8 bits a character, OUT2 set, and nothing enabled, pending or held.
     // Clauses in crates/superio_core/src/serial.rt: state, coherent.
-    pub fn new() -> SerialPort {
-        SerialPort {
+    pub fn new() -> Uart {
+        Uart {
             registers: Registers::new(),
-            in_buffer: RxRing::new(),
+            in_buffer: ArrayFifo::new(),
         }
     }
 
@@ -43,7 +43,7 @@ impl SerialPort {
     #[inline(always)]
     // Clauses in crates/superio_core/src/serial.rt: step, coherent.
     pub fn read(&mut self, offset: u8) -> ReadEffects {
-        let register = self.registers.at(offset);
+        let register = self.registers.decode(offset);
         self.registers.read(&mut self.in_buffer, register)
     }
 
@@ -52,7 +52,7 @@ impl SerialPort {
     #[inline(always)]
     // Clauses in crates/superio_core/src/serial.rt: step, at_most_2, coherent.
     pub fn write(&mut self, offset: u8, value: u8) -> WriteEffects {
-        let register = self.registers.at(offset);
+        let register = self.registers.decode(offset);
         self.registers.write(&mut self.in_buffer, register, value)
     }
 
@@ -131,10 +131,10 @@ pub struct WriteEffects {
 #[repr(C)]
 #[derive(Clone, Copy)]
 pub struct EnqueueEffects {
-    /// How many of the bytes were taken, from the first on.
-    pub taken: usize,
+    /// How many of the bytes were accepted, from the first on.
+    pub accepted: usize,
     /// There were bytes, outside loopback, and 64 were held already: nothing changed.
-    pub full: bool,
+    pub fifo_full: bool,
     /// How often to ask for the interrupt: 0 or 1 times.
     pub interrupts: u8,
 }
@@ -192,7 +192,7 @@ impl Registers {
     /// An IER write: stores the low four bits, raises RDA if bytes are held, then raises THRE. Returns how often to
     /// call the trigger.
     #[inline(always)]
-    fn write_ier<F: ReceiveFifo>(&mut self, fifo: &F, value: u8) -> u8 {
+    fn write_ier<F: RxFifo>(&mut self, fifo: &F, value: u8) -> u8 {
         self.interrupt_enable = only_bits(value, IER_UART_VALID_BITS);
         if !fifo.is_empty() && self.raise(Condition::Rda) {
             if self.raise(Condition::Thre) { 2 } else { 1 }
@@ -205,7 +205,7 @@ impl Registers {
 
     /// Lowers THRE if the first of two trigger calls was refused: a refusal ends an IER write before it raises THRE.
     // Clauses in crates/superio_core/src/serial.rt: registers.
-    pub fn take_back(&mut self, due: u8, asked: Asked) {
+    pub fn cancel_thre(&mut self, due: u8, asked: Asked) {
         if due == 2 && matches!(asked, Asked::Refused) {
             self.lower(Condition::Thre);
         }
@@ -213,7 +213,7 @@ impl Registers {
 
     /// Notes received bytes: sets data ready and raises RDA.
     #[inline(always)]
-    fn note_received(&mut self) -> bool {
+    fn rx_ready(&mut self) -> bool {
         self.line_status = with_bits(self.line_status, LSR_DATA_READY_BIT);
         self.raise(Condition::Rda)
     }
@@ -221,37 +221,37 @@ impl Registers {
     /// Adds as many of these bytes as fit after the held ones, first ones first. Returns how many it added, and whether
     /// to call the trigger.
     #[inline(always)]
-    // Clauses in crates/superio_core/src/serial.rt: count, due, state, canonical.
-    pub fn receive<F: ReceiveFifo>(&mut self, fifo: &mut F, bytes: &[u8]) -> (usize, bool) {
+    // Clauses in crates/superio_core/src/serial.rt: count, due, state, len_in_range.
+    pub fn rx_push<F: RxFifo>(&mut self, fifo: &mut F, bytes: &[u8]) -> (usize, bool) {
         let count = fifo.fill(bytes);
         if count == 0 {
             return (0, false);
         }
-        (count, self.note_received())
+        (count, self.rx_ready())
     }
 
     /// Receives as many of these bytes as fit, first ones first. In loopback it accepts none.
     #[inline(always)]
-    // Clauses in crates/superio_core/src/serial.rt: step, at_most_1, canonical.
-    pub fn enqueue<F: ReceiveFifo>(&mut self, fifo: &mut F, input: &[u8]) -> EnqueueEffects {
+    // Clauses in crates/superio_core/src/serial.rt: step, at_most_1, len_in_range.
+    pub fn enqueue<F: RxFifo>(&mut self, fifo: &mut F, input: &[u8]) -> EnqueueEffects {
         if self.is_loopback() || input.is_empty() {
             return EnqueueEffects {
-                taken: 0,
-                full: false,
+                accepted: 0,
+                fifo_full: false,
                 interrupts: 0,
             };
         }
         if fifo.len() == FIFO_SIZE {
             return EnqueueEffects {
-                taken: 0,
-                full: true,
+                accepted: 0,
+                fifo_full: true,
                 interrupts: 0,
             };
         }
-        let (taken, asks) = self.receive(fifo, input);
+        let (accepted, asks) = self.rx_push(fifo, input);
         EnqueueEffects {
-            taken,
-            full: false,
+            accepted,
+            fifo_full: false,
             interrupts: u8::from(asks),
         }
     }
@@ -259,13 +259,13 @@ impl Registers {
     /// A character timeout: raises RDA if bytes are held. Returns how often to call the trigger.
     #[inline(always)]
     // Clauses in crates/superio_core/src/serial.rt: due, at_most_1, state.
-    pub fn character_timeout<F: ReceiveFifo>(&mut self, fifo: &F) -> u8 {
+    pub fn character_timeout<F: RxFifo>(&mut self, fifo: &F) -> u8 {
         u8::from(!fifo.is_empty() && self.raise(Condition::Rda))
     }
 
     /// An RBR read: lowers RDA, then takes the oldest byte or gives 0.
     #[inline(always)]
-    fn read_rbr<F: ReceiveFifo>(&mut self, fifo: &mut F) -> ReadEffects {
+    fn read_rbr<F: RxFifo>(&mut self, fifo: &mut F) -> ReadEffects {
         self.lower(Condition::Rda);
         let byte = fifo.take_first().unwrap_or(0);
         let in_buffer_empty = fifo.is_empty();
@@ -281,10 +281,10 @@ impl Registers {
 
     /// Reads a register.
     #[inline(always)]
-    // Clauses in crates/superio_core/src/serial.rt: value, state, events, canonical.
-    pub fn read<F: ReceiveFifo>(&mut self, fifo: &mut F, register: Register) -> ReadEffects {
+    // Clauses in crates/superio_core/src/serial.rt: value, state, events, len_in_range.
+    pub fn read<F: RxFifo>(&mut self, fifo: &mut F, register: Register) -> ReadEffects {
         let byte = match register {
-            Register::RbrThr => return self.read_rbr(fifo),
+            Register::Data => return self.read_rbr(fifo),
             Register::Dll => self.baud_divisor_low,
             Register::Dlm => self.baud_divisor_high,
             Register::Ier => self.interrupt_enable,
@@ -308,10 +308,10 @@ impl Registers {
     }
 
     /// Writes a register. In loopback a THR write is received. Otherwise its byte goes out, and THRE is raised whatever
-    /// happens to the byte. The due trigger calls count as taken: `take_back` applies a refusal.
+    /// happens to the byte. The due trigger calls count as taken: `cancel_thre` applies a refusal.
     #[inline(always)]
-    // Clauses in crates/superio_core/src/serial.rt: sends, interrupts, at_most_2, state, canonical.
-    pub fn write<F: ReceiveFifo>(
+    // Clauses in crates/superio_core/src/serial.rt: sends, interrupts, at_most_2, state, len_in_range.
+    pub fn write<F: RxFifo>(
         &mut self,
         fifo: &mut F,
         register: Register,
@@ -322,10 +322,10 @@ impl Registers {
         match register {
             Register::Dll => self.baud_divisor_low = value,
             Register::Dlm => self.baud_divisor_high = value,
-            Register::RbrThr if self.is_loopback() => {
-                interrupts = u8::from(fifo.push(value) && self.note_received());
+            Register::Data if self.is_loopback() => {
+                interrupts = u8::from(fifo.push(value) && self.rx_ready());
             }
-            Register::RbrThr => {
+            Register::Data => {
                 sends = true;
                 interrupts = u8::from(self.raise(Condition::Thre));
             }

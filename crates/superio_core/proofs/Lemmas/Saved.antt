@@ -4,8 +4,8 @@ use Rattle.std.specs.Result.{result_err}
 use Rattle.std.specs.Int.{w64, to_le_bytes, from_le_bytes, cast_unsigned, cast_signed}
 use Rattle.std.proofs.lemmas.Int.{to_z-of_z}
 use Rattle.std.proofs.lemmas.Nat.{from_le_bytes-to_le_bytes_4, from_le_bytes-to_le_bytes_8}
-use Rattle.superio_core.specs.declared.rtc_pl031.saved_form.RtcState.{RtcState}
-use Rattle.superio_core.specs.Saved.{Error, flag, numbers_in, clock_form, clock_fault, IsClock, SerialFormLaw, ClockFormLaw, OneSerialStateLaw, OneClockStateLaw, serial_form, serial_fault, TooShort, NotASavedState, OtherDevice, UnknownVersion, WrongLength, TooManyBytes, InvalidArmed}
+use Rattle.superio_core.specs.declared.rtc_pl031.encoding.RtcState.{RtcState}
+use Rattle.superio_core.specs.Saved.{SavedStateError, flag, numbers_in, clock_encoding, clock_fault, IsClock, SerialEncodingLaw, ClockEncodingLaw, OneSerialStateLaw, OneClockStateLaw, serial_encoding, serial_fault, TooShort, NotASavedState, OtherDevice, UnknownVersion, WrongLength, TooManyBytes, InvalidArmed}
 use Rattle.superio_core.specs.Serial.{state_of_bytes, fresh_state, State}
 
 of-same : (lr mr imsc ris lr' mr' imsc' ris' : ℕ) (offset offset' : ℤ) (armed armed' : Bool) →
@@ -27,7 +27,7 @@ offset-back : (offset : ℤ) (n : ℕ) → n ≡ cast_unsigned w64 offset → n 
 offset-back offset n e h = ap (cast_signed w64) (from_le_bytes-to_le_bytes_8 n h ∙ e)
 
 -- they are those of the state that has this form
-pub numbers_in-form : (state : RtcState) → IsClock state → numbers_in (clock_form state) ≡ state
+pub numbers_in-form : (state : RtcState) → IsClock state → numbers_in (clock_encoding state) ≡ state
 numbers_in-form state fits =
     of-same _ _ _ _ _ _ _ _ _ _ _ _
     (from_le_bytes-to_le_bytes_4 state.lr fits.lr)
@@ -44,29 +44,29 @@ one_clock_state a b a_fits b_fits same =
 pub one_serial_state : OneSerialStateLaw
 one_serial_state a b same = ap (λ (bytes : List ℕ). state_of_bytes (drop 8 bytes)) same
 
-pub serial_form_has_no_fault : SerialFormLaw
+pub serial_form_has_no_fault : SerialEncodingLaw
 serial_form_has_no_fault state few = grind arith
 
-clock_form_has_no_fault-by : (set : Bool) (state : RtcState) → state.armed ≡ set → clock_fault (clock_form state) ≡ None
+clock_form_has_no_fault-by : (set : Bool) (state : RtcState) → state.armed ≡ set → clock_fault (clock_encoding state) ≡ None
 clock_form_has_no_fault-by true state is = rw is refl
 clock_form_has_no_fault-by false state is = rw is refl
 
-pub clock_form_has_no_fault : ClockFormLaw
+pub clock_form_has_no_fault : ClockEncodingLaw
 clock_form_has_no_fault state = clock_form_has_no_fault-by state.armed state refl
 
 -- what is read of the form of a state is this state
-pub clock_form_read : (bytes : List ℕ) (result : Result RtcState Error) → IfOk result IsClock →
-    IfOk result (λ state. bytes ≡ clock_form state) → result_err result ≡ clock_fault bytes →
-    (state : RtcState) → IsClock state → bytes ≡ clock_form state → result ≡ Ok state
-clock_form_read bytes (Ok found) numbers form fault state fits is = ap Ok (one_clock_state found state numbers fits (sym form ∙ is))
-clock_form_read bytes (Err error) numbers form fault state fits is =
+pub clock_encoding_read : (bytes : List ℕ) (result : Result RtcState SavedStateError) → IfOk result IsClock →
+    IfOk result (λ state. bytes ≡ clock_encoding state) → result_err result ≡ clock_fault bytes →
+    (state : RtcState) → IsClock state → bytes ≡ clock_encoding state → result ≡ Ok state
+clock_encoding_read bytes (Ok found) numbers form fault state fits is = ap Ok (one_clock_state found state numbers fits (sym form ∙ is))
+clock_encoding_read bytes (Err error) numbers form fault state fits is =
     let none : Some error ≡ None = fault ∙ ap clock_fault is ∙ clock_form_has_no_fault state in cc
 
 -- ---- what the laws rest on
 
-pub ruleset one_state_of_a_form_laws = (one_serial_state, one_clock_state)
+pub ruleset one_state_of_an_encoding_laws = (one_serial_state, one_clock_state)
 
-pub ruleset forms_are_read_laws = (serial_form_has_no_fault, clock_form_has_no_fault)
+pub ruleset encodings_are_read_laws = (serial_form_has_no_fault, clock_form_has_no_fault)
 
 -- ---- worked examples of the byte form: those of docs/SAVED-STATES.md, and one for each check
 
@@ -80,7 +80,7 @@ two_held = record fresh_state {
   in_buffer = 0x61 ∷ 0x62 ∷ [];
 }
 
-two_held_form : serial_form two_held ≡
+two_held_form : serial_encoding two_held ≡
     0x53 ∷ 0x49 ∷ 0x4F ∷ 0x53 ∷ 0x01 ∷ 0x01 ∷ 0x0B ∷ 0x00
     ∷ 0x0C ∷ 0x00 ∷ 0x01 ∷ 0x04 ∷ 0x03 ∷ 0x61 ∷ 0x08 ∷ 0xB0 ∷ 0x5A
     ∷ 0x61 ∷ 0x62 ∷ []
@@ -90,7 +90,7 @@ two_held_form = refl
 abbrev hour_behind : RtcState
 hour_behind = record { lr = 0x65920080; offset = negsuc 3599; mr = 0x659200BC; imsc = 1; ris = 0; armed = true }
 
-hour_behind_form : clock_form hour_behind ≡
+hour_behind_form : clock_encoding hour_behind ≡
     0x53 ∷ 0x49 ∷ 0x4F ∷ 0x53 ∷ 0x02 ∷ 0x01 ∷ 0x19 ∷ 0x00
     ∷ 0x80 ∷ 0x00 ∷ 0x92 ∷ 0x65 ∷ 0xBC ∷ 0x00 ∷ 0x92 ∷ 0x65 ∷ 0x01 ∷ 0x00 ∷ 0x00 ∷ 0x00 ∷ 0x00 ∷ 0x00 ∷ 0x00 ∷ 0x00
     ∷ 0xF0 ∷ 0xF1 ∷ 0xFF ∷ 0xFF ∷ 0xFF ∷ 0xFF ∷ 0xFF ∷ 0xFF ∷ 0x01 ∷ []
@@ -98,19 +98,19 @@ hour_behind_form = refl
 
 -- ---- the checks, in order
 
-good : serial_fault (serial_form two_held) ≡ None
+good : serial_fault (serial_encoding two_held) ≡ None
 good = refl
 
-seven_bytes : serial_fault (take 7 (serial_form two_held)) ≡ Some TooShort
+seven_bytes : serial_fault (take 7 (serial_encoding two_held)) ≡ Some TooShort
 seven_bytes = refl
 
-header_alone : serial_fault (take 8 (serial_form two_held)) ≡ Some WrongLength
+header_alone : serial_fault (take 8 (serial_encoding two_held)) ≡ Some WrongLength
 header_alone = refl
 
-other_letter : serial_fault (0x73 ∷ drop 1 (serial_form two_held)) ≡ Some NotASavedState
+other_letter : serial_fault (0x73 ∷ drop 1 (serial_encoding two_held)) ≡ Some NotASavedState
 other_letter = refl
 
-clock_at_port : serial_fault (clock_form hour_behind) ≡ Some OtherDevice
+clock_at_port : serial_fault (clock_encoding hour_behind) ≡ Some OtherDevice
 clock_at_port = refl
 
 second_version : serial_fault (0x53 ∷ 0x49 ∷ 0x4F ∷ 0x53 ∷ 0x01 ∷ 0x02 ∷ []) ≡ Some TooShort
@@ -119,7 +119,7 @@ second_version = refl
 second_version_whole : serial_fault (0x53 ∷ 0x49 ∷ 0x4F ∷ 0x53 ∷ 0x01 ∷ 0x02 ∷ 0x00 ∷ 0x00 ∷ []) ≡ Some (UnknownVersion 2)
 second_version_whole = refl
 
-byte_after_the_end : serial_fault (serial_form two_held ++ 0x63 ∷ []) ≡ Some WrongLength
+byte_after_the_end : serial_fault (serial_encoding two_held ++ 0x63 ∷ []) ≡ Some WrongLength
 byte_after_the_end = refl
 
 -- eight bytes are too few for the registers, though the header says eight
@@ -130,11 +130,11 @@ full_port : serial_fault (0x53 ∷ 0x49 ∷ 0x4F ∷ 0x53 ∷ 0x01 ∷ 0x01 ∷ 
 full_port = refl
 
 -- the law speaks of full ports too
-full_form : SerialFormLaw → (state : State) → length state.in_buffer ≡ 64 → serial_fault (serial_form state) ≡ None
+full_form : SerialEncodingLaw → (state : State) → length state.in_buffer ≡ 64 → serial_fault (serial_encoding state) ≡ None
 full_form law state full = law state (omega (arith, full))
 
 one_more_byte : serial_fault (0x53 ∷ 0x49 ∷ 0x4F ∷ 0x53 ∷ 0x01 ∷ 0x01 ∷ 0x4A ∷ 0x00 ∷ replicate 74 0) ≡ Some TooManyBytes
 one_more_byte = refl
 
-armed_twice : clock_fault (take 32 (clock_form hour_behind) ++ 0x02 ∷ []) ≡ Some InvalidArmed
+armed_twice : clock_fault (take 32 (clock_encoding hour_behind) ++ 0x02 ∷ []) ≡ Some InvalidArmed
 armed_twice = refl

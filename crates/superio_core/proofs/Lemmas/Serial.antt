@@ -11,7 +11,7 @@ use Rattle.std.proofs.lemmas.Bool.{cases_lt}
 use Rattle.std.proofs.Math.Seq.{take-set-lt, drop-cons, take-suc}
 use Rattle.superio_core.specs.Bits.{has_bits, only_bits, with_bits, without_bits}
 use Rattle.superio_core.proofs.Lemmas.{and-without}
-use Rattle.superio_core.specs.Serial.{Coherent, held_bytes, RxRing, fresh_state}
+use Rattle.superio_core.specs.Serial.{Coherent, ring_contents, ArrayFifo, fresh_state}
 use Rattle.superio_core.specs.Serial.Operations.{events_of_read, buffer_read, in_buffer_empty}
 
 -- ---- data ready, the lowest bit
@@ -157,22 +157,22 @@ ring-first f n xs long =
 
 -- ---- bytes; four places stand for the sixty-four
 
-abbrev fifo : (first held : ℕ) → RxRing
+abbrev fifo : (first held : ℕ) → ArrayFifo
 fifo first held = record { head = first; len = held; bytes = 0x61 ∷ 0x62 ∷ 0x63 ∷ 0x64 ∷ [] }
 
-oldest_first : held_bytes (fifo 1 2) ≡ 0x62 ∷ 0x63 ∷ []
+oldest_first : ring_contents (fifo 1 2) ≡ 0x62 ∷ 0x63 ∷ []
 oldest_first = refl
 
-round_the_end : held_bytes (fifo 3 3) ≡ 0x64 ∷ 0x61 ∷ 0x62 ∷ []
+round_the_end : ring_contents (fifo 3 3) ≡ 0x64 ∷ 0x61 ∷ 0x62 ∷ []
 round_the_end = refl
 
-first_counts_modulo_64 : held_bytes (fifo 195 3) ≡ held_bytes (fifo 3 3)
+first_counts_modulo_64 : ring_contents (fifo 195 3) ≡ ring_contents (fifo 3 3)
 first_counts_modulo_64 = refl
 
-none_held : held_bytes (fifo 2 0) ≡ []
+none_held : ring_contents (fifo 2 0) ≡ []
 none_held = refl
 
-more_than_all_are_all : held_bytes (fifo 2 255) ≡ 0x63 ∷ 0x64 ∷ 0x61 ∷ 0x62 ∷ []
+more_than_all_are_all : ring_contents (fifo 2 255) ≡ 0x63 ∷ 0x64 ∷ 0x61 ∷ 0x62 ∷ []
 more_than_all_are_all = refl
 
 -- ---- events

@@ -4,7 +4,7 @@ use Rattle.std.specs.Prelude.{ℕ, Bool, true, false, ◌==◌, ◌&&◌, if◌t
 pub use Rattle.superio_core.specs.declared.serial.Asked.{Asked}
 pub use Rattle.superio_core.specs.declared.serial.Sent.{Sent}
 use Rattle.superio_core.specs.declared.serial.ReadEffects.{ReadEffects}
-use Rattle.superio_core.specs.Serial.RegisterMap.{Register, RbrThr, Ier, Iir, register_at}
+use Rattle.superio_core.specs.Serial.RegisterMap.{Register, Data, Ier, Iir, register_at}
 
 -- an operation, without the objects of a restore
 pub data Op : Type 0 where
@@ -115,49 +115,49 @@ events_of_read effects =
 
 -- ---- what an operation means for bytes and interrupts, by DLAB and loopback
 
-pub data OpKind : Type 0 where
+pub data DecodedOp : Type 0 where
   -- a read at offset 0 with DLAB clear
-  RbrRead : OpKind
+  RbrRead : DecodedOp
   -- a read at offset 2
-  IirRead : OpKind
+  IirRead : DecodedOp
   -- a write at offset 1 with DLAB clear
-  IerWrite : (value : ℕ) → OpKind
+  IerWrite : (value : ℕ) → DecodedOp
   -- a write at offset 0 with DLAB and loopback clear
-  ThrWrite : (value : ℕ) → OpKind
+  ThrWrite : (value : ℕ) → DecodedOp
   -- bytes that come in: an enqueue outside loopback, or the byte of a write at offset 0 in loopback, with DLAB clear
-  Arrival : (bytes : List ℕ) → OpKind
+  RxInput : (bytes : List ℕ) → DecodedOp
   -- a character timeout
-  Timeout : OpKind
+  Timeout : DecodedOp
   -- everything else, for example a restore, or an enqueue in loopback
-  Other : OpKind
+  Other : DecodedOp
 
-abbrev pub read_kind : (register : Register) → OpKind
-read_kind RbrThr = RbrRead
-read_kind Iir = IirRead
-read_kind _ = Other
+abbrev pub decode_read : (register : Register) → DecodedOp
+decode_read Data = RbrRead
+decode_read Iir = IirRead
+decode_read _ = Other
 
-abbrev pub write_kind : (register : Register) (loopback : Bool) (value : ℕ) → OpKind
-write_kind RbrThr false value = ThrWrite value
-write_kind RbrThr true value = Arrival (value ∷ [])
-write_kind Ier loopback value = IerWrite value
-write_kind _ loopback value = Other
+abbrev pub decode_write : (register : Register) (loopback : Bool) (value : ℕ) → DecodedOp
+decode_write Data false value = ThrWrite value
+decode_write Data true value = RxInput (value ∷ [])
+decode_write Ier loopback value = IerWrite value
+decode_write _ loopback value = Other
 
-abbrev pub kind_of : (dlab loopback : Bool) (op : Op) → OpKind
-kind_of dlab loopback (Read offset) = read_kind (register_at dlab offset)
-kind_of dlab loopback (Write offset value) = write_kind (register_at dlab offset) loopback value
-kind_of dlab loopback (Enqueue bytes) = if loopback then Other else Arrival bytes
-kind_of dlab loopback CharacterTimeout = Timeout
-kind_of dlab loopback Restore = Other
+abbrev pub decode : (dlab loopback : Bool) (op : Op) → DecodedOp
+decode dlab loopback (Read offset) = decode_read (register_at dlab offset)
+decode dlab loopback (Write offset value) = decode_write (register_at dlab offset) loopback value
+decode dlab loopback (Enqueue bytes) = if loopback then Other else RxInput bytes
+decode dlab loopback CharacterTimeout = Timeout
+decode dlab loopback Restore = Other
 
-abbrev pub is_iir_read : (kind : OpKind) → Bool
+abbrev pub is_iir_read : (kind : DecodedOp) → Bool
 is_iir_read IirRead = true
 is_iir_read _ = false
 
-abbrev pub is_rbr_read : (kind : OpKind) → Bool
+abbrev pub is_rbr_read : (kind : DecodedOp) → Bool
 is_rbr_read RbrRead = true
 is_rbr_read _ = false
 
 -- the byte that goes to the writer
-abbrev pub sent_by : (kind : OpKind) → List ℕ
+abbrev pub sent_by : (kind : DecodedOp) → List ℕ
 sent_by (ThrWrite value) = value ∷ []
 sent_by _ = []

@@ -3,7 +3,7 @@
 use Rattle.std.specs.Prelude.{ℕ, Bool, true, false, ◌==◌, if◌then◌else◌, List, [], ◌∷◌, ◌++◌}
 use Rattle.superio_core.specs.Bits.{has_bits, only_bits, with_bits}
 pub use Rattle.superio_core.specs.declared.serial.registers.Register.{Register}
-pub use Rattle.superio_core.specs.declared.serial.registers.Register.TheVariants.{Dll, Dlm, RbrThr, Ier, Iir, Lcr, Mcr, Lsr, Msr, Scr, Unassigned}
+pub use Rattle.superio_core.specs.declared.serial.registers.Register.TheVariants.{Dll, Dlm, Data, Ier, Iir, Lcr, Mcr, Lsr, Msr, Scr, Unassigned}
 pub use Rattle.superio_core.specs.declared.serial.registers.Condition.{Condition}
 pub use Rattle.superio_core.specs.declared.serial.registers.Condition.TheVariants.{Rda, Thre}
 
@@ -57,7 +57,7 @@ iir_fifo_bits = 0xC0
 -- the register at an offset: DLAB matters only at offsets 0 and 1, and offsets from 8 on reach none
 abbrev pub register_at : (dlab : Bool) (offset : ℕ) → Register
 register_at dlab offset =
-    if offset == 0 then (if dlab then Dll else RbrThr)
+    if offset == 0 then (if dlab then Dll else Data)
     else (if offset == 1 then (if dlab then Dlm else Ier)
     else (if offset == 2 then Iir
     else (if offset == 3 then Lcr

@@ -4,10 +4,10 @@
 -- to carry out.
 use Rattle.std.specs.Prelude.{ℕ, ◌+◌, ◌-◌, Bool, not, ◌==◌, ◌&&◌, ◌||◌, nat_le, if◌then◌else◌, List, [], ◌∷◌, ◌++◌, length, take, drop, ◌≡◌}
 use Rattle.std.specs.Bool.{beq}
-use Rattle.superio_core.specs.Serial.Operations.{Asked, Sent, Op, Read, Write, Enqueue, CharacterTimeout, Restore, Response, ByteRead, EnqueueOk, TimeoutOk, TriggerRefused, FifoFull, NoResponse, Event, buffer_read, out_byte, tx_lost_byte, in_buffer_empty, is_refused_at_once, recorded_write_response, count_if, is_sent, OpKind, IerWrite, ThrWrite, Arrival, Timeout, kind_of, sent_by, events_of_read}
+use Rattle.superio_core.specs.Serial.Operations.{Asked, Sent, Op, Read, Write, Enqueue, CharacterTimeout, Restore, Response, ByteRead, EnqueueOk, TimeoutOk, TriggerRefused, FifoFull, NoResponse, Event, buffer_read, out_byte, tx_lost_byte, in_buffer_empty, is_refused_at_once, recorded_write_response, count_if, is_sent, DecodedOp, IerWrite, ThrWrite, RxInput, Timeout, decode, sent_by, events_of_read}
 use Rattle.superio_core.specs.Bits.{has_bits, only_bits, with_bits, without_bits}
 use Rattle.superio_core.specs.Serial.{State, not_empty, register_read}
-use Rattle.superio_core.specs.Serial.RegisterMap.{Register, Dll, Dlm, RbrThr, Ier, Iir, Lcr, Mcr, Scr, register_at, is_dlab, is_loopback, Condition, Rda, Thre, ier_bit, iir_bit, lsr_dr_bit, ier_bits}
+use Rattle.superio_core.specs.Serial.RegisterMap.{Register, Dll, Dlm, Data, Ier, Iir, Lcr, Mcr, Scr, register_at, is_dlab, is_loopback, Condition, Rda, Thre, ier_bit, iir_bit, lsr_dr_bit, ier_bits}
 use Rattle.superio_core.specs.declared.serial.ReadEffects.{ReadEffects}
 use Rattle.superio_core.specs.declared.serial.WriteEffects.{WriteEffects}
 use Rattle.superio_core.specs.declared.serial.EnqueueEffects.{EnqueueEffects}
@@ -26,15 +26,15 @@ becomes_pending condition enable identification =
 
 -- IIR afterwards: if the condition became pending, its bit is set and the bit for 'none' cleared. A refusal of the
 -- trigger takes neither back
-abbrev pub raise : (condition : Condition) (enable identification : ℕ) → ℕ
-raise condition enable identification =
+abbrev pub iir_after_raise : (condition : Condition) (enable identification : ℕ) → ℕ
+iir_after_raise condition enable identification =
     if becomes_pending condition enable identification
     then with_bits (without_bits identification iir_none_bit) (iir_bit condition)
     else identification
 
 -- IIR after a condition was lowered: its bit is cleared, and if no bit is left, nothing is pending
-abbrev pub lower : (condition : Condition) (identification : ℕ) → ℕ
-lower condition identification =
+abbrev pub iir_after_lower : (condition : Condition) (identification : ℕ) → ℕ
+iir_after_lower condition identification =
     let others = without_bits identification (iir_bit condition) in
     if others == 0 then iir_none_bit else others
 
@@ -44,7 +44,7 @@ rda_becomes_pending held enable identification = not_empty held && becomes_pendi
 
 abbrev pub raise_rda_while_held : (held : List ℕ) (enable identification : ℕ) → ℕ
 raise_rda_while_held held enable identification =
-    if not_empty held then raise Rda enable identification else identification
+    if not_empty held then iir_after_raise Rda enable identification else identification
 
 -- ---- receiving bytes
 
@@ -62,7 +62,7 @@ receive_bytes [] s = s
 receive_bytes (byte ∷ bytes) s = record s {
   in_buffer = s.in_buffer ++ byte ∷ bytes;
   line_status = with_bits s.line_status lsr_dr_bit;
-  interrupt_identification = raise Rda s.interrupt_enable s.interrupt_identification;
+  interrupt_identification = iir_after_raise Rda s.interrupt_enable s.interrupt_identification;
 }
 
 -- ---- the response
@@ -96,14 +96,14 @@ abbrev pub rbr_read : (s : State) → State
 rbr_read s =
     let left = drop 1 s.in_buffer in
     record s {
-      interrupt_identification = lower Rda s.interrupt_identification;
+      interrupt_identification = iir_after_lower Rda s.interrupt_identification;
       in_buffer = left;
       line_status = if not_empty left then s.line_status else without_bits s.line_status lsr_dr_bit;
     }
 
 -- an RBR read; an IIR read, after which nothing is pending; no other read changes anything
 abbrev pub read_step : (register : Register) (s : State) → State
-read_step RbrThr s = rbr_read s
+read_step Data s = rbr_read s
 read_step Iir s = record s { interrupt_identification = iir_none_bit }
 read_step _ s = s
 
@@ -115,21 +115,21 @@ ier_write enable asked s =
     let identification = raise_rda_while_held s.in_buffer enable s.interrupt_identification in
     record s {
       interrupt_enable = enable;
-      interrupt_identification = if refused then identification else raise Thre enable identification;
+      interrupt_identification = if refused then identification else iir_after_raise Thre enable identification;
     }
 
 -- a THR write in loopback is received, if there is room; outside loopback it raises THRE, whatever became of the byte
 abbrev pub thr_write : (value : ℕ) (s : State) → State
 thr_write value s =
     if is_loopback s.modem_control then receive_bytes (bytes_that_fit s.in_buffer (value ∷ [])) s
-    else record s { interrupt_identification = raise Thre s.interrupt_enable s.interrupt_identification }
+    else record s { interrupt_identification = iir_after_raise Thre s.interrupt_enable s.interrupt_identification }
 
 -- a write, by the register at its offset: IER keeps the low four bits, and IIR, LSR, MSR and unassigned offsets ignore
 -- the write
 abbrev pub write_step : (register : Register) (value : ℕ) (asked : Asked) (s : State) → State
 write_step Dll value asked s = record s { baud_divisor_low = value }
 write_step Dlm value asked s = record s { baud_divisor_high = value }
-write_step RbrThr value asked s = thr_write value s
+write_step Data value asked s = thr_write value s
 write_step Ier value asked s = ier_write (only_bits value ier_bits) asked s
 write_step Lcr value asked s = record s { line_control = value }
 write_step Mcr value asked s = record s { modem_control = value }
@@ -155,7 +155,7 @@ step s Restore asked = s
 
 -- an RBR read reports that no byte is left, if none is, and then that it read
 abbrev pub read_events : (register : Register) (held : List ℕ) → List Event
-read_events RbrThr held = (if not_empty (drop 1 held) then [] else in_buffer_empty ∷ []) ++ buffer_read ∷ []
+read_events Data held = (if not_empty (drop 1 held) then [] else in_buffer_empty ∷ []) ++ buffer_read ∷ []
 read_events _ held = []
 
 -- a byte that was sent is reported as out or as lost
@@ -173,8 +173,8 @@ step_events s _ sent = []
 -- ---- how many trigger calls a call makes, if none is refused
 
 -- what an operation means in a state
-abbrev pub kind_in_state : (s : State) (op : Op) → OpKind
-kind_in_state s op = kind_of (is_dlab s.line_control) (is_loopback s.modem_control) op
+abbrev pub decode_in : (s : State) (op : Op) → DecodedOp
+decode_in s op = decode (is_dlab s.line_control) (is_loopback s.modem_control) op
 
 -- received bytes: one, if RDA becomes pending
 abbrev pub arrival_calls : (bytes : List ℕ) (s : State) → ℕ
@@ -191,19 +191,19 @@ ier_write_calls enable s =
 abbrev pub timeout_calls : (s : State) → ℕ
 timeout_calls s = count_if (rda_becomes_pending s.in_buffer s.interrupt_enable s.interrupt_identification)
 
-abbrev pub kind_calls : (kind : OpKind) (s : State) → ℕ
-kind_calls (IerWrite value) s = ier_write_calls (only_bits value ier_bits) s
-kind_calls (ThrWrite value) s = count_if (becomes_pending Thre s.interrupt_enable s.interrupt_identification)
-kind_calls (Arrival bytes) s = arrival_calls (bytes_that_fit s.in_buffer bytes) s
-kind_calls Timeout s = timeout_calls s
-kind_calls _ s = 0
+abbrev pub decoded_calls : (kind : DecodedOp) (s : State) → ℕ
+decoded_calls (IerWrite value) s = ier_write_calls (only_bits value ier_bits) s
+decoded_calls (ThrWrite value) s = count_if (becomes_pending Thre s.interrupt_enable s.interrupt_identification)
+decoded_calls (RxInput bytes) s = arrival_calls (bytes_that_fit s.in_buffer bytes) s
+decoded_calls Timeout s = timeout_calls s
+decoded_calls _ s = 0
 
 abbrev pub step_calls : (s : State) (op : Op) → ℕ
-step_calls s op = kind_calls (kind_in_state s op) s
+step_calls s op = decoded_calls (decode_in s op) s
 
 -- a byte goes to the writer
 abbrev pub sends_byte : (s : State) (op : Op) → Bool
-sends_byte s op = not_empty (sent_by (kind_in_state s op))
+sends_byte s op = not_empty (sent_by (decode_in s op))
 
 -- ---- which answers of the trigger and which outcome of a byte can come
 
@@ -216,37 +216,37 @@ answers_all calls Asked.TookTook = calls == 2
 answers_all calls Asked.TookRefused = calls == 2
 
 -- the trigger's calls are answered, and there is an outcome exactly if a byte goes to the writer
-abbrev pub is_admissible : (s : State) (op : Op) (asked : Asked) (sent : Sent) → Bool
-is_admissible s op asked sent =
+abbrev pub answers_fit : (s : State) (op : Op) (asked : Asked) (sent : Sent) → Bool
+answers_fit s op asked sent =
     answers_all (step_calls s op) asked && beq (is_sent sent) (sends_byte s op)
 
 -- ---- one call of a port, as its contract states it: the effects that the caller has to carry out, and the state
 -- after it, which is that of a step without a refusal, whatever the caller finds when it does
 
 -- a read gives the byte, and which events it reports; it asks for no interrupt
-pub record IsPortRead (offset : ℕ) (effects : ReadEffects) (old new : State) : Type 0 where
+pub record IsUartRead (offset : ℕ) (effects : ReadEffects) (old new : State) : Type 0 where
   pub response : ByteRead effects.byte ≡ step_response old (Read offset) Asked.Nothing Sent.Nothing
   pub events : events_of_read effects ≡ step_events old (Read offset) Sent.Nothing
   pub state : new ≡ step old (Read offset) Asked.Nothing
 
 -- a write, whatever becomes of its byte and of the interrupts
-pub record IsPortWrite (offset value : ℕ) (effects : WriteEffects) (old new : State) : Type 0 where
+pub record IsUartWrite (offset value : ℕ) (effects : WriteEffects) (old new : State) : Type 0 where
   pub sends : effects.sends ≡ sends_byte old (Write offset value)
   pub interrupts : effects.interrupts ≡ step_calls old (Write offset value)
   pub state : new ≡ step old (Write offset value) Asked.Nothing
 
 -- an enqueue: the bytes that have room are accepted, whatever becomes of the interrupt. The FIFO is reported full if
 -- bytes are passed outside loopback while 64 are held
-pub record IsPortEnqueue (bytes : List ℕ) (effects : EnqueueEffects) (old new : State) : Type 0 where
-  pub taken : effects.taken ≡ length (enqueued_bytes old bytes)
-  pub full :
-      effects.full
+pub record IsUartEnqueue (bytes : List ℕ) (effects : EnqueueEffects) (old new : State) : Type 0 where
+  pub accepted : effects.accepted ≡ length (enqueued_bytes old bytes)
+  pub fifo_full :
+      effects.fifo_full
       ≡ (not (is_loopback old.modem_control || (length bytes == 0)) && nat_le 64 (length old.in_buffer))
   pub interrupts : effects.interrupts ≡ step_calls old (Enqueue bytes)
   pub state : new ≡ step old (Enqueue bytes) Asked.Nothing
 
 -- a character timeout, whatever becomes of the interrupt
-pub record IsPortTimeout (due : ℕ) (old new : State) : Type 0 where
+pub record IsUartTimeout (due : ℕ) (old new : State) : Type 0 where
   pub interrupts : due ≡ step_calls old CharacterTimeout
   pub state : new ≡ step old CharacterTimeout Asked.Nothing
 

@@ -1,7 +1,7 @@
 //! When guest time reaches a value.
 ghost use Rattle.std.specs.Prelude.{◌≡◌, pos, ◌+ℤ◌};
 ghost use Rattle.superio_core.specs.Rtc.{guest_time};
-ghost use Rattle.superio_core.specs.Rtc.Step.{FirstCome, SecondsUntil};
+ghost use Rattle.superio_core.specs.Rtc.Step.{FirstAtOrAfter, SecondsUntil};
 
 /// Guest time at the host's time `time`.
 #[inline(always)]
@@ -16,8 +16,8 @@ pub(super) fn guest_time(offset: i64, time: u32) -> u32
 
 /// The first host's time, from `from` up to the largest, at which guest time is `value` or more. Guest time reaches the
 /// value when the counter does or, while the counter does not fit in 32 bits, when the host's time does.
-fn first_time(offset: i64, value: u32, from: u32) -> Option<u32>
-    ensures { FirstCome offset value from result }
+fn first_at_or_after(offset: i64, value: u32, from: u32) -> Option<u32>
+    ensures { FirstAtOrAfter offset value from result }
 {
     if guest_time(offset, from) >= value {
         return Some(from);
@@ -44,10 +44,10 @@ pub(super) fn seconds_until(offset: i64, value: u32, now: u64) -> Option<u64>
     ensures { SecondsUntil offset value now result }
 {
     let time = (now % (1 << 32)) as u32;
-    if let Some(first) = first_time(offset, value, time) {
+    if let Some(first) = first_at_or_after(offset, value, time) {
         return Some(u64::from(first - time));
     }
-    match first_time(offset, value, 0) {
+    match first_at_or_after(offset, value, 0) {
         Some(first) => Some((1 << 32) - u64::from(time) + u64::from(first)),
         None => None,
     }

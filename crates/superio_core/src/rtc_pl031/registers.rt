@@ -63,7 +63,7 @@ pub enum ClockRegister {
 impl ClockRegister {
     /// The register at `offset`.
     #[inline(always)]
-    pub(super) fn at(offset: u16) -> ClockRegister
+    pub(super) fn decode(offset: u16) -> ClockRegister
         ensures { result ≡ clock_register_at offset }
     {
         match offset {

@@ -86,7 +86,7 @@ pub enum Register {
     /// The high byte of the divisor latch.
     Dlm,
     /// The receiver buffer for a read, the transmitter holding register for a write.
-    RbrThr,
+    Data,
     /// Interrupt enable.
     Ier,
     /// Interrupt identification.
@@ -189,12 +189,12 @@ impl Registers {
 
     /// The register that an offset reaches.
     #[inline(always)]
-    pub fn at(&self, offset: u8) -> Register
+    pub fn decode(&self, offset: u8) -> Register
         ensures { result ≡ register_at (is_dlab self.now.line_control) offset }
     {
         match offset {
             DATA_OFFSET if self.is_divisor_shown() => Register::Dll,
-            DATA_OFFSET => Register::RbrThr,
+            DATA_OFFSET => Register::Data,
             IER_OFFSET if self.is_divisor_shown() => Register::Dlm,
             IER_OFFSET => Register::Ier,
             IIR_OFFSET => Register::Iir,
@@ -242,14 +242,14 @@ impl Registers {
             return self.modem_status;
         }
         let status = only_bits(self.modem_status, MSR_DELTA_BITS);
-        let status = with_bits(status, self.shown(MCR_DTR_BIT, MSR_DSR_BIT));
-        let status = with_bits(status, self.shown(MCR_RTS_BIT, MSR_CTS_BIT));
-        let status = with_bits(status, self.shown(MCR_OUT1_BIT, MSR_RI_BIT));
-        with_bits(status, self.shown(MCR_OUT2_BIT, MSR_DCD_BIT))
+        let status = with_bits(status, self.loopback_bit(MCR_DTR_BIT, MSR_DSR_BIT));
+        let status = with_bits(status, self.loopback_bit(MCR_RTS_BIT, MSR_CTS_BIT));
+        let status = with_bits(status, self.loopback_bit(MCR_OUT1_BIT, MSR_RI_BIT));
+        with_bits(status, self.loopback_bit(MCR_OUT2_BIT, MSR_DCD_BIT))
     }
 
     /// What an input of MSR shows in loopback: its bit, if the output of MCR that feeds it is set.
-    fn shown(&self, output: u8, input: u8) -> u8
+    fn loopback_bit(&self, output: u8, input: u8) -> u8
         ensures { result ≡ (if has_bits self.now.modem_control output then input else 0) }
     {
         if has_bits(self.modem_control, output) {

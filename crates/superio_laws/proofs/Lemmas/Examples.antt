@@ -1,38 +1,38 @@
 -- Worked examples of words that laws only assume, or bound by, since with a wrong one they would say less.
 mod Console
 use Rattle.std.proofs.Common.{◌≡◌, ℕ, ◌≤◌, true, false, List, [], ◌∷◌, ◌++◌, length, map, count_by, refl, arith}
-use Rattle.superio_laws.specs.Serial.{Asked, Sent, Coherent, State, fresh_state, Op, Read, Write, Enqueue, Response, ByteRead, WriteOk, EnqueueOk, Trace, TraceEntry, IerWrite, ThrWrite, is_iir_read, is_rbr_read, Rda, Thre, restore_calls, has_bits, only_bits, with_bits}
-use Rattle.superio_laws.specs.Serial.History.{held_bytes, taken_bytes, op_kinds, shows_waiting_bytes}
+use Rattle.superio_laws.specs.Serial.{Asked, Sent, Coherent, State, fresh_state, Op, Read, Write, Enqueue, Response, ByteRead, WriteOk, EnqueueOk, Trace, TraceEntry, IerWrite, ThrWrite, is_iir_read, is_rbr_read, Rda, Thre, conditions_due, has_bits, only_bits, with_bits}
+use Rattle.superio_laws.specs.Serial.History.{held_bytes, read_out_bytes, decoded_ops, covers_waiting_bytes}
 use Rattle.superio_laws.specs.Serial.Laws.Consequences.{polls, polls_after_data_ready}
-use Rattle.superio_laws.specs.Serial.Laws.Line.{RunsAtInterrupts, TakenAfterRunsLaw, may_lower_line}
-use Rattle.superio_laws.specs.Serial.Laws.PortRun.{PortCall, PortCallsFollow, ops_of_calls, trace_with, interrupts_told, PortBoundLaw}
+use Rattle.superio_laws.specs.Serial.Laws.Line.{HandlerPasses, ReadOutAfterPassesLaw, may_lower_line}
+use Rattle.superio_laws.specs.Serial.Laws.UartRun.{UartCall, UartCallsFollow, ops_of_calls, trace_with, interrupts_to_raise, UartBoundLaw}
 use Rattle.superio_laws.specs.Rtc.{Access, read, write, fresh_clock, guest_times_since_match, is_armed}
 
 -- ---- the bound on interrupts that a caller is told
 
-five_told_with_two_reads : PortBoundLaw → (start end : State) (calls : List PortCall) → Coherent start
-    → PortCallsFollow start calls end
-    → count_by is_iir_read (op_kinds start (trace_with [] (ops_of_calls calls))) ≡ 1
-    → count_by is_rbr_read (op_kinds start (trace_with [] (ops_of_calls calls))) ≡ 1
-    → interrupts_told calls ≤ 5
+five_told_with_two_reads : UartBoundLaw → (start end : State) (calls : List UartCall) → Coherent start
+    → UartCallsFollow start calls end
+    → count_by is_iir_read (decoded_ops start (trace_with [] (ops_of_calls calls))) ≡ 1
+    → count_by is_rbr_read (decoded_ops start (trace_with [] (ops_of_calls calls))) ≡ 1
+    → interrupts_to_raise calls ≤ 5
 five_told_with_two_reads law start end calls coherent follow one taken =
     omega (arith, law start end calls coherent follow, one, taken)
 
 -- ---- what waiting bytes, drivers and the line are said of
 
-enabling_shows_them : shows_waiting_bytes (IerWrite 0x01) [] ≡ true
+enabling_shows_them : covers_waiting_bytes (IerWrite 0x01) [] ≡ true
 enabling_shows_them = refl
 
 -- as many runs as bytes are enough
-as_many_runs : TakenAfterRunsLaw → (start : State) (before after : Trace)
-    → RunsAtInterrupts start (length (held_bytes start before)) before after
-    → (more : List ℕ) × (taken_bytes start after ≡ taken_bytes start before ++ held_bytes start before ++ more)
+as_many_runs : ReadOutAfterPassesLaw → (start : State) (before after : Trace)
+    → HandlerPasses start (length (held_bytes start before)) before after
+    → (more : List ℕ) × (read_out_bytes start after ≡ read_out_bytes start before ++ held_bytes start before ++ more)
 as_many_runs law start before after runs = law start (length (held_bytes start before)) before after runs (omega arith)
 
 sending_lowers_no_line : may_lower_line (ThrWrite 0x61) ≡ false
 sending_lowers_no_line = refl
 
--- ---- a driver that polls, and one that reads RBR unasked
+-- ---- a driver that polls, and one that reads RBR without_results
 
 -- a call that calls no trigger and sends no byte, with its response
 abbrev call : Op → Response → TraceEntry × Response
@@ -86,6 +86,6 @@ armed_until_reached = refl
 -- ---- restores
 
 -- it calls for THRE first
-both_due : restore_calls (record fresh_state { interrupt_identification = 0x06; interrupt_enable = 0x03 }) ≡ Thre ∷ Rda ∷ []
+both_due : conditions_due (record fresh_state { interrupt_identification = 0x06; interrupt_enable = 0x03 }) ≡ Thre ∷ Rda ∷ []
 unfolding has_bits
 both_due = refl

@@ -3,7 +3,7 @@
 use Rattle.std.specs.Prelude.{ℕ, ◌+◌, ◌%◌, ℤ, pos, ◌+ℤ◌, ◌-ℤ◌, Bool, false, not, ◌==◌, ◌&&◌, ◌||◌, nat_lt, nat_le, is_some, if◌then◌else◌, List, [], ◌∷◌, Option, Some, None, unwrap_or, bit_or}
 use Rattle.std.specs.List.{list_any}
 use Rattle.std.specs.Option.{option_or, option_map_or}
-use Rattle.superio_core.specs.declared.rtc_pl031.saved_form.RtcState.{RtcState}
+use Rattle.superio_core.specs.declared.rtc_pl031.encoding.RtcState.{RtcState}
 use Rattle.superio_core.specs.Rtc.{Access, read, write, clock_register_at, host_time, guest_time, clock_register_read}
 use Rattle.std.specs.Int.{bit_at}
 use Rattle.superio_core.specs.Bits.{with_bits, without_bits}

@@ -3,13 +3,13 @@ pub mod Console
 pub mod Consequences
 pub mod Line
 pub mod OneCall
-pub mod PortRun
+pub mod UartRun
 pub mod Transmit
 use Rattle.std.specs.Prelude.{◌≡◌, Bool, List, [], ◌∷◌, IsTrue}
-use Rattle.superio_laws.specs.Serial.{Asked, Sent, Op, Restore, TraceEntry, Response, NoResponse, Trace, sent_by, has_bits, lsr_dr_bit, State, not_empty, identification_of, Coherent, step, step_response, step_events, step_calls, is_admissible, restore_calls}
+use Rattle.superio_laws.specs.Serial.{Asked, Sent, Op, Restore, TraceEntry, Response, NoResponse, Trace, sent_by, has_bits, lsr_dr_bit, State, not_empty, identification_of, Coherent, step, step_response, step_events, step_calls, answers_fit, conditions_due}
 use Rattle.superio_laws.specs.Serial.{bytes_sent}
 pub use Rattle.superio_laws.specs.Serial.History.Registers.{RegistersAgree}
-use Rattle.superio_laws.specs.Serial.History.{calls_due, history_events, interrupt_identification, line_status, state_of_history, history_response, ResponsesAre, kind_at, held_bytes, is_well_formed_entry, is_well_formed, restore_calls_due}
+use Rattle.superio_laws.specs.Serial.History.{calls_due, history_events, iir_after, lsr_after, state_of_history, history_response, ResponsesAre, decode_at, held_bytes, is_fitting_entry, is_fitting, conditions_due_after}
 use Rattle.superio_laws.specs.Serial.{trace_after}
 
 -- the state that the steps of a trace lead to
@@ -31,15 +31,15 @@ HeldBytesLaw = (start : State) (trace : Trace) → (state_after start trace).in_
 abbrev pub LineStatusLaw : Type 0
 LineStatusLaw = (start : State) (trace : Trace)
     → has_bits start.line_status lsr_dr_bit ≡ not_empty start.in_buffer
-    → (state_after start trace).line_status ≡ line_status start trace
+    → (state_after start trace).line_status ≡ lsr_after start trace
 
 -- the interrupt law, from a start whose IIR is 1, 2, 4 or 6, and over any trace: IIR shows the conditions that are
--- pending, an entry is admissible exactly if it is well-formed, and a restore makes the calls that are due
+-- pending, an entry is fitting exactly if it is fitting, and a restore makes the calls that are due
 pub record InterruptsAgree (start : State) (trace : Trace) (s : State) : Type 0 where
-  pub pending : s.interrupt_identification ≡ interrupt_identification start trace
+  pub pending : s.interrupt_identification ≡ iir_after start trace
   pub calls :
-      (entry : TraceEntry) → is_admissible s entry.op entry.asked entry.sent ≡ is_well_formed_entry start trace entry
-  pub restoring : restore_calls s ≡ restore_calls_due start trace
+      (entry : TraceEntry) → answers_fit s entry.op entry.asked entry.sent ≡ is_fitting_entry start trace entry
+  pub restoring : conditions_due s ≡ conditions_due_after start trace
 
 abbrev pub InterruptLaw : Type 0
 InterruptLaw = (start : State) (trace : Trace) (thre rda : Bool)
@@ -63,7 +63,7 @@ ResponseLaw = (start : State) (trace : Trace) (entry : TraceEntry) → Coherent 
 
 -- ---- one step, in the state of a history
 
--- an admissible call responds as the history says, leaves the state of the longer trace, and reports the events of its
+-- a fitting call responds as the history says, leaves the state of the longer trace, and reports the events of its
 -- point; and the writer took the byte that is sent there, if it was not lost
 pub record StepAgrees (start : State) (trace : Trace) (entry : TraceEntry) : Type 0 where
   pub response :
@@ -72,14 +72,14 @@ pub record StepAgrees (start : State) (trace : Trace) (entry : TraceEntry) : Typ
   pub state : step (state_of_history start trace) entry.op entry.asked ≡ state_of_history start (entry ∷ trace)
   pub events : step_events (state_of_history start trace) entry.op entry.sent ≡ history_events start trace entry
   pub output :
-      bytes_sent entry.op entry.sent ≡ sent_by (kind_at start trace entry.op)
+      bytes_sent entry.op entry.sent ≡ sent_by (decode_at start trace entry.op)
 
 -- the trigger calls that a call makes, as long as none is refused, are those of the history, and so are a restore's
 pub record PrefixAgrees (start : State) (trace : Trace) : Type 0 where
   pub calls : (op : Op) → step_calls (state_of_history start trace) op ≡ calls_due start trace op
-  pub restoring : restore_calls (state_of_history start trace) ≡ restore_calls_due start trace
+  pub restoring : conditions_due (state_of_history start trace) ≡ conditions_due_after start trace
   pub steps :
-      (entry : TraceEntry) → IsTrue (is_admissible (state_of_history start trace) entry.op entry.asked entry.sent)
+      (entry : TraceEntry) → IsTrue (answers_fit (state_of_history start trace) entry.op entry.asked entry.sent)
       → StepAgrees start trace entry
 
 abbrev pub StepLaw : Type 0
@@ -88,10 +88,10 @@ StepLaw = (start : State) (trace : Trace) → Coherent start
 
 -- ---- one call of a port whose state is that of a history
 
--- it is well-formed there, replies as the history says, and leaves the state of the trace with its entry added
+-- it is fitting there, replies as the history says, and leaves the state of the trace with its entry added
 pub record CallAgrees
     (start : State) (trace : Trace) (entry : TraceEntry) (reply : Response) (new : State) : Type 0 where
-  pub well_formed : IsTrue (is_well_formed_entry start trace entry)
+  pub fitting : IsTrue (is_fitting_entry start trace entry)
   pub response : reply ≡ history_response start trace entry.op entry.asked entry.sent
   pub state : new ≡ state_of_history start (entry ∷ trace)
 
@@ -99,14 +99,14 @@ pub record CallAgrees
 abbrev pub CallLaw : Type 0
 CallLaw = (start : State) (trace : Trace) (entry : TraceEntry) (reply : Response) (old new : State)
     → Coherent start → old ≡ state_of_history start trace
-    → IsTrue (is_admissible old entry.op entry.asked entry.sent)
+    → IsTrue (answers_fit old entry.op entry.asked entry.sent)
     → reply ≡ step_response old entry.op entry.asked entry.sent → new ≡ step old entry.op entry.asked
     → CallAgrees start trace entry reply new
 
 -- a retry in that state: the trigger calls are those of a restore there, and it counts as one. Its
--- entry is well-formed, responds nothing, and the state is that of the trace with this entry added
+-- entry is fitting, responds nothing, and the state is that of the trace with this entry added
 pub record RetryAgrees (start : State) (trace : Trace) (s : State) : Type 0 where
-  pub calls : restore_calls s ≡ restore_calls_due start trace
+  pub calls : conditions_due s ≡ conditions_due_after start trace
   pub counted :
       CallAgrees start trace (record { op = Restore; asked = Asked.Nothing; sent = Sent.Nothing }) NoResponse s
 
@@ -120,14 +120,14 @@ RetryLaw = (start : State) (trace : Trace) (s : State) → Coherent start → s 
 abbrev pub StepsFollow : (s : State) (calls : List (TraceEntry × Response)) (end : State) → Type 0
 StepsFollow s [] end = end ≡ s
 StepsFollow s (call ∷ later) end =
-    IsTrue (is_admissible s call.0.op call.0.asked call.0.sent)
+    IsTrue (answers_fit s call.0.op call.0.asked call.0.sent)
     × (call.1 ≡ step_response s call.0.op call.0.asked call.0.sent)
     × StepsFollow (step s call.0.op call.0.asked) later end
 
--- after `trace` the calls make a well-formed trace with these responses, and end in its state, which is coherent
+-- after `trace` the calls make a fitting trace with these responses, and end in its state, which is coherent
 pub record RunAgrees
     (start : State) (trace : Trace) (calls : List (TraceEntry × Response)) (end : State) : Type 0 where
-  pub well_formed : IsTrue (is_well_formed start (trace_after trace calls))
+  pub fitting : IsTrue (is_fitting start (trace_after trace calls))
   pub responses : ResponsesAre start trace calls
   pub state : end ≡ state_of_history start (trace_after trace calls)
   pub coherent : Coherent end

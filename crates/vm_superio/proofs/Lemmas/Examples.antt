@@ -1,13 +1,13 @@
 -- Worked examples of words that contracts only assume, or bound by, since with a wrong one they would say less.
 use Rattle.std.proofs.Common.{◌≡◌, ℕ, true, false, [], ◌∷◌, ◌++◌, replicate, refl, sym, subst, ap, ◌∙◌, arith, Ok, append-nil}
 use Rattle.std.proofs.lemmas.Bool.{false≢true}
-use Rattle.vm_superio.specs.Serial.{Asked, Sent, State, fresh_state, Port, Memory, Read, Write, restore_calls, step, is_dlab, is_loopback, has_bits}
-use Rattle.vm_superio.specs.Claims.{is_fresh, shows_data, is_outside, is_inside, is_masked}
+use Rattle.vm_superio.specs.Serial.{Asked, Sent, State, fresh_state, SerialView, Memory, Read, Write, conditions_due, step, is_dlab, is_loopback, has_bits}
+use Rattle.vm_superio.specs.Claims.{is_fresh, dlab_clear, not_in_loopback, in_loopback, ier_zero}
 use Rattle.vm_superio.specs.Links.{Link, TriggerAnswer, all_ok}
 use Rattle.vm_superio.specs.Serial.Run.{Act, Call, Done, Reply, Byte, Wrote, Restored, NotRestored, entry_of, without_restores}
 use Rattle.vm_superio.specs.Serial.Run.Segments.{Account, Segment, segments_of, SegmentsAre}
 use Rattle.vm_superio.specs.Serial.Run.Steps.{by_steps}
-use Rattle.vm_superio.specs.Links.Writer.{PortLinks, WriterLink}
+use Rattle.vm_superio.specs.Links.Writer.{SerialLinks, WriterLink}
 use Rattle.vm_superio.specs.declared.serial.errors.Refused.{Refused}
 use Rattle.vm_superio.specs.Serial.Step.{RefusesRestore}
 use Rattle.superio_laws.specs.Rtc.{read}
@@ -25,7 +25,7 @@ done act reply = record { act = act; asked = Asked.Nothing; sent = Sent.Nothing;
 
 -- a read; a restore that is refused, and one that succeeds, of the objects with an `s`; and a read
 module _
-    {T E EV W : Type 0} (account : Account) (start old end : Port T EV W) (trigger triggers : T) (event events : EV)
+    {T E EV W : Type 0} (account : Account) (start old end : SerialView T EV W) (trigger triggers : T) (event events : EV)
     (out outs : W) (byte : ℕ) (refused : Refused T EV W E) where
   two_segments :
       let reads = done (Act.Read 0) (Byte byte) in
@@ -51,7 +51,7 @@ module _
 -- the guest sends a byte, the port is restored, and the guest sends another, from any state. Each writer took the byte
 -- that was sent while it served; the new trigger had the calls due for the state of the old port, which comes back
 module _
-    {T E EV W : Type 0} (links : PortLinks T E EV W) (start old end : Port T EV W) (trigger : T) (events : EV)
+    {T E EV W : Type 0} (links : SerialLinks T E EV W) (start old end : SerialView T EV W) (trigger : T) (events : EV)
     (out : W) where
   abbrev sent : (value : ℕ) → Done T EV W E
   sent value = record { act = Act.Write 0 value; asked = Asked.Nothing; sent = Sent.Out; reply = Wrote (Ok tt) }
@@ -60,7 +60,7 @@ module _
     first_writer : WriterLink links.contents (Sent.Out ∷ []) (0x41 ∷ []) start.out old.out
     second_writer : WriterLink links.contents (Sent.Out ∷ []) (0x42 ∷ []) out end.out
     first_trigger : links.trigger start.trigger [] old.trigger
-    second_trigger : links.trigger trigger (all_ok (restore_calls old.state)) end.trigger
+    second_trigger : links.trigger trigger (all_ok (conditions_due old.state)) end.trigger
     old_state : old.state ≡ step start.state (Write 0 0x41) Asked.Nothing
     end_state : end.state ≡ step old.state (Write 0 0x42) Asked.Nothing
 
@@ -77,8 +77,8 @@ module _
         second_writer = second.out;
         first_trigger = first.trigger;
         second_trigger =
-            subst (λ answers. links.trigger trigger answers end.trigger) (append-nil (all_ok (restore_calls old.state)))
-            (subst (λ s. links.trigger trigger (all_ok (restore_calls s) ++ []) end.trigger) (sym first.state) second.trigger);
+            subst (λ answers. links.trigger trigger answers end.trigger) (append-nil (all_ok (conditions_due old.state)))
+            (subst (λ s. links.trigger trigger (all_ok (conditions_due s) ++ []) end.trigger) (sym first.state) second.trigger);
         old_state = first.state;
         end_state = second.state ∙ ap (λ s. step s (Write 0 0x42) Asked.Nothing) (sym first.state);
       }
@@ -92,17 +92,17 @@ one_more_is_full link old new refuses = omega (arith, refuses.0)
 
 -- ---- words for claims
 
-module _ {T EV W : Type 0} (port : Port T EV W) where
-  fresh_shows_data : is_fresh port → shows_data port
+module _ {T EV W : Type 0} (port : SerialView T EV W) where
+  fresh_shows_data : is_fresh port → dlab_clear port
   unfolding has_bits
   fresh_shows_data fresh = ap (λ (s : State). is_dlab s.line_control) fresh
 
-  fresh_is_outside : is_fresh port → is_outside port
+  fresh_is_outside : is_fresh port → not_in_loopback port
   unfolding has_bits
   fresh_is_outside fresh = ap (λ (s : State). is_loopback s.modem_control) fresh
 
-  fresh_is_masked : is_fresh port → is_masked port
+  fresh_is_masked : is_fresh port → ier_zero port
   fresh_is_masked fresh = ap (λ (s : State). s.interrupt_enable) fresh
 
-  inside_or_outside : is_inside port → is_outside port → ⊥
+  inside_or_outside : in_loopback port → not_in_loopback port → ⊥
   inside_or_outside inside outside = false≢true (sym outside ∙ inside)

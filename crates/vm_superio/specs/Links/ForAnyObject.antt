@@ -12,41 +12,41 @@ SameWithoutCall old [] new = old ≡ new
 SameWithoutCall old (call ∷ calls) new = ⊤
 
 -- an object that was not called is the same. Nothing is stated of one that was
-pub record Unspecified {Object Call : Type 0} (old : Object) (calls : List Call) (new : Object) : Type 0 where
+pub record AnyCalls {Object Call : Type 0} (old : Object) (calls : List Call) (new : Object) : Type 0 where
   pub same : SameWithoutCall old calls new
 
--- the law `no_call`, or `no_event`
-pub Unspecified-nil : {Object Call : Type 0} (old new : Object) → Unspecified {Call = Call} old [] new ↔ (old ≡ new)
-Unspecified-nil old new = (λ silent. silent.same, λ same. record { same = same })
+-- the law `empty`, or `empty`
+pub AnyCalls-nil : {Object Call : Type 0} (old new : Object) → AnyCalls {Call = Call} old [] new ↔ (old ≡ new)
+AnyCalls-nil old new = (λ silent. silent.same, λ same. record { same = same })
 
--- the law `joined`
-pub Unspecified-append :
+-- the law `append`
+pub AnyCalls-append :
     {Object Call : Type 0} (old between new : Object) (first second : List Call) →
-    Unspecified old first between → Unspecified between second new → Unspecified old (first ++ second) new
-Unspecified-append old between new [] second to_between to_new = record {
+    AnyCalls old first between → AnyCalls between second new → AnyCalls old (first ++ second) new
+AnyCalls-append old between new [] second to_between to_new = record {
   same = subst (λ object. SameWithoutCall object second new) (sym to_between.same) to_new.same;
 }
-Unspecified-append old between new (call ∷ first) second to_between to_new = record { same = tt }
+AnyCalls-append old between new (call ∷ first) second to_between to_new = record { same = tt }
 
 -- ---- an events object that folds its events, by a function that says what one event does to its value
 
 -- the new value is the old one after a step for each event, in order
-pub record FoldsEvents
+pub record FoldsCalls
     {State Event : Type 0} (step : State → Event → State) (old : State) (events : List Event) (new : State) :
     Type 0 where
   pub folds : new ≡ fold step old events
 
--- the law `no_event`: no event leaves the value as it is, and relates no other values
-pub FoldsEvents-nil :
-    {State Event : Type 0} {step : State → Event → State} (old new : State) → FoldsEvents step old [] new ↔ (old ≡ new)
-FoldsEvents-nil old new = (λ stays. sym stays.folds, λ same. record { folds = sym same })
+-- the law `empty`: no event leaves the value as it is, and relates no other values
+pub FoldsCalls-nil :
+    {State Event : Type 0} {step : State → Event → State} (old new : State) → FoldsCalls step old [] new ↔ (old ≡ new)
+FoldsCalls-nil old new = (λ stays. sym stays.folds, λ same. record { folds = sym same })
 
--- the law `joined`: events that follow each other are one list of events
-pub FoldsEvents-append :
+-- the law `append`: events that follow each other are one list of events
+pub FoldsCalls-append :
     {State Event : Type 0} {step : State → Event → State} (old between new : State) (first second : List Event) →
-    FoldsEvents step old first between → FoldsEvents step between second new →
-    FoldsEvents step old (first ++ second) new
-FoldsEvents-append {step = step} old between new first second to_between to_new = record {
+    FoldsCalls step old first between → FoldsCalls step between second new →
+    FoldsCalls step old (first ++ second) new
+FoldsCalls-append {step = step} old between new first second to_between to_new = record {
   folds =
       to_new.folds ∙ ap (λ state. fold step state second) to_between.folds
       ∙ sym (fold-append step old first second);

@@ -6,15 +6,15 @@ use Rattle.vm_superio.specs.Serial.{Sent, Op, Write, Event, is_lost}
 use Rattle.vm_superio.specs.Links.{Link, TriggerAnswer, Contents}
 
 -- what the types of a port's trigger, events object and writer state
-pub record PortLinks (T E EV W : Type 0) : Type 1 where
+pub record SerialLinks (T E EV W : Type 0) : Type 1 where
   pub trigger : Link T (TriggerAnswer E)
   pub events : Link EV Event
   pub contents : Contents W
 
-abbrev pub port_links :
+abbrev pub serial_links :
     {T E EV W : Type 0} → (trigger : Link T (TriggerAnswer E)) (events : Link EV Event) (contents : Contents W)
-    → PortLinks T E EV W
-port_links trigger events contents = record { trigger = trigger; events = events; contents = contents }
+    → SerialLinks T E EV W
+serial_links trigger events contents = record { trigger = trigger; events = events; contents = contents }
 
 module _ {W : Type 0} (contents : Contents W) where
   -- a writer before and after it was sent these bytes, in order, with these outcomes: a byte that is out follows the

@@ -2,16 +2,16 @@
 -- refused; and what stands after a call that failed.
 use Rattle.std.specs.Prelude.{◌≡◌, ℕ, ◌+◌, Bool, not, ◌&&◌, ◌==◌, if◌then◌else◌, length, List, IsTrue, Option, None, Result, is_some, ◌<◌, ◌≤◌, ◌-◌, ◌++◌, take}
 use Rattle.std.specs.Bool.{OnFalse}
-use Rattle.vm_superio.specs.Serial.{Error, Port, bytes_sent, outcome_of, turned_on_count, write_response, enqueue_response, timeout_response, refusal_in_result, FullFifo, Trigger, IOError, Asked, Sent, Op, Read, Write, Enqueue, CharacterTimeout, Restore, Response, ByteRead, NoResponse, Event, ends_in_refusal, count_if, has_bits, only_bits, State, Rda, Thre, iir_bit, step, step_response, step_events, is_admissible, sends_byte, restore_calls}
+use Rattle.vm_superio.specs.Serial.{Error, SerialView, bytes_sent, outcome_of, turned_on_count, write_response, enqueue_response, timeout_response, refusal_in_result, FullFifo, Trigger, IOError, Asked, Sent, Op, Read, Write, Enqueue, CharacterTimeout, Restore, Response, ByteRead, NoResponse, Event, ends_in_refusal, count_if, has_bits, only_bits, State, Rda, Thre, iir_bit, step, step_response, step_events, answers_fit, sends_byte, conditions_due}
 use Rattle.vm_superio.specs.Links.{Link, TriggerAnswer, Contents, answers_of, RefusesOwnState}
-use Rattle.vm_superio.specs.Links.Writer.{PortLinks, port_links, WriterLink}
+use Rattle.vm_superio.specs.Links.Writer.{SerialLinks, serial_links, WriterLink}
 
 -- a call takes a port from `old` to `new` by one step, with these answers of the trigger and this outcome of a byte. A
 -- refusal is that of the trigger's last call
-pub record IsPortStep
-    {T E EV W : Type 0} (links : PortLinks T E EV W) (op : Op) (asked : Asked) (sent : Sent) (reply : Response)
-    (refusal : Option E) (old new : Port T EV W) : Type 0 where
-  pub admissible : IsTrue (is_admissible old.state op asked sent)
+pub record IsSerialStep
+    {T E EV W : Type 0} (links : SerialLinks T E EV W) (op : Op) (asked : Asked) (sent : Sent) (reply : Response)
+    (refusal : Option E) (old new : SerialView T EV W) : Type 0 where
+  pub fits : IsTrue (answers_fit old.state op asked sent)
   pub response : reply ≡ step_response old.state op asked sent
   pub refused : is_some refusal ≡ ends_in_refusal asked
   pub state : new.state ≡ step old.state op asked
@@ -20,15 +20,15 @@ pub record IsPortStep
   pub out : WriterLink links.contents (outcome_of sent) (bytes_sent op sent) old.out new.out
 
 -- the port with another writer, and nothing else changed
-abbrev pub with_writer : {T EV W : Type 0} → (port : Port T EV W) (writer : W) → Port T EV W
+abbrev pub with_writer : {T EV W : Type 0} → (port : SerialView T EV W) (writer : W) → SerialView T EV W
 with_writer port writer = record port { out = writer }
 
 -- the port with another trigger, and nothing else changed
-abbrev pub with_trigger : {T EV W : Type 0} → (port : Port T EV W) (trigger : T) → Port T EV W
+abbrev pub with_trigger : {T EV W : Type 0} → (port : SerialView T EV W) (trigger : T) → SerialView T EV W
 with_trigger port trigger = record port { trigger = trigger }
 
 -- the port with another events object, likewise
-abbrev pub with_events : {T EV W : Type 0} → (port : Port T EV W) (object : EV) → Port T EV W
+abbrev pub with_events : {T EV W : Type 0} → (port : SerialView T EV W) (object : EV) → SerialView T EV W
 with_events port object = record port { events = object }
 
 -- ---- what is pending
@@ -61,43 +61,43 @@ transmitter s = only_bits s.line_status 0x60
 
 module _ {T E EV W : Type 0} (trigger : Link T (TriggerAnswer E)) (events : Link EV Event) (contents : Contents W) where
   -- a read calls no trigger and sends no byte
-  abbrev pub IsReadStep : (offset byte : ℕ) (old new : Port T EV W) → Type 0
-  IsReadStep offset byte old new =
-      IsPortStep (port_links trigger events contents) (Read offset) Asked.Nothing Sent.Nothing
+  abbrev pub IsSerialRead : (offset byte : ℕ) (old new : SerialView T EV W) → Type 0
+  IsSerialRead offset byte old new =
+      IsSerialStep (serial_links trigger events contents) (Read offset) Asked.Nothing Sent.Nothing
       (ByteRead byte) None old new
 
   -- a write. There is one answer of the trigger for each pending bit of IIR that it turns on
-  pub record IsWriteStep
-      (offset value : ℕ) (result : Result (Unit {0}) (Error E)) (old new : Port T EV W) : Type 0 where
+  pub record IsSerialWrite
+      (offset value : ℕ) (result : Result (Unit {0}) (Error E)) (old new : SerialView T EV W) : Type 0 where
     pub asked : Asked
     pub sent : Sent
     pub step :
-        IsPortStep (port_links trigger events contents) (Write offset value) asked sent
+        IsSerialStep (serial_links trigger events contents) (Write offset value) asked sent
         (write_response result) (refusal_in_result result) old new
     pub calls : length (answers_of asked (refusal_in_result result)) ≡ turned_on_count old.state new.state
 
   -- an enqueue, likewise
-  pub record IsEnqueueStep
-      (bytes : List ℕ) (result : Result ℕ (Error E)) (old new : Port T EV W) : Type 0 where
+  pub record IsSerialEnqueue
+      (bytes : List ℕ) (result : Result ℕ (Error E)) (old new : SerialView T EV W) : Type 0 where
     pub asked : Asked
     pub sent : Sent
     pub step :
-        IsPortStep (port_links trigger events contents) (Enqueue bytes) asked sent
+        IsSerialStep (serial_links trigger events contents) (Enqueue bytes) asked sent
         (enqueue_response result) (refusal_in_result result) old new
     pub calls : length (answers_of asked (refusal_in_result result)) ≡ turned_on_count old.state new.state
 
   -- a character timeout, likewise
-  pub record IsTimeoutStep (result : Result (Unit {0}) (Error E)) (old new : Port T EV W) : Type 0 where
+  pub record IsSerialTimeout (result : Result (Unit {0}) (Error E)) (old new : SerialView T EV W) : Type 0 where
     pub asked : Asked
     pub step :
-        IsPortStep (port_links trigger events contents) CharacterTimeout asked Sent.Nothing
+        IsSerialStep (serial_links trigger events contents) CharacterTimeout asked Sent.Nothing
         (timeout_response result) (refusal_in_result result) old new
     pub calls : length (answers_of asked (refusal_in_result result)) ≡ turned_on_count old.state new.state
 
   -- a retry of refused interrupts: except for its trigger, the port makes the step of a restore without answers
-  abbrev pub IsRetryStep : (old new : Port T EV W) → Type 0
-  IsRetryStep old new =
-      IsPortStep (port_links trigger events contents) Restore Asked.Nothing Sent.Nothing
+  abbrev pub IsSerialRetry : (old new : SerialView T EV W) → Type 0
+  IsSerialRetry old new =
+      IsSerialStep (serial_links trigger events contents) Restore Asked.Nothing Sent.Nothing
       NoResponse None (with_trigger old new.trigger) new
 
 -- ---- why a restore is refused
@@ -108,7 +108,7 @@ abbrev pub RefusesRestore :
     {T E : Type 0} → (link : Link T (TriggerAnswer E)) (s : State) (error : Error E) (old new : T) → Type 0
 RefusesRestore link s FullFifo old new = (64 < length s.in_buffer) × (new ≡ old)
 RefusesRestore link s error old new =
-    (length s.in_buffer ≤ 64) × RefusesOwnState link (restore_calls s) error old new
+    (length s.in_buffer ≤ 64) × RefusesOwnState link (conditions_due s) error old new
 
 -- ---- what stands after a call that failed
 

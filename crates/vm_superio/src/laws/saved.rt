@@ -1,32 +1,32 @@
 //! The laws of saved states. The round trips are calls whose contracts are the laws.
 ghost use Rattle.std.specs.Prelude.{◌≡◌, ◌≤◌, length, IfOk, MatchResult};
 ghost use Rattle.vm_superio.specs.Saved.{state_of, SerialVersionLaw, ClockVersionLaw, OtherSerialVersionLaw, OtherClockVersionLaw};
-ghost use Rattle.superio_core.specs.Serial.{state_of_port};
-ghost use Rattle.superio_core.specs.Saved.{SerialFormLaw, OneSerialStateLaw, ClockFormLaw, OneClockStateLaw};
+ghost use Rattle.superio_core.specs.Serial.{state_of_uart};
+ghost use Rattle.superio_core.specs.Saved.{SerialEncodingLaw, OneSerialStateLaw, ClockEncodingLaw, OneClockStateLaw};
 
-use crate::saved::{Error, Fault};
-use crate::serial::saved_form::SerialForm;
+use crate::saved::{LoadError, SavedStateError};
+use crate::serial::encoding::SerialEncoding;
 use crate::{Rtc, RtcState, SerialState};
 use std::alloc::Global;
-use superio_core::rtc_pl031::saved_form::SAVED_SIZE;
-use superio_core::serial::SerialPort;
+use superio_core::rtc_pl031::encoding::SAVED_SIZE;
+use superio_core::serial::Uart;
 
 /// A written form passes every check when read.
-#[tactic(auto, using(superio_core::proofs::Lemmas::Saved::forms_are_read_laws))]
-pub fn forms_are_read()
-    ensures serial { SerialFormLaw }
-    ensures clock { ClockFormLaw }
+#[tactic(auto, using(superio_core::proofs::Lemmas::Saved::encodings_are_read_laws))]
+pub fn encodings_are_read()
+    ensures serial { SerialEncodingLaw }
+    ensures clock { ClockEncodingLaw }
 {}
 
 /// No two states share a form.
-#[tactic(auto, using(superio_core::proofs::Lemmas::Saved::one_state_of_a_form_laws))]
-pub fn one_state_of_a_form()
+#[tactic(auto, using(superio_core::proofs::Lemmas::Saved::one_state_of_an_encoding_laws))]
+pub fn one_state_of_an_encoding()
     ensures serial { OneSerialStateLaw }
     ensures clock { OneClockStateLaw }
 {}
 
 /// Each form has the version of its writer at the same place.
-pub fn version_of_a_form()
+pub fn version_of_an_encoding()
     ensures serial { SerialVersionLaw }
     ensures clock { ClockVersionLaw }
 {}
@@ -39,30 +39,30 @@ pub fn other_versions_are_refused()
 
 /// Reading a port that was written gives its state back, unless memory is refused. A state with more than 64 received
 /// bytes is not written.
-pub fn serial_written_then_read(alloc: Global, state: &SerialState) -> Result<SerialState, Error>
+pub fn serial_written_then_read(alloc: Global, state: &SerialState) -> Result<SerialState, LoadError>
     ensures read { length state.now.in_buffer.items ≤ 64 →
-        MatchResult result (λ read. state_of read ≡ state_of state.now) (λ error. error ≡ Error.Memory) }
+        MatchResult result (λ read. state_of read ≡ state_of state.now) (λ error. error ≡ LoadError.Memory) }
     ensures same { IfOk result (λ read. state_of read ≡ state_of state.now) }
 {
     SerialState::from_bytes(alloc, state.to_bytes()?.as_bytes())
 }
 
 /// Writing a port that was read gives the same bytes.
-pub fn serial_read_then_written(alloc: Global, bytes: &[u8]) -> Result<SerialForm, Error>
+pub fn serial_read_then_written(alloc: Global, bytes: &[u8]) -> Result<SerialEncoding, LoadError>
     ensures { IfOk result (λ written. written ≡ bytes.now) }
 {
     Ok(SerialState::from_bytes(alloc, bytes)?.to_bytes()?)
 }
 
 /// Reading a clock that was written gives its state back.
-pub fn clock_written_then_read(state: RtcState) -> Result<RtcState, Fault>
+pub fn clock_written_then_read(state: RtcState) -> Result<RtcState, SavedStateError>
     ensures { result ≡ Ok state }
 {
     RtcState::from_bytes(&state.to_bytes())
 }
 
 /// Writing a clock that was read gives the same bytes.
-pub fn clock_read_then_written(bytes: &[u8]) -> Result<[u8; SAVED_SIZE], Fault>
+pub fn clock_read_then_written(bytes: &[u8]) -> Result<[u8; SAVED_SIZE], SavedStateError>
     ensures { IfOk result (λ written. written ≡ bytes.now) }
 {
     Ok(RtcState::from_bytes(bytes)?.to_bytes())
@@ -70,25 +70,25 @@ pub fn clock_read_then_written(bytes: &[u8]) -> Result<[u8; SAVED_SIZE], Fault>
 
 /// A state made a port, and that port a state, is the state, unless memory is refused. A state with more than 64
 /// received bytes has no port.
-pub fn state_to_port_and_back(alloc: Global, state: &SerialState) -> Result<SerialState, Error>
+pub fn state_to_uart_and_back(alloc: Global, state: &SerialState) -> Result<SerialState, LoadError>
     ensures back { length state.now.in_buffer.items ≤ 64 →
-        MatchResult result (λ back. state_of back ≡ state_of state.now) (λ error. error ≡ Error.Memory) }
+        MatchResult result (λ back. state_of back ≡ state_of state.now) (λ error. error ≡ LoadError.Memory) }
     ensures same { IfOk result (λ back. state_of back ≡ state_of state.now) }
 {
-    match SerialState::from_port(alloc, &state.to_port()?) {
+    match SerialState::from_uart(alloc, &state.to_uart()?) {
         Ok(back) => Ok(back),
-        Err(_) => Err(Error::Memory),
+        Err(_) => Err(LoadError::Memory),
     }
 }
 
 /// A port made a state, and that state a port, is the port, unless memory is refused.
-pub fn port_to_state_and_back(alloc: Global, port: &SerialPort) -> Result<SerialPort, Error>
-    ensures { MatchResult result (λ back. state_of_port back ≡ state_of_port port.now)
-        (λ error. error ≡ Error.Memory) }
+pub fn uart_to_state_and_back(alloc: Global, port: &Uart) -> Result<Uart, LoadError>
+    ensures { MatchResult result (λ back. state_of_uart back ≡ state_of_uart port.now)
+        (λ error. error ≡ LoadError.Memory) }
 {
-    match SerialState::from_port(alloc, port) {
-        Ok(state) => Ok(state.to_port()?),
-        Err(_) => Err(Error::Memory),
+    match SerialState::from_uart(alloc, port) {
+        Ok(state) => Ok(state.to_uart()?),
+        Err(_) => Err(LoadError::Memory),
     }
 }
 

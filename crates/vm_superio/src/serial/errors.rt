@@ -20,9 +20,9 @@ pub enum Error<E> {
 }
 
 impl<E: fmt::Display> fmt::Display for Error<E> {
-    ghost use Rattle.vm_superio.specs.Serial.{text_of};
+    ghost use Rattle.vm_superio.specs.Serial.{serial_error_text};
 
-    ghost output = { text_of E.output };
+    ghost output = { serial_error_text E.output };
 
     fn fmt<W: fmt::Write>(&self, f: &mut fmt::Formatter<W>) -> fmt::Result {
         match self {

@@ -30,10 +30,10 @@ pub trait SerialEvents {
         ensures { link self.old (in_buffer_empty ∷ []) self.new };
 
     /// The empty list links equal values only.
-    ghost no_event: { (x y : Self) → link x [] y ↔ (x ≡ y) };
+    ghost empty: { (x y : Self) → link x [] y ↔ (x ≡ y) };
 
     /// Consecutive events join into one list.
-    ghost joined: { (x y z : Self) (first second : List Event) →
+    ghost append: { (x y z : Self) (first second : List Event) →
         link x first y → link y second z → link x (first ++ second) z };
 }
 
@@ -44,9 +44,9 @@ pub struct NoEvents;
 impl SerialEvents for NoEvents {
     ghost link = { λ old _ new. old ≡ new };
 
-    ghost no_event = { λ _ _. (λ same. same, λ same. same) };
+    ghost empty = { λ _ _. (λ same. same, λ same. same) };
 
-    ghost joined = { λ _ _ _ _ _ first second. first ∙ second };
+    ghost append = { λ _ _ _ _ _ first second. first ∙ second };
 
     fn buffer_read(&mut self) {}
 

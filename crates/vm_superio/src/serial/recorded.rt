@@ -2,21 +2,21 @@
 //! carries out its effects.
 ghost use Rattle.std.specs.Prelude.{◌≡◌, ◌≤◌, ℕ, List, Result, [], ◌∷◌, length, if◌then◌else◌, is_some, IsTrue, IfOk, IfErr, OnOk};
 ghost use Rattle.vm_superio.specs.Links.{answers_of, all_ok, StopsAtRefusal};
-ghost use Rattle.vm_superio.specs.Links.Writer.{port_links, WriterLink};
-ghost use Rattle.vm_superio.specs.Serial.{outcome_of, bytes_sent, state_with, restore_calls, answers_all, events_of_read, sent_events, Write, Enqueue, CharacterTimeout, WriteOk, TriggerRefused, WriterFailed, FifoFull, EnqueueOk, is_sent, is_lost, ends_in_refusal, write_response, enqueue_response, timeout_response, refusal_in_result};
+ghost use Rattle.vm_superio.specs.Links.Writer.{serial_links, WriterLink};
+ghost use Rattle.vm_superio.specs.Serial.{outcome_of, bytes_sent, state_with, conditions_due, answers_all, events_of_read, sent_events, Write, Enqueue, CharacterTimeout, WriteOk, TriggerRefused, WriterFailed, FifoFull, EnqueueOk, is_sent, is_lost, ends_in_refusal, write_response, enqueue_response, timeout_response, refusal_in_result};
 ghost use Rattle.vm_superio.specs.Saved.{state_of};
 ghost use Rattle.vm_superio.specs.Serial.Step.{RefusesRestore};
 
 use super::Serial;
 use super::errors::Error;
 use super::events::SerialEvents;
-use super::saved_form::SerialState;
+use super::encoding::SerialState;
 use crate::Trigger;
 use crate::fifo::Fifo;
 use std::alloc::Global;
 use std::io;
 use std::io::Write;
-use superio_core::fifo::{FIFO_SIZE, ReceiveFifo};
+use superio_core::fifo::{FIFO_SIZE, RxFifo};
 use superio_core::serial::registers::Registers;
 use superio_core::serial::{Asked, ReadEffects, Sent};
 
@@ -29,7 +29,7 @@ pub(crate) struct Recorded<R> {
 }
 
 impl<T: Trigger, EV: SerialEvents, W: Write> Serial<T, EV, W> {
-    ghost use Rattle.vm_superio.specs.Serial.Step.{IsPortStep};
+    ghost use Rattle.vm_superio.specs.Serial.Step.{IsSerialStep};
 
     /// `write`, with the trigger's answers and the outcome of its byte.
     pub(crate) fn recorded_write(
@@ -37,14 +37,14 @@ impl<T: Trigger, EV: SerialEvents, W: Write> Serial<T, EV, W> {
         offset: u8,
         value: u8,
     ) -> Recorded<Result<(), Error<T::E>>>
-        ensures { IsPortStep (port_links T.link EV.link W.contents) (Write offset value) result.asked result.sent
+        ensures { IsSerialStep (serial_links T.link EV.link W.contents) (Write offset value) result.asked result.sent
             (write_response result.reply) (refusal_in_result result.reply) self.old self.new }
     {
-        let register = self.registers.at(offset);
+        let register = self.registers.decode(offset);
         let effects = self.registers.write(&mut self.in_buffer, register, value);
         let (sent, fault) = send_where_due(&mut self.events, &mut self.out, effects.sends, value);
         let (asked, refusal) = call_trigger(&mut self.interrupt_evt, effects.interrupts);
-        self.registers.take_back(effects.interrupts, asked);
+        self.registers.cancel_thre(effects.interrupts, asked);
         let reply = match (refusal, fault) {
             (Some(refusal), _) => Err(Error::Trigger(refusal)),
             (None, Some(fault)) => Err(Error::IOError(fault)),
@@ -55,15 +55,15 @@ impl<T: Trigger, EV: SerialEvents, W: Write> Serial<T, EV, W> {
 
     /// `enqueue_raw_bytes`, with the trigger's answers.
     pub(crate) fn recorded_enqueue(&mut self, input: &[u8]) -> Recorded<Result<usize, Error<T::E>>>
-        ensures { IsPortStep (port_links T.link EV.link W.contents) (Enqueue input.now) result.asked result.sent
+        ensures { IsSerialStep (serial_links T.link EV.link W.contents) (Enqueue input.now) result.asked result.sent
             (enqueue_response result.reply) (refusal_in_result result.reply) self.old self.new }
     {
         let effects = self.registers.enqueue(&mut self.in_buffer, input);
         let (asked, refusal) = call_trigger(&mut self.interrupt_evt, effects.interrupts);
         let reply = match refusal {
             Some(refusal) => Err(Error::Trigger(refusal)),
-            None if effects.full => Err(Error::FullFifo),
-            None => Ok(effects.taken),
+            None if effects.fifo_full => Err(Error::FullFifo),
+            None => Ok(effects.accepted),
         };
         Recorded {
             reply,
@@ -75,7 +75,7 @@ impl<T: Trigger, EV: SerialEvents, W: Write> Serial<T, EV, W> {
     /// `character_timeout`, with the trigger's answers.
     pub(crate) fn recorded_timeout(&mut self) -> Recorded<Result<(), Error<T::E>>>
         ensures no_byte { result.sent ≡ Sent.Nothing }
-        ensures step { IsPortStep (port_links T.link EV.link W.contents) CharacterTimeout result.asked result.sent
+        ensures step { IsSerialStep (serial_links T.link EV.link W.contents) CharacterTimeout result.asked result.sent
             (timeout_response result.reply) (refusal_in_result result.reply) self.old self.new }
     {
         let due = self.registers.character_timeout(&self.in_buffer);
@@ -98,7 +98,7 @@ pub(super) fn restored<T: Trigger>(
     trigger: &mut T,
 ) -> Result<(Registers, Fifo), Error<T::E>>
     ensures state { IfOk result (λ parts. state_with parts.0 parts.1 ≡ state_of state.now) }
-    ensures called { OnOk result (T.link trigger.old (all_ok (restore_calls (state_of state.now))) trigger.new) }
+    ensures called { OnOk result (T.link trigger.old (all_ok (conditions_due (state_of state.now))) trigger.new) }
     ensures refused { IfErr result (λ error. RefusesRestore T.link (state_of state.now) error trigger.old trigger.new) }
 {
     if state.in_buffer.len() > FIFO_SIZE {
@@ -115,9 +115,9 @@ pub(super) fn restored<T: Trigger>(
 /// Calls the trigger once for each condition that is pending and enabled, up to the first refusal.
 pub(super) fn call_again<T: Trigger>(registers: &Registers, trigger: &mut T) -> Result<(), T::E>
     ensures accepted { OnOk result
-        (T.link trigger.old (all_ok (restore_calls (state_with registers.now []))) trigger.new) }
+        (T.link trigger.old (all_ok (conditions_due (state_with registers.now []))) trigger.new) }
     ensures refused { IfErr result (λ refusal. (answers : List (Result (Unit {0}) T.E))
-        × StopsAtRefusal (restore_calls (state_with registers.now [])) refusal answers
+        × StopsAtRefusal (conditions_due (state_with registers.now [])) refusal answers
         × T.link trigger.old answers trigger.new) }
 {
     match call_trigger(trigger, registers.interrupts_due()).1 {

@@ -13,7 +13,7 @@ pub(super) fn guest_time(offset: i64, time: u32) -> u32 {
 
 /// The first host's time, from `from` up to the largest, at which guest time is `value` or more. Guest time reaches the
 /// value when the counter does or, while the counter does not fit in 32 bits, when the host's time does.
-fn first_time(offset: i64, value: u32, from: u32) -> Option<u32> {
+fn first_at_or_after(offset: i64, value: u32, from: u32) -> Option<u32> {
     if guest_time(offset, from) >= value {
         return Some(from);
     }
@@ -37,10 +37,10 @@ fn first_time(offset: i64, value: u32, from: u32) -> Option<u32> {
 /// wraps to 0.
 pub(super) fn seconds_until(offset: i64, value: u32, now: u64) -> Option<u64> {
     let time = (now % (1 << 32)) as u32;
-    if let Some(first) = first_time(offset, value, time) {
+    if let Some(first) = first_at_or_after(offset, value, time) {
         return Some(u64::from(first - time));
     }
-    match first_time(offset, value, 0) {
+    match first_at_or_after(offset, value, 0) {
         Some(first) => Some((1 << 32) - u64::from(time) + u64::from(first)),
         None => None,
     }

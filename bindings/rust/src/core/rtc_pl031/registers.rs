@@ -63,7 +63,7 @@ pub enum ClockRegister {
 impl ClockRegister {
     /// The register at `offset`.
     #[inline(always)]
-    pub(super) fn at(offset: u16) -> ClockRegister {
+    pub(super) fn decode(offset: u16) -> ClockRegister {
         match offset {
             RTCDR => ClockRegister::Dr,
             RTCMR => ClockRegister::Mr,

@@ -1,11 +1,11 @@
 -- A step keeps a coherent state coherent.
 use Rattle.std.proofs.Common.{◌≡◌, ℕ, ◌+◌, ◌≤◌, Bool, true, false, not, ◌==◌, ◌&&◌, ◌||◌, List, [], ◌∷◌, ◌++◌, length, drop, refl, ap, sym, ◌∙◌, subst, length-append, length-take, length-drop, arith, if◌then◌else◌, IsTrue}
-use Rattle.superio_core.specs.Serial.Operations.{Asked, Op, Enqueue, is_refused_at_once, OpKind, RbrRead, IirRead, IerWrite, ThrWrite, Arrival, Timeout, Other}
+use Rattle.superio_core.specs.Serial.Operations.{Asked, Op, Enqueue, is_refused_at_once, DecodedOp, RbrRead, IirRead, IerWrite, ThrWrite, RxInput, Timeout, Other}
 use Rattle.superio_core.specs.declared.serial.Asked.TheVariants.{Nothing}
 use Rattle.superio_core.specs.Serial.{State, not_empty, Coherent}
 use Rattle.superio_core.specs.Serial.RegisterMap.{Thre, Rda, identification_of, is_loopback}
 use Rattle.superio_core.specs.Bits.{has_bits, only_bits, without_bits}
-use Rattle.superio_core.specs.Serial.Step.{raise, raise_rda_while_held, rda_becomes_pending, receive_bytes, bytes_that_fit, step, kind_in_state}
+use Rattle.superio_core.specs.Serial.Step.{iir_after_raise, raise_rda_while_held, rda_becomes_pending, receive_bytes, bytes_that_fit, step, decode_in}
 use Rattle.superio_core.proofs.Lemmas.Serial.{data_ready_set, data_ready_cleared}
 use Rattle.superio_core.proofs.Lemmas.Serial.Step.{by_kind, next_by_kind, read_clears, raise_rda, raise_thre, ier_write_raises_rda, ier_write_leaves, timeout_raises}
 
@@ -15,22 +15,22 @@ use Rattle.superio_core.proofs.Lemmas.Serial.Step.{by_kind, next_by_kind, read_c
 abbrev pub rda_asked : (value : ℕ) (held : List ℕ) (rda : Bool) → Bool
 rda_asked value held rda = (has_bits value 0x01 && not_empty held) && not rda
 
-abbrev pub thre_next : OpKind → List ℕ → ℕ → Asked → Bool → Bool → Bool
+abbrev pub thre_next : DecodedOp → List ℕ → ℕ → Asked → Bool → Bool → Bool
 thre_next RbrRead held enable asked thre rda = thre
 thre_next IirRead held enable asked thre rda = false
 thre_next (IerWrite value) held enable asked thre rda =
     (has_bits value 0x02 && not (rda_asked value held rda && is_refused_at_once asked)) || thre
 thre_next (ThrWrite value) held enable asked thre rda = has_bits enable 0x02 || thre
-thre_next (Arrival bytes) held enable asked thre rda = thre
+thre_next (RxInput bytes) held enable asked thre rda = thre
 thre_next Timeout held enable asked thre rda = thre
 thre_next Other held enable asked thre rda = thre
 
-abbrev pub rda_next : OpKind → List ℕ → ℕ → Bool → Bool
+abbrev pub rda_next : DecodedOp → List ℕ → ℕ → Bool → Bool
 rda_next RbrRead held enable rda = false
 rda_next IirRead held enable rda = false
 rda_next (IerWrite value) held enable rda = (has_bits value 0x01 && not_empty held) || rda
 rda_next (ThrWrite value) held enable rda = rda
-rda_next (Arrival bytes) held enable rda = (not_empty (bytes_that_fit held bytes) && has_bits enable 0x01) || rda
+rda_next (RxInput bytes) held enable rda = (not_empty (bytes_that_fit held bytes) && has_bits enable 0x01) || rda
 rda_next Timeout held enable rda = (has_bits enable 0x01 && not_empty held) || rda
 rda_next Other held enable rda = rda
 
@@ -40,20 +40,20 @@ received_pending : (new : List ℕ) (s : State) (thre receive_before : Bool)
     ≡ identification_of thre ((not_empty new && has_bits s.interrupt_enable 0x01) || receive_before)
 received_pending [] s thre before e = e
 received_pending (byte ∷ bytes) s thre before e =
-    ap (raise Rda s.interrupt_enable) e ∙ raise_rda s.interrupt_enable thre before
+    ap (iir_after_raise Rda s.interrupt_enable) e ∙ raise_rda s.interrupt_enable thre before
 
 -- what an IER write leaves of an IIR, if the trigger refuses for RDA or not
 abbrev enabled_if : Bool → List ℕ → ℕ → ℕ → ℕ
 enabled_if refused held_bytes value old =
     let new = raise_rda_while_held held_bytes (only_bits value 0x0F) old in
-    if refused then new else raise Thre (only_bits value 0x0F) new
+    if refused then new else iir_after_raise Thre (only_bits value 0x0F) new
 
 abbrev enabled : List ℕ → ℕ → Asked → ℕ → ℕ
 enabled held_bytes value asked old =
     enabled_if (rda_becomes_pending held_bytes (only_bits value 0x0F) old && is_refused_at_once asked) held_bytes value old
 
 -- from IIR of two conditions to that of the next two
-pub pending_by_kind : (k : OpKind) (asked : Asked) (s : State) (thre rda : Bool)
+pub pending_by_kind : (k : DecodedOp) (asked : Asked) (s : State) (thre rda : Bool)
     → s.interrupt_identification ≡ identification_of thre rda
     → (by_kind k asked s).interrupt_identification
     ≡ identification_of (thre_next k s.in_buffer s.interrupt_enable asked thre rda)
@@ -67,8 +67,8 @@ pending_by_kind (IerWrite value) asked s thre rda e =
     (ier_write_raises_rda s.in_buffer value thre rda)
     ∙ ier_write_leaves (rda_asked value s.in_buffer rda && is_refused_at_once asked) s.in_buffer value thre rda
 pending_by_kind (ThrWrite value) asked s thre rda e =
-    ap (raise Thre s.interrupt_enable) e ∙ raise_thre s.interrupt_enable thre rda
-pending_by_kind (Arrival bytes) asked s thre rda e =
+    ap (iir_after_raise Thre s.interrupt_enable) e ∙ raise_thre s.interrupt_enable thre rda
+pending_by_kind (RxInput bytes) asked s thre rda e =
     received_pending (bytes_that_fit s.in_buffer bytes) s thre rda e
 pending_by_kind Timeout asked s thre rda e =
     ap (raise_rda_while_held s.in_buffer s.interrupt_enable) e ∙ timeout_raises s.in_buffer s.interrupt_enable thre rda
@@ -80,7 +80,7 @@ pub not_empty-append : (old : List ℕ) (byte : ℕ) (bytes : List ℕ) → not_
 not_empty-append [] byte bytes = refl
 not_empty-append (first ∷ old) byte bytes = refl
 
-received_by_kind : (k : OpKind) (asked : Asked) (s : State) (before : Bool)
+received_by_kind : (k : DecodedOp) (asked : Asked) (s : State) (before : Bool)
     → (IsTrue before → IsTrue (not_empty s.in_buffer))
     → IsTrue (rda_next k s.in_buffer s.interrupt_enable before) → IsTrue (not_empty (by_kind k asked s).in_buffer)
 received_by_kind k asked s before kept now = grind arith
@@ -98,10 +98,10 @@ received_shows : (new : List ℕ) (s : State) → has_bits s.line_status 0x01 �
 received_shows [] s shows = shows
 received_shows (byte ∷ bytes) s shows = data_ready_set s.line_status ∙ sym (not_empty-append s.in_buffer byte bytes)
 
-shown_by_kind : (k : OpKind) (asked : Asked) (s : State) → has_bits s.line_status 0x01 ≡ not_empty s.in_buffer
+shown_by_kind : (k : DecodedOp) (asked : Asked) (s : State) → has_bits s.line_status 0x01 ≡ not_empty s.in_buffer
     → has_bits (by_kind k asked s).line_status 0x01 ≡ not_empty (by_kind k asked s).in_buffer
 shown_by_kind RbrRead asked s shows = read_shows s.in_buffer s.line_status shows
-shown_by_kind (Arrival bytes) asked s shows = received_shows (bytes_that_fit s.in_buffer bytes) s shows
+shown_by_kind (RxInput bytes) asked s shows = received_shows (bytes_that_fit s.in_buffer bytes) s shows
 shown_by_kind IirRead asked s shows = shows
 shown_by_kind _ asked s shows = shows
 
@@ -110,16 +110,16 @@ received_length : (new : List ℕ) (s : State) → length (receive_bytes new s).
 received_length [] s = omega arith
 received_length (byte ∷ bytes) s = length-append s.in_buffer (byte ∷ bytes)
 
-few_by_kind : (k : OpKind) (asked : Asked) (s : State) → length s.in_buffer ≤ 64
+few_by_kind : (k : DecodedOp) (asked : Asked) (s : State) → length s.in_buffer ≤ 64
     → length (by_kind k asked s).in_buffer ≤ 64
 few_by_kind RbrRead asked s few = simp length-drop (omega arith)
-few_by_kind (Arrival bytes) asked s few = rw received_length (simp length-take (omega arith))
+few_by_kind (RxInput bytes) asked s few = rw received_length (simp length-take (omega arith))
 few_by_kind IirRead asked s few = few
 few_by_kind _ asked s few = few
 
 pub coherence_law : (s : State) (op : Op) (asked : Asked) → Coherent s → Coherent (step s op asked)
 coherence_law s op asked coherent =
-    let k = kind_in_state s op in
+    let k = decode_in s op in
     let same = next_by_kind s op asked in
     record {
       thre = thre_next k s.in_buffer s.interrupt_enable asked coherent.thre coherent.rda;

@@ -5,18 +5,18 @@ use Rattle.std.proofs.lemmas.Bool.Decides.{nat_tests}
 use Rattle.std.proofs.lemmas.Nat.{and_le_l, and_or_self, and_or_apart}
 use Rattle.std.proofs.lemmas.Nat.Bits.{and_pow, bit_at-lt}
 use Rattle.superio_core.specs.Serial.{Registers, State, not_empty, state_with}
-use Rattle.superio_core.specs.Serial.Operations.{Asked, count_if, is_refused_at_once, is_first_of_two_refused, write_kind}
+use Rattle.superio_core.specs.Serial.Operations.{Asked, count_if, is_refused_at_once, is_first_of_two_refused, decode_write}
 use Rattle.superio_core.specs.declared.serial.Asked.TheVariants.{Nothing, Refused}
 use Rattle.superio_core.specs.Bits.{has_bits, only_bits, with_bits, without_bits}
-use Rattle.superio_core.specs.Serial.RegisterMap.{Register, RbrThr, Ier, Thre, Rda, is_loopback}
-use Rattle.superio_core.specs.Serial.Step.{becomes_pending, lower, rda_becomes_pending, raise_rda_while_held, bytes_that_fit, write_step, arrival_calls, kind_calls}
+use Rattle.superio_core.specs.Serial.RegisterMap.{Register, Data, Ier, Thre, Rda, is_loopback}
+use Rattle.superio_core.specs.Serial.Step.{becomes_pending, iir_after_lower, rda_becomes_pending, raise_rda_while_held, bytes_that_fit, write_step, arrival_calls, decoded_calls}
 use Rattle.superio_core.proofs.Lemmas.{and-without, without-or}
 
 -- ---- IIR
 
 -- if RDA was raised and then THRE, to lower THRE is not to have raised it
 lowered-bits : (identification : ℕ) → let rda = with_bits (without_bits identification 0x01) 0x04 in
-    has_bits rda 0x02 ≡ false → lower Thre (with_bits (without_bits rda 0x01) 0x02) ≡ rda
+    has_bits rda 0x02 ≡ false → iir_after_lower Thre (with_bits (without_bits rda 0x01) 0x02) ≡ rda
 unfolding has_bits with_bits
 lowered-bits identification clear =
     let rda = bit_or (without_bits identification 0x01) 0x04 in
@@ -33,7 +33,7 @@ module _ (identification : ℕ) where
   after_rda = with_bits (without_bits identification 0x01) 0x04
 
   lowered : (pending : Bool) → has_bits after_rda 0x02 ≡ pending → 1 + count_if (not pending) ≡ 2
-      → after_rda ≡ lower Thre (if not pending then with_bits (without_bits after_rda 0x01) 0x02 else after_rda)
+      → after_rda ≡ iir_after_lower Thre (if not pending then with_bits (without_bits after_rda 0x01) 0x02 else after_rda)
   unfolding after_rda
   lowered true is two = absurd (omega arith)
   lowered false is two = sym (lowered-bits identification is)
@@ -48,7 +48,7 @@ ier-lowered : (held rda thre : Bool) (identification : ℕ) →
     let second = thre && not (has_bits first 0x02) in
     let both = if second then with_bits (without_bits first 0x01) 0x02 else first in
     count_if (held && rda) + count_if second ≡ 2
-    → (if (held && rda) && true then first else both) ≡ lower Thre (if (held && rda) && false then first else both)
+    → (if (held && rda) && true then first else both) ≡ iir_after_lower Thre (if (held && rda) && false then first else both)
 unfolding after_rda
 ier-lowered true true true identification two = lowered identification _ refl two
 ier-lowered true true false identification two = absurd (omega arith)
@@ -69,18 +69,18 @@ unrefused false thre refused first both not_two = refl
 
 -- THRE is lowered
 abbrev without_thre : (s : State) → State
-without_thre s = record s { interrupt_identification = lower Thre s.interrupt_identification }
+without_thre s = record s { interrupt_identification = iir_after_lower Thre s.interrupt_identification }
 
 arrival_calls-few : (bytes : List ℕ) (s : State) → arrival_calls bytes s ≤ 1
 arrival_calls-few [] s = omega arith
 arrival_calls-few (byte ∷ bytes) s = count_if-few (becomes_pending Rda s.interrupt_enable s.interrupt_identification)
 
-thr_write-calls : (loopback : Bool) (value : ℕ) (s : State) → kind_calls (write_kind RbrThr loopback value) s ≤ 1
+thr_write-calls : (loopback : Bool) (value : ℕ) (s : State) → decoded_calls (decode_write Data loopback value) s ≤ 1
 thr_write-calls true value s = arrival_calls-few (bytes_that_fit s.in_buffer (value ∷ [])) s
 thr_write-calls false value s = count_if-few (becomes_pending Thre s.interrupt_enable s.interrupt_identification)
 
 write_step-unrefused : (register : Register) (value : ℕ) (asked : Asked) (s : State)
-    → is_first_of_two_refused (kind_calls (write_kind register (is_loopback s.modem_control) value) s) asked ≡ false
+    → is_first_of_two_refused (decoded_calls (decode_write register (is_loopback s.modem_control) value) s) asked ≡ false
     → write_step register value asked s ≡ write_step register value Nothing s
 write_step-unrefused Ier value asked s not_two =
     let enable = only_bits value 0x0F in
@@ -91,14 +91,14 @@ write_step-unrefused Ier value asked s not_two =
 write_step-unrefused _ value asked s not_two = refl
 
 write_step-refused : (register : Register) (value : ℕ) (s : State)
-    → kind_calls (write_kind register (is_loopback s.modem_control) value) s ≡ 2
+    → decoded_calls (decode_write register (is_loopback s.modem_control) value) s ≡ 2
     → write_step register value Refused s ≡ without_thre (write_step register value Nothing s)
 write_step-refused Ier value s two =
     let enable = only_bits value 0x0F in
     ap (λ n. record s { interrupt_enable = enable; interrupt_identification = n })
     (ier-lowered (not_empty s.in_buffer) (becomes_pending Rda enable s.interrupt_identification) (has_bits enable 0x02)
     s.interrupt_identification two)
-write_step-refused RbrThr value s two =
+write_step-refused Data value s two =
     absurd (omega (arith, thr_write-calls (is_loopback s.modem_control) value s))
 write_step-refused _ value s two = absurd (omega arith)
 
@@ -110,10 +110,10 @@ is_refused _ is = absurd (false≢true is)
 pub write_step-settled :
     (register : Register) (value due : ℕ) (asked : Asked) (before : State) (registers : Registers) (bytes : List ℕ)
     (refused : Bool) → is_first_of_two_refused due asked ≡ refused
-    → due ≡ kind_calls (write_kind register (is_loopback before.modem_control) value) before
+    → due ≡ decoded_calls (decode_write register (is_loopback before.modem_control) value) before
     → state_with registers bytes ≡ write_step register value Nothing before
     → state_with (record registers {
-      interrupt_identification = if refused then lower Thre registers.interrupt_identification else registers.interrupt_identification;
+      interrupt_identification = if refused then iir_after_lower Thre registers.interrupt_identification else registers.interrupt_identification;
     }) bytes ≡ write_step register value asked before
 write_step-settled register value due asked before registers bytes true refused is state =
     let parts = and_parts (due == 2) (is_refused_at_once asked) refused in

@@ -2,23 +2,23 @@
 use Rattle.std.proofs.Common.{arith, ◌≡◌, ℕ, Bool, true, false, List, refl, ◌+◌, not, ◌==◌, ◌&&◌, ◌||◌, ap, ◌∙◌, length, if◌then◌else◌, IsTrue}
 use Rattle.std.proofs.lemmas.Bool.{false≢true}
 use Rattle.std.proofs.lemmas.Nat.{and_or_self}
-use Rattle.superio_core.specs.Serial.Operations.{Asked, Op, Read, Write, Enqueue, CharacterTimeout, Restore, OpKind, RbrRead, IirRead, IerWrite, ThrWrite, Arrival, Timeout, Other, read_kind, write_kind, kind_of, is_refused_at_once, count_if, answer_count}
-use Rattle.superio_core.specs.Serial.{State, not_empty, is_asserted, is_line_up, restore_calls, ShowsHeldBytes}
+use Rattle.superio_core.specs.Serial.Operations.{Asked, Op, Read, Write, Enqueue, CharacterTimeout, Restore, DecodedOp, RbrRead, IirRead, IerWrite, ThrWrite, RxInput, Timeout, Other, decode_read, decode_write, decode, is_refused_at_once, count_if, answer_count}
+use Rattle.superio_core.specs.Serial.{State, not_empty, is_asserted, irq_level, conditions_due, RdaCoversHeldBytes}
 use Rattle.superio_core.specs.Bits.{only_bits, has_bits, with_bits, without_bits}
-use Rattle.superio_core.specs.Serial.RegisterMap.{Register, RbrThr, Ier, register_at, is_dlab, is_loopback, Thre, Rda, identification_of, pending_in_order}
-use Rattle.superio_core.specs.Serial.Step.{raise, enqueued_bytes, receive_bytes, bytes_that_fit, becomes_pending, rda_becomes_pending, raise_rda_while_held, kind_in_state, step, rbr_read, ier_write, read_step, write_step, character_timeout, answers_all}
+use Rattle.superio_core.specs.Serial.RegisterMap.{Register, Data, Ier, register_at, is_dlab, is_loopback, Thre, Rda, identification_of, pending_in_order}
+use Rattle.superio_core.specs.Serial.Step.{iir_after_raise, enqueued_bytes, receive_bytes, bytes_that_fit, becomes_pending, rda_becomes_pending, raise_rda_while_held, decode_in, step, rbr_read, ier_write, read_step, write_step, character_timeout, answers_all}
 use Rattle.superio_core.proofs.Lemmas.Serial.{enables_rda, enables_thre}
 
 -- ---- the state
 
 -- what an operation of this kind leaves of IER, IIR, LSR and the bytes
-abbrev pub by_kind : OpKind → Asked → State → State
+abbrev pub by_kind : DecodedOp → Asked → State → State
 by_kind RbrRead asked s = rbr_read s
 by_kind IirRead asked s = record s { interrupt_identification = 1 }
 by_kind (IerWrite value) asked s = ier_write (only_bits value 0x0F) asked s
 by_kind (ThrWrite value) asked s =
-    record s { interrupt_identification = raise Thre s.interrupt_enable s.interrupt_identification }
-by_kind (Arrival bytes) asked s = receive_bytes (bytes_that_fit s.in_buffer bytes) s
+    record s { interrupt_identification = iir_after_raise Thre s.interrupt_enable s.interrupt_identification }
+by_kind (RxInput bytes) asked s = receive_bytes (bytes_that_fit s.in_buffer bytes) s
 by_kind Timeout asked s = character_timeout s
 by_kind Other asked s = s
 
@@ -31,26 +31,26 @@ pub record SameBytes (one other : State) : Type 0 where
 same_bytes : (s : State) → SameBytes s s
 same_bytes s = record { interrupt_enable = refl; interrupt_identification = refl; line_status = refl; in_buffer = refl }
 
-read_by_kind : (r : Register) (asked : Asked) (s : State) → SameBytes (read_step r s) (by_kind (read_kind r) asked s)
+read_by_kind : (r : Register) (asked : Asked) (s : State) → SameBytes (read_step r s) (by_kind (decode_read r) asked s)
 read_by_kind r asked s = grind arith
 
 write_by_kind : (r : Register) (loopback : Bool) (value : ℕ) (asked : Asked) (s : State)
     → is_loopback s.modem_control ≡ loopback
-    → SameBytes (write_step r value asked s) (by_kind (write_kind r loopback value) asked s)
-write_by_kind RbrThr true value asked s e = rw e (same_bytes _)
-write_by_kind RbrThr false value asked s e = rw e (same_bytes _)
+    → SameBytes (write_step r value asked s) (by_kind (decode_write r loopback value) asked s)
+write_by_kind Data true value asked s e = rw e (same_bytes _)
+write_by_kind Data false value asked s e = rw e (same_bytes _)
 write_by_kind Ier loopback value asked s e = same_bytes _
 write_by_kind _ loopback value asked s e =
     record { interrupt_enable = refl; interrupt_identification = refl; line_status = refl; in_buffer = refl }
 
 enqueue_by_kind : (loopback dlab : Bool) (bytes : List ℕ) (asked : Asked) (s : State)
     → is_loopback s.modem_control ≡ loopback
-    → SameBytes (receive_bytes (enqueued_bytes s bytes) s) (by_kind (kind_of dlab loopback (Enqueue bytes)) asked s)
+    → SameBytes (receive_bytes (enqueued_bytes s bytes) s) (by_kind (decode dlab loopback (Enqueue bytes)) asked s)
 enqueue_by_kind true dlab bytes asked s e = rw e (same_bytes _)
 enqueue_by_kind false dlab bytes asked s e = rw e (same_bytes _)
 
 pub next_by_kind : (s : State) (op : Op) (asked : Asked)
-    → SameBytes (step s op asked) (by_kind (kind_in_state s op) asked s)
+    → SameBytes (step s op asked) (by_kind (decode_in s op) asked s)
 next_by_kind s (Read offset) asked = read_by_kind (register_at (is_dlab s.line_control) offset) asked s
 next_by_kind s (Write offset value) asked =
     write_by_kind (register_at (is_dlab s.line_control) offset) (is_loopback s.modem_control) value asked s refl
@@ -96,12 +96,12 @@ unfolding has_bits only_bits with_bits
 raised_thre enabled thre rda = grind arith
 
 pub raise_rda : (enable : ℕ) (thre rda : Bool)
-    → raise Rda enable (identification_of thre rda)
+    → iir_after_raise Rda enable (identification_of thre rda)
     ≡ identification_of thre (has_bits enable 0x01 || rda)
 raise_rda enable thre rda = raised_rda (has_bits enable 0x01) thre rda
 
 pub raise_thre : (enable : ℕ) (thre rda : Bool)
-    → raise Thre enable (identification_of thre rda)
+    → iir_after_raise Thre enable (identification_of thre rda)
     ≡ identification_of (has_bits enable 0x02 || thre) rda
 raise_thre enable thre rda = raised_thre (has_bits enable 0x02) thre rda
 
@@ -162,12 +162,12 @@ refused_or_asked refused enabled thre rda = grind arith
 -- IIR afterwards, whether or not the trigger refused for RDA
 pub ier_write_leaves : (refused : Bool) (held : List ℕ) (value : ℕ) (thre rda : Bool)
     → (let identification = raise_rda_while_held held (only_bits value 0x0F) (identification_of thre rda) in
-    if refused then identification else raise Thre (only_bits value 0x0F) identification)
+    if refused then identification else iir_after_raise Thre (only_bits value 0x0F) identification)
     ≡ identification_of ((has_bits value 0x02 && not refused) || thre)
     ((has_bits value 0x01 && not_empty held) || rda)
 ier_write_leaves refused held value thre rda =
     let after = (has_bits value 0x01 && not_empty held) || rda in
-    ap (λ identification. if refused then identification else raise Thre (only_bits value 0x0F) identification)
+    ap (λ identification. if refused then identification else iir_after_raise Thre (only_bits value 0x0F) identification)
     (ier_write_raises held value thre rda)
     ∙ ap (λ asked. if refused then identification_of thre after else asked)
     (raise_thre (only_bits value 0x0F) thre after
@@ -196,7 +196,7 @@ answers_counted first second asked = grind arith
 pub one_or_both : (thre rda : Bool) → (thre || rda) ≡ not (length (pending_in_order thre rda) == 0)
 one_or_both thre rda = grind arith
 
-pub up_while_due : (s : State) → is_line_up s ≡ not (length (restore_calls s) == 0)
+pub up_while_due : (s : State) → irq_level s ≡ not (length (conditions_due s) == 0)
 up_while_due s = one_or_both (is_asserted Thre s) (is_asserted Rda s)
 
 -- ---- after a character timeout IIR shows RDA if bytes are held and IER enables it, whatever IIR was
@@ -213,11 +213,11 @@ rda_asked old true false e = rda_sets old
 rda_asked old false pending e = e
 
 timeout_shows : (held : Bool) (enable old : ℕ) → IsTrue held → IsTrue (has_bits enable 0x01)
-    → IsTrue (has_bits (if held then raise Rda enable old else old) 0x04)
+    → IsTrue (has_bits (if held then iir_after_raise Rda enable old else old) 0x04)
 timeout_shows true enable old some enabled =
     rda_asked old (has_bits enable 0x01) (has_bits old 0x04) refl ∙ ap (λ bit. bit || has_bits old 0x04) enabled
 timeout_shows false enable old some enabled = absurd (false≢true some)
 
-pub shows_held_bytes : (s : State) (asked : Asked) → ShowsHeldBytes (step s CharacterTimeout asked)
+pub shows_held_bytes : (s : State) (asked : Asked) → RdaCoversHeldBytes (step s CharacterTimeout asked)
 shows_held_bytes s asked some enabled =
     timeout_shows (not_empty s.in_buffer) s.interrupt_enable s.interrupt_identification some enabled

@@ -1,6 +1,6 @@
 -- What was sent, then what is to come, is what was sent at first, then the input. Between pieces nothing is held.
 use Rattle.std.specs.Prelude.{◌≡◌, ◌++◌, [], length}
-use Rattle.superio_core.specs.Serial.{CoherentPort, state_of_port}
+use Rattle.superio_core.specs.Serial.{CoherentUart, state_of_uart}
 use Rattle.superio_examples.specs.Echo.{IsOpen, held, pending}
 use Rattle.superio_examples.proofs.echo.echo_input.Given as goal
 
@@ -9,8 +9,8 @@ invariant-loop-most l = record {
   in_order : l.output.items ++ l.rest ≡ l.fn.output.items ++ l.fn.input;
   none_held : held l.port ≡ [];
   idle : pending l.port ≡ 0x01;
-  opened : IsOpen (state_of_port l.port);
-  coherent : CoherentPort l.port;
+  opened : IsOpen (state_of_uart l.port);
+  coherent : CoherentUart l.port;
 }
 
 abbrev pub invariant-loop-rest : goal.invariant-loop-rest
@@ -18,8 +18,8 @@ invariant-loop-rest l = record {
   in_order : l.output.items ++ l.rest ≡ l.fn.output.items ++ l.fn.input;
   none_held : held l.port ≡ [];
   idle : pending l.port ≡ 0x01;
-  opened : IsOpen (state_of_port l.port);
-  coherent : CoherentPort l.port;
+  opened : IsOpen (state_of_uart l.port);
+  coherent : CoherentUart l.port;
 }
 
 abbrev pub decreases-loop-rest : goal.decreases-loop-rest

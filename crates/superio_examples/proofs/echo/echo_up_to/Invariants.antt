@@ -1,6 +1,6 @@
 -- What was sent, then what is held, are the bytes that were there, in order. A byte was taken if the loop has begun.
 use Rattle.std.specs.Prelude.{◌≡◌, ◌<◌, ◌++◌, length}
-use Rattle.superio_core.specs.Serial.{CoherentPort, state_of_port}
+use Rattle.superio_core.specs.Serial.{CoherentUart, state_of_uart}
 use Rattle.superio_examples.specs.Echo.{IsOpen, held, pending}
 use Rattle.superio_examples.proofs.echo.echo_up_to.Given as goal
 
@@ -9,7 +9,7 @@ invariant-loop l = record {
   in_order : l.output.items ++ held l.port ≡ l.fn.output.items ++ held l.fn.port;
   none_yet : l.counter ≡ 0 → length (held l.port) ≡ length (held l.fn.port);
   fewer : 0 < l.counter → length (held l.port) < length (held l.fn.port);
-  opened : IsOpen (state_of_port l.port);
+  opened : IsOpen (state_of_uart l.port);
   idle : pending l.port ≡ 0x01;
-  coherent : CoherentPort l.port;
+  coherent : CoherentUart l.port;
 }

@@ -1,6 +1,6 @@
 -- Before its only turn nothing is done; after it a byte is taken, and nothing is pending.
 use Rattle.std.specs.Prelude.{◌≡◌, ◌<◌, ◌++◌, length, ◌⊎◌}
-use Rattle.superio_core.specs.Serial.{CoherentPort, state_of_port}
+use Rattle.superio_core.specs.Serial.{CoherentUart, state_of_uart}
 use Rattle.superio_examples.specs.Echo.{IsOpen, held, pending}
 use Rattle.superio_examples.proofs.echo.run_handler.Given as goal
 
@@ -10,8 +10,8 @@ invariant-loop-port l = record {
   turn :
       ((pending l.port ≡ 0x04) × (held l.port ≡ held l.fn.port))
       ⊎ ((pending l.port ≡ 0x01) × (length (held l.port) < length (held l.fn.port)));
-  opened : IsOpen (state_of_port l.port);
-  coherent : CoherentPort l.port;
+  opened : IsOpen (state_of_uart l.port);
+  coherent : CoherentUart l.port;
 }
 
 abbrev pub decreases-loop-port : goal.decreases-loop-port

@@ -1,10 +1,10 @@
 -- Worked examples of a console: runs as its laws assume them, a driver that stalls, and a trigger that refuses.
 use Rattle.std.proofs.Common.{◌≡◌, ℕ, Bool, true, false, not, ◌==◌, ◌&&◌, ◌||◌, if◌then◌else◌, nat_le, inl, inr, [], ◌∷◌, ◌++◌, length, refl, sym, subst, arith, IsTrue, ◌⊎◌}
 use Rattle.std.proofs.lemmas.Bool.{and_parts, false≢true}
-use Rattle.superio_laws.specs.Serial.{Asked, is_refused_at_once, Sent, State, fresh_state, Op, Read, Write, Enqueue, Trace, TraceEntry, OpKind, IirRead, is_iir_read, is_rbr_read, Rda, Thre, has_bits, only_bits, with_bits}
-use Rattle.superio_laws.specs.Serial.History.{NoneAcknowledges, interrupt_enable, kind_at, raises_thre, is_call_due, is_raised, is_pending, trigger_calls, restore_calls_due, guest_read}
+use Rattle.superio_laws.specs.Serial.{Asked, is_refused_at_once, Sent, State, fresh_state, Op, Read, Write, Enqueue, Trace, TraceEntry, DecodedOp, IirRead, is_iir_read, is_rbr_read, Rda, Thre, has_bits, only_bits, with_bits}
+use Rattle.superio_laws.specs.Serial.History.{NoneAcknowledges, ier_after, decode_at, raises_thre, is_call_due, is_raised, is_pending, trigger_calls, conditions_due_after, guest_read}
 use Rattle.superio_laws.specs.Serial.Laws.Line.{timeout_entry}
-use Rattle.superio_laws.specs.Serial.Laws.Console.{Driver, sent, left, has_to_send, EnablesThre, SendsEnabled, AsksWhenGiven, SentInOrder, ShowsNone, IsHandlerRun, IsConsoleRun, TimeoutAfterNone, IsAskedFor, AskedToTakeLaw, AskedToSendLaw, after_runs, free_runs}
+use Rattle.superio_laws.specs.Serial.Laws.Console.{Driver, sent, left, has_to_send, EnablesThre, SendsEnabled, AsksWhenGiven, SentInOrder, ShowsNone, IsHandlerRun, IsConsoleRun, TimeoutAfterNone, IsAskedFor, InterruptToReadLaw, InterruptToSendLaw, after_runs, free_runs}
 
 -- ---- what holds at each place of some entries, as a test
 
@@ -30,21 +30,21 @@ each_place check (first ∷ newest) all (y ∷ later) earlier entry place =
 not_true : (b : Bool) → IsTrue (not b) → b ≡ false
 not_true b e = grind arith
 
-none_by : (start : State) (reads : OpKind → Bool) (newest before : Trace)
-    → IsTrue (all_places (λ earlier entry. not (reads (kind_at start (earlier ++ before) entry.op))) newest)
+none_by : (start : State) (reads : DecodedOp → Bool) (newest before : Trace)
+    → IsTrue (all_places (λ earlier entry. not (reads (decode_at start (earlier ++ before) entry.op))) newest)
     → NoneAcknowledges start reads newest before
 none_by start reads newest before all later earlier entry place =
-    not_true (reads (kind_at start (earlier ++ before) entry.op))
-    (each_place (λ earlier entry. not (reads (kind_at start (earlier ++ before) entry.op))) newest all later earlier entry place)
+    not_true (reads (decode_at start (earlier ++ before) entry.op))
+    (each_place (λ earlier entry. not (reads (decode_at start (earlier ++ before) entry.op))) newest all later earlier entry place)
 
-raised_by : (start : State) (before : Trace) (entry : TraceEntry) (kind : OpKind) → kind_at start before entry.op ≡ kind
-    → IsTrue (raises_thre kind (interrupt_enable start before) (is_call_due Rda start before entry && is_refused_at_once entry.asked))
+raised_by : (start : State) (before : Trace) (entry : TraceEntry) (kind : DecodedOp) → decode_at start before entry.op ≡ kind
+    → IsTrue (raises_thre kind (ier_after start before) (is_call_due Rda start before entry && is_refused_at_once entry.asked))
     → EnablesThre start before entry ⊎ SendsEnabled start before entry
-raised_by start before entry (OpKind.IerWrite value) is raised =
+raised_by start before entry (DecodedOp.IerWrite value) is raised =
     let refused = is_call_due Rda start before entry && is_refused_at_once entry.asked in
     let both = and_parts (has_bits value 0x02) (not refused) raised in
     inl (value, is, both.0, not_true refused both.1)
-raised_by start before entry (OpKind.ThrWrite value) is raised = inr (value, is, raised)
+raised_by start before entry (DecodedOp.ThrWrite value) is raised = inr (value, is, raised)
 raised_by start before entry _ is raised = absurd (false≢true raised)
 
 either : (start : State) (earlier : Trace) (entry : TraceEntry) (now before raised : Bool)
@@ -69,10 +69,10 @@ asks_by driver start before newest all later earlier entry place has =
 -- an entry that reads no IIR that shows nothing pending
 abbrev shows_some : (start : State) (before earlier : Trace) (entry : TraceEntry) → Bool
 shows_some start before earlier entry =
-    not (is_iir_read (kind_at start (earlier ++ before) entry.op)) || is_pending Thre start (earlier ++ before)
+    not (is_iir_read (decode_at start (earlier ++ before) entry.op)) || is_pending Thre start (earlier ++ before)
     || is_pending Rda start (earlier ++ before)
 
-shown : (kind : OpKind) (thre rda : Bool) → kind ≡ IirRead → thre ≡ false → rda ≡ false → IsTrue (not (is_iir_read kind) || thre || rda) → ⊥
+shown : (kind : DecodedOp) (thre rda : Bool) → kind ≡ IirRead → thre ≡ false → rda ≡ false → IsTrue (not (is_iir_read kind) || thre || rda) → ⊥
 shown kind thre rda reads no_thre no_rda some = grind arith
 
 no_none_by : (start : State) (before newest : Trace) → IsTrue (all_places (shows_some start before) newest)
@@ -84,8 +84,8 @@ rule_by : (start : State) (before others : Trace) (read : TraceEntry) (asked : A
     → TimeoutAfterNone start before (timeout_entry asked ∷ read ∷ others)
 rule_by start before others read asked all [] earlier entry place reads none =
     let same : timeout_entry asked ≡ entry = cc in
-    absurd (never (subst (λ (entry : TraceEntry). kind_at start (earlier ++ before) entry.op ≡ IirRead) (sym same) reads)) where
-      never : OpKind.Timeout ≡ IirRead → ⊥
+    absurd (never (subst (λ (entry : TraceEntry). decode_at start (earlier ++ before) entry.op ≡ IirRead) (sym same) reads)) where
+      never : DecodedOp.Timeout ≡ IirRead → ⊥
       never e = cc
 rule_by start before others read asked all (x ∷ []) earlier entry place reads none = ([], asked, cc)
 rule_by start before others read asked all (x ∷ y ∷ after) earlier entry place reads none =
@@ -245,7 +245,7 @@ reads_iir_once = record {
 }
 
 -- it has a byte left in each direction, and both are asked for
-is_asked_for_both : AskedToTakeLaw → AskedToSendLaw → IsAskedFor Rda fresh_state begun plain_run × IsAskedFor Thre fresh_state begun plain_run
+is_asked_for_both : InterruptToReadLaw → InterruptToSendLaw → IsAskedFor Rda fresh_state begun plain_run × IsAskedFor Thre fresh_state begun plain_run
 unfolding has_bits only_bits with_bits
 is_asked_for_both takes sends = (
   takes plain fresh_state begun plain_run reads_iir_once (no_none_by fresh_state begun plain_run refl) refl refl,
@@ -263,7 +263,7 @@ stalls :
     (guest_read fresh_state (thr 0x41 Asked.Took ∷ iir ∷ ier 0x03 Asked.Took ∷ []) 2 ≡ 0xC2)
     × (has_to_send plain fresh_state stalled ≡ true)
     × ShowsNone fresh_state (timeout_entry Asked.Nothing ∷ stalled)
-    × (restore_calls_due fresh_state stalled ≡ [])
+    × (conditions_due_after fresh_state stalled ≡ [])
 unfolding has_bits only_bits with_bits
 stalls = (refl, refl, (refl, refl), refl)
 
@@ -278,6 +278,6 @@ only_a_retry_asks :
     (is_pending Thre fresh_state refused ≡ false)
     × (trigger_calls fresh_state refused (timeout_entry Asked.Nothing) ≡ 0)
     × (trigger_calls fresh_state refused (arrives 0x62 Asked.Nothing) ≡ 0)
-    × (restore_calls_due fresh_state refused ≡ Rda ∷ [])
+    × (conditions_due_after fresh_state refused ≡ Rda ∷ [])
 unfolding has_bits only_bits with_bits
 only_a_retry_asks = (refl, refl, refl, refl)

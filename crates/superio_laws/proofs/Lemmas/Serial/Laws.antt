@@ -10,11 +10,11 @@ pub mod Transmit
 use Rattle.std.proofs.Common.{rules, ◌≡◌, ℕ, Bool, List, [], ◌∷◌, Option, None, refl, ap, sym, ◌∙◌, arith, subst, ◌++◌, length, drop, append_assoc, append-nil, length-append, if◌then◌else◌, unwrap_or}
 use Rattle.std.specs.Option.{option_map_or}
 use Rattle.std.proofs.Math.Seq.{drop-append-add}
-use Rattle.superio_laws.specs.Serial.{Asked, Op, TraceEntry, OpKind, kind_of, State, not_empty, only_bits, has_bits, is_dlab, is_loopback, step, kind_in_state}
-use Rattle.superio_laws.specs.Serial.History.{state_of_history, with_data_ready, line_status, value_written_at, last_found, dlab, kind_at, accepted_by, taken_by, remaining_bytes, accepted_bytes, taken_bytes, held_bytes}
+use Rattle.superio_laws.specs.Serial.{Asked, Op, TraceEntry, DecodedOp, decode, State, not_empty, only_bits, has_bits, is_dlab, is_loopback, step, decode_in}
+use Rattle.superio_laws.specs.Serial.History.{state_of_history, with_data_ready, lsr_after, value_written_at, last_found, dlab_after, decode_at, accepted_by, read_out_by, remaining_bytes, accepted_bytes, read_out_bytes, held_bytes}
 use Rattle.superio_laws.specs.Serial.Laws.{RegisterLaw, state_after, HeldBytesLaw, LineStatusLaw}
 use Rattle.superio_core.proofs.Lemmas.Serial.Step.{SameBytes, by_kind, next_by_kind}
-use Rattle.superio_laws.specs.Serial.Laws.Consequences.{TakenThenHeldLaw}
+use Rattle.superio_laws.specs.Serial.Laws.Consequences.{ReadOutThenHeldLaw}
 use Rattle.superio_laws.proofs.Lemmas.{data_ready_right, data_ready_twice}
 use Rattle.superio_laws.proofs.Lemmas.Serial.Laws.OneCall.{taken_first, left_by_kind}
 
@@ -61,7 +61,7 @@ register_law start [] = search rules
 register_law start (entry ∷ trace) =
     let before = register_law start trace in
     let step = call_done (state_after start trace) entry.op entry.asked in
-    let same : is_dlab (state_after start trace).line_control ≡ dlab start trace = ap is_dlab before.line_control in
+    let same : is_dlab (state_after start trace).line_control ≡ dlab_after start trace = ap is_dlab before.line_control in
     record {
       divisor_low = more _ entry trace _ _ _ before.divisor_low (rw same at step.divisor_low);
       divisor_high = more _ entry trace _ _ _ before.divisor_high (rw same at step.divisor_high);
@@ -104,58 +104,58 @@ state_of_history-by_state start trace identification line_status bytes =
 
 -- the state after a trace tells what an operation is at that point
 pub same_kind : (start : State) (trace : List TraceEntry) (op : Op)
-    → kind_in_state (state_after start trace) op ≡ kind_at start trace op
+    → decode_in (state_after start trace) op ≡ decode_at start trace op
 same_kind start trace op =
     let s = state_after start trace in
     let registers = register_law start trace in
-    ap (λ byte. kind_of (is_dlab byte) (is_loopback s.modem_control) op) registers.line_control
-    ∙ ap (λ byte. kind_of (dlab start trace) (is_loopback byte) op) registers.modem_control
+    ap (λ byte. decode (is_dlab byte) (is_loopback s.modem_control) op) registers.line_control
+    ∙ ap (λ byte. decode (dlab_after start trace) (is_loopback byte) op) registers.modem_control
 
 -- so the state after one more entry is that by its kind there
 pub next_at_point : (start : State) (trace : List TraceEntry) (entry : TraceEntry)
     → SameBytes (state_after start (entry ∷ trace))
-    (by_kind (kind_at start trace entry.op) entry.asked (state_after start trace))
+    (by_kind (decode_at start trace entry.op) entry.asked (state_after start trace))
 next_at_point start trace entry =
     let s = state_after start trace in
-    subst (λ (k : OpKind). SameBytes (step s entry.op entry.asked) (by_kind k entry.asked s))
+    subst (λ (k : DecodedOp). SameBytes (step s entry.op entry.asked) (by_kind k entry.asked s))
     (same_kind start trace entry.op)
     (next_by_kind s entry.op entry.asked)
 
 -- ---- the held-bytes law: no byte is lost or made up, and data ready says whether one is held
 
 -- what is left of all bytes and the new ones, after those taken and then some more
-drop_more : (all taken_bytes remaining_bytes more new : List ℕ) → taken_bytes ++ remaining_bytes ≡ all
-    → drop (length (taken_bytes ++ more)) (all ++ new) ≡ drop (length more) (remaining_bytes ++ new)
-drop_more all taken_bytes remaining_bytes more new parts =
-    ap (λ bytes. drop (length (taken_bytes ++ more)) (bytes ++ new)) (sym parts)
-    ∙ ap (drop (length (taken_bytes ++ more))) (append_assoc taken_bytes remaining_bytes new)
-    ∙ ap (λ n. drop n (taken_bytes ++ (remaining_bytes ++ new))) (length-append taken_bytes more)
-    ∙ drop-append-add taken_bytes (remaining_bytes ++ new) (length more)
+drop_more : (all read_out_bytes remaining_bytes more new : List ℕ) → read_out_bytes ++ remaining_bytes ≡ all
+    → drop (length (read_out_bytes ++ more)) (all ++ new) ≡ drop (length more) (remaining_bytes ++ new)
+drop_more all read_out_bytes remaining_bytes more new parts =
+    ap (λ bytes. drop (length (read_out_bytes ++ more)) (bytes ++ new)) (sym parts)
+    ∙ ap (drop (length (read_out_bytes ++ more))) (append_assoc read_out_bytes remaining_bytes new)
+    ∙ ap (λ n. drop n (read_out_bytes ++ (remaining_bytes ++ new))) (length-append read_out_bytes more)
+    ∙ drop-append-add read_out_bytes (remaining_bytes ++ new) (length more)
 
 -- the held bytes after one more entry, if those taken and those held are all bytes
 pub held_more : (start : State) (trace : List TraceEntry) (entry : TraceEntry)
-    → taken_bytes start trace ++ held_bytes start trace ≡ start.in_buffer ++ accepted_bytes start trace
-    → let k = kind_at start trace entry.op in
+    → read_out_bytes start trace ++ held_bytes start trace ≡ start.in_buffer ++ accepted_bytes start trace
+    → let k = decode_at start trace entry.op in
     held_bytes start (entry ∷ trace)
-    ≡ drop (length (taken_by k (held_bytes start trace))) (held_bytes start trace ++ accepted_by k (held_bytes start trace))
+    ≡ drop (length (read_out_by k (held_bytes start trace))) (held_bytes start trace ++ accepted_by k (held_bytes start trace))
 held_more start trace entry parts =
-    let k = kind_at start trace entry.op in
+    let k = decode_at start trace entry.op in
     let bytes = held_bytes start trace in
-    ap (drop (length (taken_bytes start (entry ∷ trace))))
+    ap (drop (length (read_out_bytes start (entry ∷ trace))))
     (sym (append_assoc start.in_buffer (accepted_bytes start trace) (accepted_by k bytes)))
-    ∙ drop_more (start.in_buffer ++ accepted_bytes start trace) (taken_bytes start trace) bytes (taken_by k bytes)
+    ∙ drop_more (start.in_buffer ++ accepted_bytes start trace) (read_out_bytes start trace) bytes (read_out_by k bytes)
     (accepted_by k bytes) parts
 
-pub taken_then_held : TakenThenHeldLaw
-taken_then_held start [] = refl
-taken_then_held start (entry ∷ trace) =
-    let before = taken_then_held start trace in
-    let k = kind_at start trace entry.op in
+pub read_out_then_held : ReadOutThenHeldLaw
+read_out_then_held start [] = refl
+read_out_then_held start (entry ∷ trace) =
+    let before = read_out_then_held start trace in
+    let k = decode_at start trace entry.op in
     let bytes = held_bytes start trace in
-    ap (λ rest. taken_bytes start (entry ∷ trace) ++ rest) (held_more start trace entry before)
-    ∙ append_assoc (taken_bytes start trace) (taken_by k bytes) _
-    ∙ ap (λ rest. taken_bytes start trace ++ rest) (taken_first k bytes (accepted_by k bytes))
-    ∙ sym (append_assoc (taken_bytes start trace) bytes (accepted_by k bytes))
+    ap (λ rest. read_out_bytes start (entry ∷ trace) ++ rest) (held_more start trace entry before)
+    ∙ append_assoc (read_out_bytes start trace) (read_out_by k bytes) _
+    ∙ ap (λ rest. read_out_bytes start trace ++ rest) (taken_first k bytes (accepted_by k bytes))
+    ∙ sym (append_assoc (read_out_bytes start trace) bytes (accepted_by k bytes))
     ∙ ap (λ all. all ++ accepted_by k bytes) before
     ∙ append_assoc start.in_buffer (accepted_bytes start trace) (accepted_by k bytes)
 
@@ -163,11 +163,11 @@ pub held_bytes_law : HeldBytesLaw
 held_bytes_law start [] = sym (append-nil start.in_buffer)
 held_bytes_law start (entry ∷ trace) =
     let s = state_after start trace in
-    let k = kind_at start trace entry.op in
+    let k = decode_at start trace entry.op in
     (next_at_point start trace entry).in_buffer
     ∙ left_by_kind k entry.asked s
-    ∙ ap (λ bytes. drop (length (taken_by k bytes)) (bytes ++ accepted_by k bytes)) (held_bytes_law start trace)
-    ∙ sym (held_more start trace entry (taken_then_held start trace))
+    ∙ ap (λ bytes. drop (length (read_out_by k bytes)) (bytes ++ accepted_by k bytes)) (held_bytes_law start trace)
+    ∙ sym (held_more start trace entry (read_out_then_held start trace))
 
 -- ---- data ready
 

@@ -2,7 +2,7 @@
 -- is kept along a trace: each definition searches the start and the trace. Restores change nothing.
 use Rattle.std.specs.Prelude.{◌≡◌, ℕ, ◌-◌, Bool, ◌==◌, if◌then◌else◌, List, [], ◌∷◌, ◌++◌, length, take, drop, Option, Some, None, unwrap_or}
 use Rattle.std.specs.Option.{option_or, option_map_or}
-use Rattle.superio_laws.specs.Serial.{only_bits, ier_bits, State, is_dlab, is_loopback, Op, Write, Trace, OpKind, RbrRead, Arrival, kind_of}
+use Rattle.superio_laws.specs.Serial.{only_bits, ier_bits, State, is_dlab, is_loopback, Op, Write, Trace, DecodedOp, RbrRead, RxInput, decode}
 
 -- ---- the last effective write to a register
 
@@ -17,74 +17,74 @@ last_found find [] = None
 last_found find (entry ∷ trace) = option_or (find trace entry.op) (last_found find trace)
 
 -- LCR, MCR and SCR: the last write at offset 3, 4 or 7, or the start's byte
-abbrev pub line_control : (start : State) (trace : Trace) → ℕ
-line_control start trace = unwrap_or (last_found (λ before op. value_written_at 3 op) trace) start.line_control
+abbrev pub lcr_after : (start : State) (trace : Trace) → ℕ
+lcr_after start trace = unwrap_or (last_found (λ before op. value_written_at 3 op) trace) start.line_control
 
-abbrev pub modem_control : (start : State) (trace : Trace) → ℕ
-modem_control start trace = unwrap_or (last_found (λ before op. value_written_at 4 op) trace) start.modem_control
+abbrev pub mcr_after : (start : State) (trace : Trace) → ℕ
+mcr_after start trace = unwrap_or (last_found (λ before op. value_written_at 4 op) trace) start.modem_control
 
-abbrev pub scratch : (start : State) (trace : Trace) → ℕ
-scratch start trace = unwrap_or (last_found (λ before op. value_written_at 7 op) trace) start.scratch
+abbrev pub scr_after : (start : State) (trace : Trace) → ℕ
+scr_after start trace = unwrap_or (last_found (λ before op. value_written_at 7 op) trace) start.scratch
 
-abbrev pub dlab : (start : State) (trace : Trace) → Bool
-dlab start trace = is_dlab (line_control start trace)
+abbrev pub dlab_after : (start : State) (trace : Trace) → Bool
+dlab_after start trace = is_dlab (lcr_after start trace)
 
-abbrev pub loopback : (start : State) (trace : Trace) → Bool
-loopback start trace = is_loopback (modem_control start trace)
+abbrev pub loopback_after : (start : State) (trace : Trace) → Bool
+loopback_after start trace = is_loopback (mcr_after start trace)
 
 -- DLL and DLM: the last write at offset 0 or 1 with DLAB set at that point, or the start's byte
 abbrev pub divisor_low : (start : State) (trace : Trace) → ℕ
 divisor_low start trace =
-    unwrap_or (last_found (λ before op. if dlab start before then value_written_at 0 op else None) trace)
+    unwrap_or (last_found (λ before op. if dlab_after start before then value_written_at 0 op else None) trace)
     start.baud_divisor_low
 
 abbrev pub divisor_high : (start : State) (trace : Trace) → ℕ
 divisor_high start trace =
-    unwrap_or (last_found (λ before op. if dlab start before then value_written_at 1 op else None) trace)
+    unwrap_or (last_found (λ before op. if dlab_after start before then value_written_at 1 op else None) trace)
     start.baud_divisor_high
 
 -- IER: the low four bits of the last write at offset 1 with DLAB clear at that point, or the start's whole byte
-abbrev pub interrupt_enable : (start : State) (trace : Trace) → ℕ
-interrupt_enable start trace =
+abbrev pub ier_after : (start : State) (trace : Trace) → ℕ
+ier_after start trace =
     option_map_or (λ value. only_bits value ier_bits)
-    (last_found (λ before op. if dlab start before then None else value_written_at 1 op) trace) start.interrupt_enable
+    (last_found (λ before op. if dlab_after start before then None else value_written_at 1 op) trace) start.interrupt_enable
 
 -- the start with each register at its last effective write. MSR keeps its byte, and IIR and LSR have rules of their own
 abbrev pub with_last_writes : (start : State) (trace : Trace) → State
 with_last_writes start trace = record start {
   baud_divisor_low = divisor_low start trace;
   baud_divisor_high = divisor_high start trace;
-  interrupt_enable = interrupt_enable start trace;
-  line_control = line_control start trace;
-  modem_control = modem_control start trace;
-  scratch = scratch start trace;
+  interrupt_enable = ier_after start trace;
+  line_control = lcr_after start trace;
+  modem_control = mcr_after start trace;
+  scratch = scr_after start trace;
 }
 
 -- a state with these registers, whatever its IIR, its LSR and its received bytes are
 pub record RegistersAgree (start : State) (trace : Trace) (s : State) : Type 0 where
   pub divisor_low : s.baud_divisor_low ≡ divisor_low start trace
   pub divisor_high : s.baud_divisor_high ≡ divisor_high start trace
-  pub interrupt_enable : s.interrupt_enable ≡ interrupt_enable start trace
-  pub line_control : s.line_control ≡ line_control start trace
-  pub modem_control : s.modem_control ≡ modem_control start trace
+  pub interrupt_enable : s.interrupt_enable ≡ ier_after start trace
+  pub line_control : s.line_control ≡ lcr_after start trace
+  pub modem_control : s.modem_control ≡ mcr_after start trace
   pub modem_status : s.modem_status ≡ start.modem_status
-  pub scratch : s.scratch ≡ scratch start trace
+  pub scratch : s.scratch ≡ scr_after start trace
 
 -- what an operation means at this point
-abbrev pub kind_at : (start : State) (trace : Trace) (op : Op) → OpKind
-kind_at start trace op = kind_of (dlab start trace) (loopback start trace) op
+abbrev pub decode_at : (start : State) (trace : Trace) (op : Op) → DecodedOp
+decode_at start trace op = decode (dlab_after start trace) (loopback_after start trace) op
 
 -- ---- received bytes
 
 -- of the bytes that come in, the first are accepted, as many as have room beside the held ones in a FIFO of 64
-abbrev pub accepted_by : (kind : OpKind) (held : List ℕ) → List ℕ
-accepted_by (Arrival bytes) held = take (64 - length held) bytes
+abbrev pub accepted_by : (kind : DecodedOp) (held : List ℕ) → List ℕ
+accepted_by (RxInput bytes) held = take (64 - length held) bytes
 accepted_by _ held = []
 
 -- an RBR read takes the first held byte, if there is one
-abbrev pub taken_by : (kind : OpKind) (held : List ℕ) → List ℕ
-taken_by RbrRead held = take 1 held
-taken_by _ held = []
+abbrev pub read_out_by : (kind : DecodedOp) (held : List ℕ) → List ℕ
+read_out_by RbrRead held = take 1 held
+read_out_by _ held = []
 
 -- the bytes that remain: those at the start, then those accepted, without as many of the first as were taken
 abbrev pub remaining_bytes : (first accepted taken : List ℕ) → List ℕ
@@ -96,16 +96,16 @@ abbrev mutual
   accepted_bytes start [] = []
   accepted_bytes start (entry ∷ trace) =
       accepted_bytes start trace
-      ++ accepted_by (kind_at start trace entry.op)
-      (remaining_bytes start.in_buffer (accepted_bytes start trace) (taken_bytes start trace))
+      ++ accepted_by (decode_at start trace entry.op)
+      (remaining_bytes start.in_buffer (accepted_bytes start trace) (read_out_bytes start trace))
 
-  pub taken_bytes : (start : State) (trace : Trace) → List ℕ
-  taken_bytes start [] = []
-  taken_bytes start (entry ∷ trace) =
-      taken_bytes start trace
-      ++ taken_by (kind_at start trace entry.op)
-      (remaining_bytes start.in_buffer (accepted_bytes start trace) (taken_bytes start trace))
+  pub read_out_bytes : (start : State) (trace : Trace) → List ℕ
+  read_out_bytes start [] = []
+  read_out_bytes start (entry ∷ trace) =
+      read_out_bytes start trace
+      ++ read_out_by (decode_at start trace entry.op)
+      (remaining_bytes start.in_buffer (accepted_bytes start trace) (read_out_bytes start trace))
 
 -- the bytes held
 abbrev pub held_bytes : (start : State) (trace : Trace) → List ℕ
-held_bytes start trace = remaining_bytes start.in_buffer (accepted_bytes start trace) (taken_bytes start trace)
+held_bytes start trace = remaining_bytes start.in_buffer (accepted_bytes start trace) (read_out_bytes start trace)

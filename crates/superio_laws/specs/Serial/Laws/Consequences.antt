@@ -1,8 +1,8 @@
 -- The laws that follow from the history alone, from any start.
 use Rattle.std.specs.Prelude.{◌≡◌, ◌↔◌, ◌⊎◌, ℕ, List, [], ◌∷◌, ◌++◌, IsTrue, Bool, true, false, not, ◌==◌, ◌&&◌, ◌||◌}
-use Rattle.superio_laws.specs.Serial.{Asked, Op, Restore, TraceEntry, Response, Trace, Read, ByteRead, OpKind, RbrRead, is_rbr_read, has_bits, State, lsr_dr_bit, Condition, iir_bit}
+use Rattle.superio_laws.specs.Serial.{Asked, Op, Restore, TraceEntry, Response, Trace, Read, ByteRead, DecodedOp, RbrRead, is_rbr_read, has_bits, State, lsr_dr_bit, Condition, iir_bit}
 use Rattle.superio_laws.specs.Serial.{bytes_sent}
-use Rattle.superio_laws.specs.Serial.History.{guest_read, ResponsesAre, bytes_read, output, accepted_bytes, taken_bytes, held_bytes, kind_at, acknowledges, is_raised, is_pending, is_well_formed, NoneAcknowledges, IsWithinBound, WaitingBytesShow}
+use Rattle.superio_laws.specs.Serial.History.{guest_read, ResponsesAre, bytes_read, output, accepted_bytes, read_out_bytes, held_bytes, decode_at, acknowledges, is_raised, is_pending, is_fitting, NoneAcknowledges, IsWithinBound, RdaCoversWaitingBytes}
 use Rattle.superio_laws.specs.Serial.{trace_after}
 
 -- ---- pending
@@ -25,10 +25,10 @@ PendingByPrefixesLaw = (condition : Condition) (start : State) (trace : Trace)
 
 abbrev pub TriggerBoundLaw : Type 0
 TriggerBoundLaw =
-    (start : State) (trace : Trace) → IsTrue (is_well_formed start trace) → IsWithinBound start trace
+    (start : State) (trace : Trace) → IsTrue (is_fitting start trace) → IsWithinBound start trace
 
 abbrev pub WaitingBytesLaw : Type 0
-WaitingBytesLaw = (start : State) (trace : Trace) → WaitingBytesShow start trace
+WaitingBytesLaw = (start : State) (trace : Trace) → RdaCoversWaitingBytes start trace
 
 -- ---- reads
 
@@ -49,15 +49,15 @@ SameReadsLaw = (start : State) (one other : Trace) → ops_and_asked one ≡ ops
 -- ---- bytes
 
 -- no byte is lost or made up: those taken, then those held, are those held at the start, then those accepted
-abbrev pub TakenThenHeldLaw : Type 0
-TakenThenHeldLaw = (start : State) (trace : Trace)
-    → taken_bytes start trace ++ held_bytes start trace ≡ start.in_buffer ++ accepted_bytes start trace
+abbrev pub ReadOutThenHeldLaw : Type 0
+ReadOutThenHeldLaw = (start : State) (trace : Trace)
+    → read_out_bytes start trace ++ held_bytes start trace ≡ start.in_buffer ++ accepted_bytes start trace
 
 -- the bytes that calls give a guest from the FIFO are those that they take
-abbrev pub ReadsAreTakenLaw : Type 0
-ReadsAreTakenLaw = (start : State) (trace : Trace) (calls : List (TraceEntry × Response))
+abbrev pub RepliesAreReadOutLaw : Type 0
+RepliesAreReadOutLaw = (start : State) (trace : Trace) (calls : List (TraceEntry × Response))
     → ResponsesAre start trace calls
-    → taken_bytes start trace ++ bytes_read start trace calls ≡ taken_bytes start (trace_after trace calls)
+    → read_out_bytes start trace ++ bytes_read start trace calls ≡ read_out_bytes start (trace_after trace calls)
 
 -- so the bytes read, then those held, are those held at the start, then those accepted
 abbrev pub ReadThenHeldLaw : Type 0
@@ -70,22 +70,22 @@ abbrev pub recorded_output : (newest : Trace) → List ℕ
 recorded_output [] = []
 recorded_output (entry ∷ newest) = recorded_output newest ++ bytes_sent entry.op entry.sent
 
--- the bytes that the newest entries of a well-formed trace record as sent are the output
+-- the bytes that the newest entries of a fitting trace record as sent are the output
 abbrev pub OutputLaw : Type 0
-OutputLaw = (start : State) (trace newest : Trace) → IsTrue (is_well_formed start (newest ++ trace))
+OutputLaw = (start : State) (trace newest : Trace) → IsTrue (is_fitting start (newest ++ trace))
     → recorded_output newest ≡ output start trace newest
 
 -- ---- a driver that polls: what a guest gets that reads RBR only if LSR has shown data ready
 
 -- the bytes that the driver gets: the reply to each RBR read, oldest first
-abbrev pub driver_byte : (kind : OpKind) (reply : Response) → List ℕ
+abbrev pub driver_byte : (kind : DecodedOp) (reply : Response) → List ℕ
 driver_byte RbrRead (ByteRead byte) = byte ∷ []
 driver_byte _ reply = []
 
 abbrev pub driver_bytes : (start : State) (trace : Trace) (calls : List (TraceEntry × Response)) → List ℕ
 driver_bytes start trace [] = []
 driver_bytes start trace (call ∷ later) =
-    driver_byte (kind_at start trace call.0.op) call.1 ++ driver_bytes start (call.0 ∷ trace) later
+    driver_byte (decode_at start trace call.0.op) call.1 ++ driver_bytes start (call.0 ∷ trace) later
 
 -- ---- data ready shows at each RBR read
 
@@ -93,7 +93,7 @@ driver_bytes start trace (call ∷ later) =
 abbrev pub polls : (start : State) (trace : Trace) (calls : List (TraceEntry × Response)) → Bool
 polls start trace [] = true
 polls start trace (call ∷ later) =
-    (not (is_rbr_read (kind_at start trace call.0.op)) || has_bits (guest_read start trace 5) lsr_dr_bit)
+    (not (is_rbr_read (decode_at start trace call.0.op)) || has_bits (guest_read start trace 5) lsr_dr_bit)
     && polls start (call.0 ∷ trace) later
 
 -- what the driver has got, then what is held, is what was held at the start, then what was accepted: it loses none, and
@@ -122,7 +122,7 @@ abbrev pub polls_after_data_ready :
     (start : State) (trace : Trace) (seen : Bool) (calls : List (TraceEntry × Response)) → Bool
 polls_after_data_ready start trace seen [] = true
 polls_after_data_ready start trace seen (call ∷ later) =
-    let reads = is_rbr_read (kind_at start trace call.0.op) in
+    let reads = is_rbr_read (decode_at start trace call.0.op) in
     (not reads || seen)
     && polls_after_data_ready start (call.0 ∷ trace) (not reads && (seen || shows_data_ready call.0.op call.1)) later
 

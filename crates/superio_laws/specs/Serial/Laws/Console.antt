@@ -2,7 +2,7 @@
 -- makes character timeouts. No byte waits for ever, in either direction.
 use Rattle.std.specs.Prelude.{◌≡◌, ⊤, ℕ, ◌+◌, ◌<◌, ◌≤◌, Bool, false, not, ◌&&◌, ◌||◌, if◌then◌else◌, List, [], ◌∷◌, ◌++◌, length, take, drop, ◌⊎◌, IsTrue}
 use Rattle.superio_laws.specs.Serial.{Asked, is_refused_at_once, count_if, TraceEntry, Trace, IirRead, IerWrite, ThrWrite, is_iir_read, is_rbr_read, sent_by, has_bits, State, not_empty, Rda, Thre, Condition, ier_bit}
-use Rattle.superio_laws.specs.Serial.History.{interrupt_enable, held_bytes, taken_bytes, kind_at, is_call_due, is_pending, NoneAcknowledges}
+use Rattle.superio_laws.specs.Serial.History.{ier_after, held_bytes, read_out_bytes, decode_at, is_call_due, is_pending, NoneAcknowledges}
 use Rattle.superio_laws.specs.Serial.Laws.Line.{timeout_entry}
 use Rattle.superio_laws.specs.Serial.Laws.Transmit.{IsRetried, CallsFor}
 
@@ -27,7 +27,7 @@ abbrev pub sent : (driver : Driver) (start : State) (trace : Trace) → List ℕ
 sent driver start [] = []
 sent driver start (entry ∷ trace) =
     sent driver start trace
-    ++ (if driver.sends_own trace entry then sent_by (kind_at start trace entry.op) else [])
+    ++ (if driver.sends_own trace entry then sent_by (decode_at start trace entry.op) else [])
 
 -- the bytes left to send: those given without as many of the first as were sent
 abbrev pub left : (driver : Driver) (start : State) (trace : Trace) → List ℕ
@@ -45,14 +45,14 @@ has_to_send driver start trace = not_empty (left driver start trace) && not (dri
 -- (`RefusedWriteLaw`)
 abbrev pub EnablesThre : (start : State) (before : Trace) (entry : TraceEntry) → Type 0
 EnablesThre start before entry =
-    (value : ℕ) × (kind_at start before entry.op ≡ IerWrite value) × IsTrue (has_bits value (ier_bit Thre))
+    (value : ℕ) × (decode_at start before entry.op ≡ IerWrite value) × IsTrue (has_bits value (ier_bit Thre))
     × ((is_call_due Rda start before entry && is_refused_at_once entry.asked) ≡ false)
 
 -- a THR write outside loopback while IER enables THRE
 abbrev pub SendsEnabled : (start : State) (before : Trace) (entry : TraceEntry) → Type 0
 SendsEnabled start before entry =
-    (value : ℕ) × (kind_at start before entry.op ≡ ThrWrite value)
-    × IsTrue (has_bits (interrupt_enable start before) (ier_bit Thre))
+    (value : ℕ) × (decode_at start before entry.op ≡ ThrWrite value)
+    × IsTrue (has_bits (ier_after start before) (ier_bit Thre))
 
 -- in these entries after `before`, newest first: whoever gives the driver bytes while it has none, or lets it go on
 -- after a stop, enables THRE or sends a byte. It comes to have bytes to send only at such an entry
@@ -80,9 +80,9 @@ pub record SendsOne (driver : Driver) (start : State) (before newest : Trace) : 
   pub earlier : Trace
   pub value : ℕ
   pub place : newest ≡ later ++ entry ∷ earlier
-  pub writes : kind_at start (earlier ++ before) entry.op ≡ ThrWrite value
+  pub writes : decode_at start (earlier ++ before) entry.op ≡ ThrWrite value
   pub own : IsTrue (driver.sends_own (earlier ++ before) entry)
-  pub enabled : IsTrue (has_bits (interrupt_enable start (earlier ++ before)) (ier_bit Thre))
+  pub enabled : IsTrue (has_bits (ier_after start (earlier ++ before)) (ier_bit Thre))
 
 -- at some point of these entries it has no bytes left, or is stopped
 abbrev pub Rests : (driver : Driver) (start : State) (before newest : Trace) → Type 0
@@ -108,9 +108,9 @@ pub record EndsAtNone (driver : Driver) (start : State) (before run : Trace) : T
   pub iir : TraceEntry
   pub earlier : Trace
   pub place : run ≡ tail ++ none ∷ (turn ++ iir ∷ earlier)
-  pub reads : kind_at start (earlier ++ before) iir.op ≡ IirRead
+  pub reads : decode_at start (earlier ++ before) iir.op ≡ IirRead
   pub is_turn : IsTurn driver start (iir ∷ earlier ++ before) turn
-  pub reads_none : kind_at start (turn ++ (iir ∷ earlier ++ before)) none.op ≡ IirRead
+  pub reads_none : decode_at start (turn ++ (iir ∷ earlier ++ before)) none.op ≡ IirRead
   pub shows_none : ShowsNone start (turn ++ (iir ∷ earlier ++ before))
   pub untouched : NoIirOrRbrRead start tail (none ∷ (turn ++ (iir ∷ earlier ++ before)))
 
@@ -123,7 +123,7 @@ pub record EndsInTurn (driver : Driver) (start : State) (before run : Trace) : T
   pub iir : TraceEntry
   pub earlier : Trace
   pub place : run ≡ tail ++ timeout_entry asked ∷ (turn ++ iir ∷ earlier)
-  pub reads : kind_at start (earlier ++ before) iir.op ≡ IirRead
+  pub reads : decode_at start (earlier ++ before) iir.op ≡ IirRead
   pub is_turn : IsTurn driver start (iir ∷ earlier ++ before) turn
   pub untouched : NoIirOrRbrRead start tail (timeout_entry asked ∷ (turn ++ (iir ∷ earlier ++ before)))
 
@@ -132,7 +132,7 @@ pub record EndsInTurn (driver : Driver) (start : State) (before run : Trace) : T
 pub record IsConsoleRun (driver : Driver) (start : State) (before run : Trace) : Type 0 where
   pub takes :
       IsTrue (not_empty (held_bytes start before))
-      → length (taken_bytes start before) < length (taken_bytes start (run ++ before))
+      → length (read_out_bytes start before) < length (read_out_bytes start (run ++ before))
   pub ends : EndsAtNone driver start before run ⊎ EndsInTurn driver start before run
   pub asks : AsksWhenGiven driver start before run
 
@@ -141,7 +141,7 @@ pub record IsConsoleRun (driver : Driver) (start : State) (before run : Trace) :
 abbrev pub TimeoutAfterNone : (start : State) (before newest : Trace) → Type 0
 TimeoutAfterNone start before newest =
     (after earlier : Trace) (read : TraceEntry) → newest ≡ after ++ read ∷ earlier
-    → kind_at start (earlier ++ before) read.op ≡ IirRead → ShowsNone start (earlier ++ before)
+    → decode_at start (earlier ++ before) read.op ≡ IirRead → ShowsNone start (earlier ++ before)
     → (later : Trace) × (asked : Asked) × (after ≡ later ++ timeout_entry asked ∷ [])
 
 -- ---- the driver is asked again
@@ -152,22 +152,22 @@ pub record IsAskedFor (condition : Condition) (start : State) (before run : Trac
   pub pending : IsTrue (is_pending condition start (run ++ before))
   pub called :
       (later earlier : Trace) (iir : TraceEntry) → run ≡ later ++ iir ∷ earlier
-      → kind_at start (earlier ++ before) iir.op ≡ IirRead → CallsFor condition start (iir ∷ earlier ++ before) later
+      → decode_at start (earlier ++ before) iir.op ≡ IirRead → CallsFor condition start (iir ∷ earlier ++ before) later
   pub retried :
-      IsTrue (has_bits (interrupt_enable start (run ++ before)) (ier_bit condition))
+      IsTrue (has_bits (ier_after start (run ++ before)) (ier_bit condition))
       → IsRetried condition start (run ++ before)
 
 -- for RDA after each run, if bytes are held and IER enables it
-abbrev pub AskedToTakeLaw : Type 0
-AskedToTakeLaw = (driver : Driver) (start : State) (before run : Trace) → IsConsoleRun driver start before run
+abbrev pub InterruptToReadLaw : Type 0
+InterruptToReadLaw = (driver : Driver) (start : State) (before run : Trace) → IsConsoleRun driver start before run
     → TimeoutAfterNone start before run
     → IsTrue (not_empty (held_bytes start (run ++ before)))
-    → IsTrue (has_bits (interrupt_enable start (run ++ before)) (ier_bit Rda))
+    → IsTrue (has_bits (ier_after start (run ++ before)) (ier_bit Rda))
     → IsAskedFor Rda start before run
 
 -- for THRE after each run, if the driver has bytes left and is not stopped
-abbrev pub AskedToSendLaw : Type 0
-AskedToSendLaw = (driver : Driver) (start : State) (before run : Trace) → IsConsoleRun driver start before run
+abbrev pub InterruptToSendLaw : Type 0
+InterruptToSendLaw = (driver : Driver) (start : State) (before run : Trace) → IsConsoleRun driver start before run
     → IsTrue (has_to_send driver start (run ++ before)) → IsAskedFor Thre start before run
 
 -- ---- every byte is through
@@ -195,16 +195,16 @@ free_runs driver before [] = 0
 free_runs driver before (run ∷ later) = count_if (is_free driver before run) + free_runs driver (run ++ before) later
 
 -- of the bytes held before the runs, the first are taken, in order, as many as there were runs
-abbrev pub TakenInRunsLaw : Type 0
-TakenInRunsLaw = (driver : Driver) (start : State) (before : Trace) (runs : List Trace)
+abbrev pub ReadOutInPassesLaw : Type 0
+ReadOutInPassesLaw = (driver : Driver) (start : State) (before : Trace) (runs : List Trace)
     → AreConsoleRuns driver start before runs
-    → (more : List ℕ) × (taken_bytes start (after_runs before runs)
-    ≡ taken_bytes start before ++ take (length runs) (held_bytes start before) ++ more)
+    → (more : List ℕ) × (read_out_bytes start (after_runs before runs)
+    ≡ read_out_bytes start before ++ take (length runs) (held_bytes start before) ++ more)
 
 -- of the bytes left to send before the runs, the first are sent, in order, as many as there were runs without a
 -- stop
-abbrev pub SentInRunsLaw : Type 0
-SentInRunsLaw = (driver : Driver) (start : State) (before : Trace) (runs : List Trace)
+abbrev pub SentInPassesLaw : Type 0
+SentInPassesLaw = (driver : Driver) (start : State) (before : Trace) (runs : List Trace)
     → AreConsoleRuns driver start before runs
     → SentInOrder driver start before → SentInOrder driver start (after_runs before runs)
     → (more : List ℕ) × (sent driver start (after_runs before runs)
@@ -224,7 +224,7 @@ pub record TakesUntilNone (start : State) (before newest : Trace) : Type 0 where
 -- in these entries as many bytes as `most` are taken
 abbrev pub TakesMost : (start : State) (most : ℕ) (before newest : Trace) → Type 0
 TakesMost start most before newest =
-    length (taken_bytes start before) + most ≤ length (taken_bytes start (newest ++ before))
+    length (read_out_bytes start before) + most ≤ length (read_out_bytes start (newest ++ before))
 
 -- a run that reads IIR until it shows nothing pending, and in its last turn takes bytes until LSR shows none, or as
 -- many as `most`; Linux takes at most 256
@@ -249,5 +249,5 @@ HandlerEndsLaw = (most : ℕ) (driver : Driver) (start : State) (before run : Tr
     → (is : IsHandlerRun most driver start before run)
     → let opened : Trace = is.ends.iir ∷ is.ends.earlier ++ before in let end : Trace = is.ends.turn ++ opened in
     (has_to_send driver start end ≡ false)
-    × (IsTrue (has_bits (interrupt_enable start end) (ier_bit Rda))
+    × (IsTrue (has_bits (ier_after start end) (ier_bit Rda))
     → (held_bytes start end ≡ []) ⊎ TakesMost start most opened is.ends.turn)

@@ -1,8 +1,8 @@
 -- The laws of a character timeout, after which no byte waits without an interrupt; of a driver that takes bytes at
 -- interrupts; and of the level of the interrupt line.
 use Rattle.std.specs.Prelude.{◌≡◌, false, ◌∷◌, IsTrue, ℕ, zero, suc, ◌≤◌, ◌<◌, List, ◌++◌, length, ◌⊎◌, Bool, true, not, ◌==◌, ◌&&◌, ◌||◌, IsFalse}
-use Rattle.superio_laws.specs.Serial.{Asked, Sent, CharacterTimeout, TraceEntry, Trace, IirRead, Op, answer_count, OpKind, RbrRead, IerWrite, has_bits, only_bits, State, not_empty, ier_bits, Rda, Thre, Condition, ier_bit, identification_of, step, kind_in_state, is_admissible, is_asserted, is_line_up}
-use Rattle.superio_laws.specs.Serial.History.{interrupt_enable, held_bytes, kind_at, taken_bytes, is_pending, is_call_due, is_well_formed, TimeoutsShow}
+use Rattle.superio_laws.specs.Serial.{Asked, Sent, CharacterTimeout, TraceEntry, Trace, IirRead, Op, answer_count, DecodedOp, RbrRead, IerWrite, has_bits, only_bits, State, not_empty, ier_bits, Rda, Thre, Condition, ier_bit, identification_of, step, decode_in, answers_fit, is_asserted, irq_level}
+use Rattle.superio_laws.specs.Serial.History.{ier_after, held_bytes, decode_at, read_out_bytes, is_pending, is_call_due, is_fitting, RdaFollowsTimeouts}
 use Rattle.superio_laws.specs.Serial.Laws.{state_after}
 
 abbrev pub timeout_entry : (asked : Asked) → TraceEntry
@@ -12,54 +12,54 @@ timeout_entry asked = record { op = CharacterTimeout; asked = asked; sent = Sent
 abbrev pub NoByteWaitsLaw : Type 0
 NoByteWaitsLaw = (start : State) (trace : Trace) (asked : Asked)
     → IsTrue (not_empty (held_bytes start (timeout_entry asked ∷ trace)))
-    → IsTrue (has_bits (interrupt_enable start (timeout_entry asked ∷ trace)) (ier_bit Rda))
+    → IsTrue (has_bits (ier_after start (timeout_entry asked ∷ trace)) (ier_bit Rda))
     → IsTrue (is_pending Rda start (timeout_entry asked ∷ trace))
 
 -- and if it was not pending before, the trigger is called
 abbrev pub TimeoutCallsLaw : Type 0
 TimeoutCallsLaw = (start : State) (trace : Trace) (asked : Asked)
     → IsTrue (not_empty (held_bytes start trace))
-    → IsTrue (has_bits (interrupt_enable start trace) (ier_bit Rda))
+    → IsTrue (has_bits (ier_after start trace) (ier_bit Rda))
     → is_pending Rda start trace ≡ false
     → IsTrue (is_call_due Rda start trace (timeout_entry asked))
 
--- the same for every timeout of a well-formed trace, with the answers that it records
-abbrev pub TimeoutsShowLaw : Type 0
-TimeoutsShowLaw = (start : State) (trace : Trace) → IsTrue (is_well_formed start trace) → TimeoutsShow start trace
+-- the same for every timeout of a fitting trace, with the answers that it records
+abbrev pub RdaFollowsTimeoutsLaw : Type 0
+RdaFollowsTimeoutsLaw = (start : State) (trace : Trace) → IsTrue (is_fitting start trace) → RdaFollowsTimeouts start trace
 
 -- ---- a driver that is run by interrupts, whatever else it does: no byte waits for ever
 
 -- entries after `before`, newest first: those of a driver's run, and of others meanwhile, such as the host. They take a
 -- byte if one is held at first, and the last reads IIR
-pub record IsRunAtInterrupt (start : State) (before run : Trace) : Type 0 where
+pub record HandlerPass (start : State) (before run : Trace) : Type 0 where
   pub earlier : Trace
   pub last : TraceEntry
   pub ends : run ≡ last ∷ earlier
-  pub reads_iir : kind_at start (earlier ++ before) last.op ≡ IirRead
+  pub reads_iir : decode_at start (earlier ++ before) last.op ≡ IirRead
   pub takes :
       IsTrue (not_empty (held_bytes start before))
-      → length (taken_bytes start before) < length (taken_bytes start (run ++ before))
+      → length (read_out_bytes start before) < length (read_out_bytes start (run ++ before))
 
 -- a character timeout after it asks for the interrupt again if bytes are held and IER enables RDA
-abbrev pub OwedAfterRunLaw : Type 0
-OwedAfterRunLaw = (start : State) (before run : Trace) (asked : Asked) → IsRunAtInterrupt start before run
+abbrev pub InterruptAfterPassLaw : Type 0
+InterruptAfterPassLaw = (start : State) (before run : Trace) (asked : Asked) → HandlerPass start before run
     → IsTrue (not_empty (held_bytes start (run ++ before)))
-    → IsTrue (has_bits (interrupt_enable start (run ++ before)) (ier_bit Rda))
+    → IsTrue (has_bits (ier_after start (run ++ before)) (ier_bit Rda))
     → IsTrue (is_call_due Rda start (run ++ before) (timeout_entry asked))
 
 -- so many such runs, each with a timeout after it, take a trace to another
-abbrev pub RunsAtInterrupts : (start : State) (runs : ℕ) (before after : Trace) → Type 0
-RunsAtInterrupts start zero before after = after ≡ before
-RunsAtInterrupts start (suc others) before after =
-    (run : Trace) × (asked : Asked) × IsRunAtInterrupt start before run
-    × RunsAtInterrupts start others (timeout_entry asked ∷ run ++ before) after
+abbrev pub HandlerPasses : (start : State) (runs : ℕ) (before after : Trace) → Type 0
+HandlerPasses start zero before after = after ≡ before
+HandlerPasses start (suc others) before after =
+    (run : Trace) × (asked : Asked) × HandlerPass start before run
+    × HandlerPasses start others (timeout_entry asked ∷ run ++ before) after
 
 -- after as many runs as bytes are held, all of these are taken, in order
-abbrev pub TakenAfterRunsLaw : Type 0
-TakenAfterRunsLaw = (start : State) (runs : ℕ) (before after : Trace) → RunsAtInterrupts start runs before after
+abbrev pub ReadOutAfterPassesLaw : Type 0
+ReadOutAfterPassesLaw = (start : State) (runs : ℕ) (before after : Trace) → HandlerPasses start runs before after
     → length (held_bytes start before) ≤ runs
     → (more : List ℕ)
-    × (taken_bytes start after ≡ taken_bytes start before ++ held_bytes start before ++ more)
+    × (read_out_bytes start after ≡ read_out_bytes start before ++ held_bytes start before ++ more)
 
 -- ---- the level of the interrupt line and the trigger: the one rises where the other is called. This holds in any
 -- state, coherent or not.
@@ -70,38 +70,38 @@ is_called asked = not (answer_count asked == 0)
 
 -- the level that an IER write of this value gives the conditions that are pending already
 abbrev pub is_line_up_under : (value : ℕ) (s : State) → Bool
-is_line_up_under value s = is_line_up (record s { interrupt_enable = only_bits value ier_bits })
+is_line_up_under value s = irq_level (record s { interrupt_enable = only_bits value ier_bits })
 
 -- the level after a call, by what the call means and whether it called the trigger: an IIR read leaves the line down;
 -- an RBR read leaves it up for THRE alone; an IER write by the new value, or if the trigger was called; every other
 -- call leaves it up if it was up, or if the trigger was called
-abbrev pub line_after : (kind : OpKind) (called : Bool) (s : State) → Bool
+abbrev pub line_after : (kind : DecodedOp) (called : Bool) (s : State) → Bool
 line_after IirRead called s = false
 line_after RbrRead called s = is_asserted Thre s
 line_after (IerWrite value) called s = called || is_line_up_under value s
-line_after kind called s = called || is_line_up s
+line_after kind called s = called || irq_level s
 
 abbrev pub LineAfterLaw : Type 0
-LineAfterLaw = (s : State) (op : Op) (asked : Asked) (sent : Sent) → IsTrue (is_admissible s op asked sent)
-    → is_line_up (step s op asked) ≡ line_after (kind_in_state s op) (is_called asked) s
+LineAfterLaw = (s : State) (op : Op) (asked : Asked) (sent : Sent) → IsTrue (answers_fit s op asked sent)
+    → irq_level (step s op asked) ≡ line_after (decode_in s op) (is_called asked) s
 
 -- a call that calls the trigger leaves the line up, even if the trigger refuses
 abbrev pub UpAfterCallLaw : Type 0
-UpAfterCallLaw = (s : State) (op : Op) (asked : Asked) (sent : Sent) → IsTrue (is_admissible s op asked sent)
-    → IsTrue (is_called asked) → IsTrue (is_line_up (step s op asked))
+UpAfterCallLaw = (s : State) (op : Op) (asked : Asked) (sent : Sent) → IsTrue (answers_fit s op asked sent)
+    → IsTrue (is_called asked) → IsTrue (irq_level (step s op asked))
 
 -- an IER write enables a condition that is pending already. The trigger is not called for it again
-abbrev pub EnablesPending : (kind : OpKind) (s : State) → Type 0
+abbrev pub EnablesPending : (kind : DecodedOp) (s : State) → Type 0
 EnablesPending kind s = (value : ℕ) × (kind ≡ IerWrite value) × IsTrue (is_line_up_under value s)
 
 -- where the line goes up, the trigger was called, or an IER write enabled a pending condition
 abbrev pub GoesUpLaw : Type 0
-GoesUpLaw = (s : State) (op : Op) (asked : Asked) (sent : Sent) → IsTrue (is_admissible s op asked sent)
-    → IsFalse (is_line_up s) → IsTrue (is_line_up (step s op asked))
-    → IsTrue (is_called asked) ⊎ EnablesPending (kind_in_state s op) s
+GoesUpLaw = (s : State) (op : Op) (asked : Asked) (sent : Sent) → IsTrue (answers_fit s op asked sent)
+    → IsFalse (irq_level s) → IsTrue (irq_level (step s op asked))
+    → IsTrue (is_called asked) ⊎ EnablesPending (decode_in s op) s
 
 -- a read of IIR or RBR, or an IER write
-abbrev pub may_lower_line : (kind : OpKind) → Bool
+abbrev pub may_lower_line : (kind : DecodedOp) → Bool
 may_lower_line IirRead = true
 may_lower_line RbrRead = true
 may_lower_line (IerWrite value) = true
@@ -109,15 +109,15 @@ may_lower_line kind = false
 
 -- no other call lowers the line
 abbrev pub StaysUpLaw : Type 0
-StaysUpLaw = (s : State) (op : Op) (asked : Asked) (sent : Sent) → IsTrue (is_admissible s op asked sent)
-    → IsFalse (may_lower_line (kind_in_state s op)) → IsTrue (is_line_up s) → IsTrue (is_line_up (step s op asked))
+StaysUpLaw = (s : State) (op : Op) (asked : Asked) (sent : Sent) → IsTrue (answers_fit s op asked sent)
+    → IsFalse (may_lower_line (decode_in s op)) → IsTrue (irq_level s) → IsTrue (irq_level (step s op asked))
 
 -- by the history: a condition is pending, and the last effective write of IER enables it
 abbrev pub is_asserted_at : (condition : Condition) (start : State) (trace : Trace) → Bool
 is_asserted_at condition start trace =
-    is_pending condition start trace && has_bits (interrupt_enable start trace) (ier_bit condition)
+    is_pending condition start trace && has_bits (ier_after start trace) (ier_bit condition)
 
 abbrev pub LineOfHistoryLaw : Type 0
 LineOfHistoryLaw = (start : State) (trace : Trace) (thre rda : Bool)
     → start.interrupt_identification ≡ identification_of thre rda
-    → is_line_up (state_after start trace) ≡ (is_asserted_at Thre start trace || is_asserted_at Rda start trace)
+    → irq_level (state_after start trace) ≡ (is_asserted_at Thre start trace || is_asserted_at Rda start trace)

@@ -1,21 +1,21 @@
 -- The laws of one call, in any state.
 use Rattle.std.specs.Prelude.{◌≡◌, ℕ, Bool, true, false, List, ◌∷◌, ◌++◌, ◌<◌, ◌&&◌, length, count_by, IsTrue}
-use Rattle.superio_laws.specs.Serial.{Asked, Sent, Op, Read, Write, Response, ByteRead, WriteOk, Event, out_byte, tx_lost_byte, answer_count, is_sent, sent_by, has_bits, lsr_dr_bit, State, not_empty, Thre, is_dlab, is_loopback, raise, receive_bytes, step, step_response, step_events, kind_in_state, is_admissible}
+use Rattle.superio_laws.specs.Serial.{Asked, Sent, Op, Read, Write, Response, ByteRead, WriteOk, Event, out_byte, tx_lost_byte, answer_count, is_sent, sent_by, has_bits, lsr_dr_bit, State, not_empty, Thre, is_dlab, is_loopback, iir_after_raise, receive_bytes, step, step_response, step_events, decode_in, answers_fit}
 use Rattle.superio_laws.specs.Serial.{turned_on_count}
-use Rattle.superio_laws.specs.Serial.History.{byte_read, accepted_by, taken_by}
+use Rattle.superio_laws.specs.Serial.History.{byte_read, accepted_by, read_out_by}
 
 -- the bytes that a call takes, then those held after it, are those held before it, then those it accepts
 abbrev pub OneCallLaw : Type 0
 OneCallLaw = (s : State) (op : Op) (asked : Asked)
-    → taken_by (kind_in_state s op) s.in_buffer ++ (step s op asked).in_buffer
-    ≡ s.in_buffer ++ accepted_by (kind_in_state s op) s.in_buffer
+    → read_out_by (decode_in s op) s.in_buffer ++ (step s op asked).in_buffer
+    ≡ s.in_buffer ++ accepted_by (decode_in s op) s.in_buffer
 
 -- the byte that a call gives a guest from the FIFO, then the bytes held after the call, are those held before it, then
 -- those it accepts
 abbrev pub OneReadLaw : Type 0
 OneReadLaw = (s : State) (op : Op) (asked : Asked) (sent : Sent)
-    → byte_read (kind_in_state s op) s.in_buffer (step_response s op asked sent) ++ (step s op asked).in_buffer
-    ≡ s.in_buffer ++ accepted_by (kind_in_state s op) s.in_buffer
+    → byte_read (decode_in s op) s.in_buffer (step_response s op asked sent) ++ (step s op asked).in_buffer
+    ≡ s.in_buffer ++ accepted_by (decode_in s op) s.in_buffer
 
 -- received bytes follow those held, and nothing else changes but LSR and IIR
 abbrev pub ReceivedLaw : Type 0
@@ -51,13 +51,13 @@ RbrDataReadyLaw = (s : State) → is_dlab s.line_control ≡ false
 -- `Ok` means that the writer took the byte: its contents, if they are known, grew by it
 pub record SendsByte (s new : State) (value : ℕ) (response : Response) (sent : Sent) : Type 0 where
   pub outcome : IsTrue (is_sent sent)
-  pub state : new ≡ record s { interrupt_identification = raise Thre s.interrupt_enable s.interrupt_identification }
+  pub state : new ≡ record s { interrupt_identification = iir_after_raise Thre s.interrupt_enable s.interrupt_identification }
   pub taken : WriteOk ≡ response → sent ≡ Sent.Out
 
 abbrev pub ThrWriteLaw : Type 0
 ThrWriteLaw = (s : State) (value : ℕ) (asked : Asked) (sent : Sent)
     → is_dlab s.line_control ≡ false → is_loopback s.modem_control ≡ false
-    → IsTrue (is_admissible s (Write 0 value) asked sent)
+    → IsTrue (answers_fit s (Write 0 value) asked sent)
     → SendsByte s (step s (Write 0 value) asked) value (step_response s (Write 0 value) asked sent) sent
 
 -- the events that report the outcome of a byte
@@ -68,11 +68,11 @@ reports_outcome _ = false
 
 -- a THR write outside loopback reports exactly one of the two, once, and no other call reports either
 abbrev pub OutcomeEventsLaw : Type 0
-OutcomeEventsLaw = (s : State) (op : Op) (asked : Asked) (sent : Sent) → IsTrue (is_admissible s op asked sent)
-    → count_by reports_outcome (step_events s op sent) ≡ length (sent_by (kind_in_state s op))
+OutcomeEventsLaw = (s : State) (op : Op) (asked : Asked) (sent : Sent) → IsTrue (answers_fit s op asked sent)
+    → count_by reports_outcome (step_events s op sent) ≡ length (sent_by (decode_in s op))
 
 -- the trigger is called once for each of the two pending bits of IIR that the call turns from clear to set
 abbrev pub TurnedBitsLaw : Type 0
 TurnedBitsLaw = (s : State) (op : Op) (asked : Asked) (sent : Sent)
-    → IsTrue (is_admissible s op asked sent)
+    → IsTrue (answers_fit s op asked sent)
     → answer_count asked ≡ turned_on_count s (step s op asked)

@@ -2,7 +2,7 @@
 -- costs.
 use Rattle.std.specs.Prelude.{◌≡◌, ℕ, ◌+◌, false, List, ◌∷◌, ◌++◌, not, ◌&&◌, IsTrue}
 use Rattle.superio_laws.specs.Serial.{answer_count, count_if, is_refused_at_once, TraceEntry, Trace, IirRead, IerWrite, ThrWrite, has_bits, State, Rda, Thre, Condition, ier_bit}
-use Rattle.superio_laws.specs.Serial.History.{interrupt_enable, kind_at, is_raised, is_pending, is_call_due, is_well_formed_entry, restore_calls_due}
+use Rattle.superio_laws.specs.Serial.History.{ier_after, decode_at, is_raised, is_pending, is_call_due, is_fitting_entry, conditions_due_after}
 use Rattle.superio_laws.specs.Serial.Laws.Line.{is_called}
 
 -- an entry raises THRE, and calls the trigger once for it if it was not pending; a refused call counts
@@ -15,17 +15,17 @@ pub record AsksForMore (start : State) (before : Trace) (entry : TraceEntry) : T
 -- so does an IER write that enables THRE, unless the trigger refused its call for RDA
 abbrev pub IerWriteAsksLaw : Type 0
 IerWriteAsksLaw = (start : State) (before : Trace) (entry : TraceEntry) (value : ℕ)
-    → IsTrue (is_well_formed_entry start before entry)
-    → kind_at start before entry.op ≡ IerWrite value → IsTrue (has_bits value (ier_bit Thre))
+    → IsTrue (is_fitting_entry start before entry)
+    → decode_at start before entry.op ≡ IerWrite value → IsTrue (has_bits value (ier_bit Thre))
     → (is_call_due Rda start before entry && is_refused_at_once entry.asked) ≡ false
     → AsksForMore start before entry
 
 -- and each THR write outside loopback while IER enables THRE
 abbrev pub ThrWriteAsksLaw : Type 0
 ThrWriteAsksLaw = (start : State) (before : Trace) (entry : TraceEntry) (value : ℕ)
-    → IsTrue (is_well_formed_entry start before entry)
-    → kind_at start before entry.op ≡ ThrWrite value
-    → IsTrue (has_bits (interrupt_enable start before) (ier_bit Thre))
+    → IsTrue (is_fitting_entry start before entry)
+    → decode_at start before entry.op ≡ ThrWrite value
+    → IsTrue (has_bits (ier_after start before) (ier_bit Thre))
     → AsksForMore start before entry
 
 -- ---- a trigger that refuses
@@ -33,35 +33,35 @@ ThrWriteAsksLaw = (start : State) (before : Trace) (entry : TraceEntry) (value :
 -- a retry calls the trigger for the condition
 abbrev pub IsRetried : (condition : Condition) (start : State) (trace : Trace) → Type 0
 IsRetried condition start trace =
-    (first later : List Condition) × (restore_calls_due start trace ≡ first ++ condition ∷ later)
+    (first later : List Condition) × (conditions_due_after start trace ≡ first ++ condition ∷ later)
 
 -- it does so as long as the condition is pending and enabled
 abbrev pub RetriedLaw : Type 0
 RetriedLaw = (condition : Condition) (start : State) (trace : Trace)
-    → IsTrue (is_pending condition start trace) → IsTrue (has_bits (interrupt_enable start trace) (ier_bit condition))
+    → IsTrue (is_pending condition start trace) → IsTrue (has_bits (ier_after start trace) (ier_bit condition))
     → IsRetried condition start trace
 
 -- an IER write that calls for RDA leaves it pending and enabled. So if the trigger refuses this call, and the write
 -- then does not raise THRE, a retry asks the driver
 abbrev pub RefusedWriteLaw : Type 0
 RefusedWriteLaw = (start : State) (before : Trace) (entry : TraceEntry) (value : ℕ)
-    → kind_at start before entry.op ≡ IerWrite value → IsTrue (is_call_due Rda start before entry)
+    → decode_at start before entry.op ≡ IerWrite value → IsTrue (is_call_due Rda start before entry)
     → IsRetried Rda start (entry ∷ before)
 
 -- ---- what is pending was called for
 
 -- among these entries after `before`, newest first, there is one at which a trigger call for the condition is due.
--- If the entry is well-formed, the trigger was called, and took the call or refused it
+-- If the entry is fitting, the trigger was called, and took the call or refused it
 pub record CallsFor (condition : Condition) (start : State) (before newest : Trace) : Type 0 where
   pub later : Trace
   pub entry : TraceEntry
   pub earlier : Trace
   pub place : newest ≡ later ++ entry ∷ earlier
   pub due : IsTrue (is_call_due condition start (earlier ++ before) entry)
-  pub called : IsTrue (is_well_formed_entry start (earlier ++ before) entry) → IsTrue (is_called entry.asked)
+  pub called : IsTrue (is_fitting_entry start (earlier ++ before) entry) → IsTrue (is_called entry.asked)
 
 -- so it is for what is pending after a read of IIR
 abbrev pub CalledSinceLaw : Type 0
 CalledSinceLaw = (condition : Condition) (start : State) (after before : Trace) (iir : TraceEntry)
-    → kind_at start before iir.op ≡ IirRead → IsTrue (is_pending condition start (after ++ iir ∷ before))
+    → decode_at start before iir.op ≡ IirRead → IsTrue (is_pending condition start (after ++ iir ∷ before))
     → CallsFor condition start (iir ∷ before) after

@@ -1,6 +1,6 @@
 -- A read of LCR or LSR changes nothing, and a read of RBR is the next one of those that take all bytes.
 use Rattle.std.proofs.Common.{[], ◌∷◌, ◌++◌, sym, ap, ◌∙◌, subst, append_assoc, append-nil, refl, arith}
-use Rattle.vm_superio.specs.Serial.{Port, has_bits, Other, State, is_dlab}
+use Rattle.vm_superio.specs.Serial.{SerialView, has_bits, Other, State, is_dlab}
 use Rattle.superio_script.specs.Driver.{ReadsWhileReady}
 use Rattle.superio_script.proofs.DriverLemmas.{reads_left-few, lcr_read, lsr_read, pass, coherent_after, takes_all}
 use Rattle.superio_script.proofs.driver.drain.Goals as goal
@@ -13,11 +13,11 @@ loop-bytes-init g c =
     let same = c.read.ensures.rest_unchanged (refl {a = Other}) in
     let value = lcr_read c.read.ensures.step in
     record {
-      hidden = ap (λ (port : Port T EV W). is_dlab port.state.line_control) same
+      hidden = ap (λ (port : SerialView T EV W). is_dlab port.state.line_control) same
           ∙ ap (λ byte. has_bits byte 0x80) (sym value) ∙ sym c.shows_latch.ensures ∙ c.if-shows_latch.false;
       room = rw c.new-bytes.ensures (omega (arith, reads_left-few c.read.new.self.state c.read.ensures.at_most_64));
       whole = λ later end h. rw c.new-bytes.ensures
-          (subst (λ (port : Port T EV W). ReadsWhileReady g.T.Trigger.link g.EV.SerialEvents.link g.W.Write.contents later port end) same h);
+          (subst (λ (port : SerialView T EV W). ReadsWhileReady g.T.Trigger.link g.EV.SerialEvents.link g.W.Write.contents later port end) same h);
       trigger = c.read.ensures.trigger;
       out = c.read.ensures.out;
     }
@@ -25,14 +25,14 @@ loop-bytes-init g c =
 pub loop-bytes-smaller : goal.loop-bytes-smaller
 loop-bytes-smaller g c =
     let one = pass c.one_call.ensures.data_ready c.loop-bytes.invariant.hidden c.read-in-loop-bytes.ensures.step
-    (c.read-in-loop-bytes.ensures.rest_unchanged (refl {a = Other})) (sym c.shows_data.ensures ∙ c.loop-bytes-test.true) c.read-in-loop-bytes-2.ensures.step in
+    (c.read-in-loop-bytes.ensures.rest_unchanged (refl {a = Other})) (sym c.has_data_ready.ensures ∙ c.loop-bytes-test.true) c.read-in-loop-bytes-2.ensures.step in
     omega (arith, one.less)
 
 pub loop-bytes-preserved : goal.loop-bytes-preserved
 loop-bytes-preserved g c =
     let before = c.loop-bytes.invariant in
     let one = pass c.one_call.ensures.data_ready c.loop-bytes.invariant.hidden c.read-in-loop-bytes.ensures.step
-    (c.read-in-loop-bytes.ensures.rest_unchanged (refl {a = Other})) (sym c.shows_data.ensures ∙ c.loop-bytes-test.true) c.read-in-loop-bytes-2.ensures.step in
+    (c.read-in-loop-bytes.ensures.rest_unchanged (refl {a = Other})) (sym c.has_data_ready.ensures ∙ c.loop-bytes-test.true) c.read-in-loop-bytes-2.ensures.step in
     record {
       hidden = one.hidden;
       room = omega (arith, before.room, c.push.ensures.len, one.less);
@@ -49,12 +49,12 @@ returns-clause-reads g c = rw (← append-nil c.loop-bytes.bytes.items)
 pub returns-clause-stops_when_not_ready : goal.returns-clause-stops_when_not_ready
 returns-clause-stops_when_not_ready g c = λ hidden.
     let value = lsr_read c.read-in-loop-bytes.ensures.step in
-    ap (λ (port : Port g.row.T.Denot g.row.EV.Denot g.row.W.Denot). has_bits port.state.line_status 0x01) (c.read-in-loop-bytes.ensures.rest_unchanged (refl {a = Other}))
-    ∙ ap (λ byte. has_bits byte 0x01) (sym value) ∙ sym c.shows_data.ensures ∙ c.loop-bytes-test.false
+    ap (λ (port : SerialView g.row.T.Denot g.row.EV.Denot g.row.W.Denot). has_bits port.state.line_status 0x01) (c.read-in-loop-bytes.ensures.rest_unchanged (refl {a = Other}))
+    ∙ ap (λ byte. has_bits byte 0x01) (sym value) ∙ sym c.has_data_ready.ensures ∙ c.loop-bytes-test.false
 
 pub returns-clause-all : goal.returns-clause-all
 returns-clause-all g c = λ is hidden.
-    takes_all g.T.Trigger.link g.EV.SerialEvents.link g.W.Write.contents g.met.EV.SerialEvents.no_event g.met.EV.SerialEvents.joined
+    takes_all g.T.Trigger.link g.EV.SerialEvents.link g.W.Write.contents g.met.EV.SerialEvents.empty g.met.EV.SerialEvents.append
     c.coherence.ensures c.loop-bytes.bytes.items c.args.serial.now c.read-in-loop-bytes.new.self is hidden (returns-clause-reads g c)
     (returns-clause-stops_when_not_ready g c hidden)
 
@@ -67,5 +67,5 @@ returns-clause-no_loss g c = λ is.
 
 pub returns-clause-coherent : goal.returns-clause-coherent
 returns-clause-coherent g c = λ is.
-    coherent_after g.T.Trigger.link g.EV.SerialEvents.link g.W.Write.contents g.met.EV.SerialEvents.no_event g.met.EV.SerialEvents.joined
+    coherent_after g.T.Trigger.link g.EV.SerialEvents.link g.W.Write.contents g.met.EV.SerialEvents.empty g.met.EV.SerialEvents.append
     c.coherence.ensures c.loop-bytes.bytes.items c.args.serial.now c.read-in-loop-bytes.new.self is (returns-clause-reads g c)

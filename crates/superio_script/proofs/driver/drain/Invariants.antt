@@ -1,6 +1,6 @@
 -- What was read so far, and that the reads that are to come make it whole.
 use Rattle.std.proofs.Common.{◌≡◌, ◌≤◌, ◌+◌, ◌++◌, length, false, List, ℕ}
-use Rattle.vm_superio.specs.Serial.{Port, is_dlab}
+use Rattle.vm_superio.specs.Serial.{SerialView, is_dlab}
 use Rattle.superio_script.specs.Driver.{ReadsWhileReady}
 use Rattle.superio_script.proofs.DriverLemmas.{reads_left}
 use Rattle.superio_script.proofs.driver.drain.Given as goal
@@ -14,7 +14,7 @@ invariant-loop-bytes g l =
     record {
       hidden : is_dlab l.serial.state.line_control ≡ false;
       room : length l.bytes.items + reads_left l.serial.state ≤ 64;
-      whole : (later : List ℕ) (end : Port T EV W) → reads later l.serial end → reads (l.bytes.items ++ later) l.fn.serial end;
+      whole : (later : List ℕ) (end : SerialView T EV W) → reads later l.serial end → reads (l.bytes.items ++ later) l.fn.serial end;
       trigger : l.serial.trigger ≡ l.fn.serial.trigger;
       out : l.serial.out ≡ l.fn.serial.out;
     }

@@ -1,6 +1,6 @@
 -- A restore, whether its calls were accepted or one was refused. Without memory it has no reply.
 use Rattle.std.proofs.Common.{◌≡◌, ap, sym, ◌∙◌, subst}
-use Rattle.vm_superio.specs.Serial.{Port, State, restore_calls}
+use Rattle.vm_superio.specs.Serial.{SerialView, State, conditions_due}
 use Rattle.vm_superio.specs.declared.serial.errors.Error.TheVariants.{Memory}
 use Rattle.vm_superio.specs.Saved.{state_of}
 use Rattle.vm_superio.specs.Serial.Step.{RefusesRestore}
@@ -14,15 +14,15 @@ returns-in-Ok-from_state-clause-step c =
     let old = c.args.serial.now in
     let made = c.in-Ok-from_state.ensures in
     let after = c.replace-old.ensures.after in
-    let new = ap (λ (port : Port Line Counts Output). port.trigger) (sym after) in
-    let link = subst (λ (state : State). InterruptLineLink old.trigger (all_ok (restore_calls state)) c.replace-old.new.dest.trigger) c.in-Ok.ensures.saved
-    (subst (λ (new : Line). InterruptLineLink old.trigger (all_ok (restore_calls (state_of c.in-Ok.state))) new) new
-    (subst (λ (l : Line). InterruptLineLink l (all_ok (restore_calls (state_of c.in-Ok.state))) c.in-Ok-from_state.restored.trigger) c.interrupt_evt-line.ensures made.called)) in
+    let new = ap (λ (port : SerialView Line Counts Output). port.trigger) (sym after) in
+    let link = subst (λ (state : State). InterruptLineLink old.trigger (all_ok (conditions_due state)) c.replace-old.new.dest.trigger) c.in-Ok.ensures.saved
+    (subst (λ (new : Line). InterruptLineLink old.trigger (all_ok (conditions_due (state_of c.in-Ok.state))) new) new
+    (subst (λ (l : Line). InterruptLineLink l (all_ok (conditions_due (state_of c.in-Ok.state))) c.in-Ok-from_state.restored.trigger) c.interrupt_evt-line.ensures made.called)) in
     rw c.reply_text.ensures (restore-accepts c.steps_of_history.ensures old _
-    (ap (λ (port : Port Line Counts Output). port.state) after ∙ made.state ∙ c.in-Ok.ensures.saved)
+    (ap (λ (port : SerialView Line Counts Output). port.state) after ∙ made.state ∙ c.in-Ok.ensures.saved)
     link
-    (ap (λ (port : Port Line Counts Output). port.events) after ∙ made.events ∙ c.events-counts.ensures)
-    (c.into_writer.ensures ∙ ap (λ (port : Port Line Counts Output). port.out) c.replace-old.ensures.value))
+    (ap (λ (port : SerialView Line Counts Output). port.events) after ∙ made.events ∙ c.events-counts.ensures)
+    (c.into_writer.ensures ∙ ap (λ (port : SerialView Line Counts Output). port.out) c.replace-old.ensures.value))
 
 pub returns-clause-step : goal.returns-clause-step
 returns-clause-step c =

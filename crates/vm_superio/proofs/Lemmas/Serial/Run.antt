@@ -8,16 +8,16 @@ use Rattle.vm_superio.specs.Serial.Run.Segments.{segments_of, SegmentsAre}
 use Rattle.vm_superio.specs.Serial.Run.HistoryTheorem.{HistoryTheorem, by_history}
 use Rattle.vm_superio.proofs.Lemmas.Serial.Run.Segments.{EntryFollows, EntryFollows-call, by_steps-met, by_history-met, SegmentsAre-run, TakesOutput-all}
 use Rattle.vm_superio.specs.Links.{TriggerAnswer, answers_of, all_ok, RefusesOwnState}
-use Rattle.vm_superio.specs.Links.Writer.{PortLinks, WriterLink}
-use Rattle.vm_superio.specs.Serial.{outcome_of, Asked, Sent, Op, TraceEntry, Response, State, Coherent, Event, Port, sent_by, step, step_events, step_response, is_admissible, restore_calls}
-use Rattle.vm_superio.specs.Serial.Step.{IsPortStep}
-use Rattle.superio_laws.specs.Serial.History.{ResponsesAre, history_response, bytes_read, state_of_history, taken_bytes, restore_calls_due, kind_at, output}
+use Rattle.vm_superio.specs.Links.Writer.{SerialLinks, WriterLink}
+use Rattle.vm_superio.specs.Serial.{outcome_of, Asked, Sent, Op, TraceEntry, Response, State, Coherent, Event, SerialView, sent_by, step, step_events, step_response, answers_fit, conditions_due}
+use Rattle.vm_superio.specs.Serial.Step.{IsSerialStep}
+use Rattle.superio_laws.specs.Serial.History.{ResponsesAre, history_response, bytes_read, state_of_history, read_out_bytes, conditions_due_after, decode_at, output}
 use Rattle.superio_laws.specs.Serial.Laws.{StepsFollow}
 use Rattle.superio_laws.specs.Serial.Laws.Consequences.{op_and_asked, ops_and_asked}
 use Rattle.vm_superio.proofs.Lemmas.{WriterLink-append, known_output_law}
 use Rattle.superio_laws.proofs.Lemmas.Serial.Laws.StepsOfHistory.{whole_run_law, state_law, step_law, call_law}
 use Rattle.superio_laws.proofs.Lemmas.Serial.Laws.Consequences.{trigger_bound_law, waiting_bytes_law}
-use Rattle.superio_laws.proofs.Lemmas.Serial.Laws.{taken_then_held}
+use Rattle.superio_laws.proofs.Lemmas.Serial.Laws.{read_out_then_held}
 use Rattle.superio_laws.proofs.Lemmas.Serial.Laws.Reads.{read_then_held, same_reads_law}
 use Rattle.superio_laws.proofs.Lemmas.Serial.Laws.InterruptDriver.{timeouts_show_law}
 use Rattle.vm_superio.specs.declared.run.Act.TheVariants as act
@@ -25,9 +25,9 @@ use Rattle.superio_core.specs.Serial.Operations as operation
 
 -- a call that was made continues the run
 pub IsRun-step :
-    {T E EV W : Type 0} (links : PortLinks T E EV W)
+    {T E EV W : Type 0} (links : SerialLinks T E EV W)
     (call : Call T EV W) (calls all_calls : List (Call T EV W)) (done : Done T EV W E)
-    (later : List (Done T EV W E)) (old next end : Port T EV W) →
+    (later : List (Done T EV W E)) (old next end : SerialView T EV W) →
     all_calls ≡ call ∷ calls → done.act ≡ act_of call →
     IsCallStep links call done.asked done.sent done.reply old next →
     IsRun links next calls later end → IsRun links old all_calls (done ∷ later) end
@@ -40,8 +40,8 @@ IsRun-step links call calls all_calls done later old next end same act made rest
 op_of-restore : (call : Act) → not (is_restore call) ≡ false → op_of call ≡ operation.Restore
 op_of-restore call is = grind arith
 
-module _ {T E EV W : Type 0} (links : PortLinks T E EV W) where
-  follows : (call : Call T EV W) (done : Done T EV W E) (old next : Port T EV W) → done.act ≡ act_of call
+module _ {T E EV W : Type 0} (links : SerialLinks T E EV W) where
+  follows : (call : Call T EV W) (done : Done T EV W E) (old next : SerialView T EV W) → done.act ≡ act_of call
       → IsCallStep links call done.asked done.sent done.reply old next → EntryFollows links old.state done.act done.asked done.sent done.reply next.state
   follows call done old next act made =
       subst (λ act. EntryFollows links old.state act done.asked done.sent done.reply next.state) (sym act)
@@ -49,14 +49,14 @@ module _ {T E EV W : Type 0} (links : PortLinks T E EV W) where
 
   -- the records of a run follow each other by steps, one for each call
   steps_of_run :
-      (calls : List (Call T EV W)) (records : List (Done T EV W E)) (old end : Port T EV W) → IsRun links old calls records end →
+      (calls : List (Call T EV W)) (records : List (Done T EV W E)) (old end : SerialView T EV W) → IsRun links old calls records end →
       StepsFollow old.state (entries_of records) end.state × RecordsOf calls records
-  steps_of_run [] [] old end run = (ap (λ (port : Port T EV W). port.state) run, tt)
+  steps_of_run [] [] old end run = (ap (λ (port : SerialView T EV W). port.state) run, tt)
   steps_of_run (call ∷ calls) (done ∷ later) old end run =
       let next = run.1.0 in
       let one = follows call done old next run.0 run.1.1 in
       let rest = steps_of_run calls later next end run.1.2 in (
-        (one.admissible, one.response, subst (λ s. StepsFollow s (entries_of later) end.state) one.state rest.0),
+        (one.fits, one.response, subst (λ s. StepsFollow s (entries_of later) end.state) one.state rest.0),
         (run.0, (EntryFollows-call links call done.asked done.sent done.reply old next run.1.1).of, rest.1),
       )
   steps_of_run [] (done ∷ later) old end run = absurd run
@@ -106,29 +106,29 @@ module _ {T E EV W : Type 0} (links : PortLinks T E EV W) where
 -- ---- the history theorem
 
 pub HistoryTheorem-run :
-    {T E EV W : Type 0} (links : PortLinks T E EV W)
-    (no_call : (x y : T) → links.trigger x [] y ↔ (x ≡ y)) (no_event : (x y : EV) → links.events x [] y ↔ (x ≡ y))
+    {T E EV W : Type 0} (links : SerialLinks T E EV W)
+    (trigger_empty : (x y : T) → links.trigger x [] y ↔ (x ≡ y)) (events_empty : (x y : EV) → links.events x [] y ↔ (x ≡ y))
     (calls_joined : (x y z : T) (first second : List (TriggerAnswer E)) → links.trigger x first y → links.trigger y second z → links.trigger x (first ++ second) z)
     (events_joined : (x y z : EV) (first second : List Event) → links.events x first y → links.events y second z → links.events x (first ++ second) z)
-    (start : Port T EV W) (calls : List (Call T EV W)) (records : List (Done T EV W E)) (end : Port T EV W) →
+    (start : SerialView T EV W) (calls : List (Call T EV W)) (records : List (Done T EV W E)) (end : SerialView T EV W) →
     IsRun links start calls records end → Coherent start.state → HistoryTheorem links start calls records end
-HistoryTheorem-run links no_call no_event calls_joined events_joined start calls records end run coherent =
+HistoryTheorem-run links trigger_empty events_empty calls_joined events_joined start calls records end run coherent =
     let s = start.state in
     let trace = trace_of records in
     let steps = steps_of_run links calls records start end run in
     let agrees = whole_run_law s end.state (entries_of records) coherent steps.0 in
     let reads = ReadsAre-run links s [] calls records steps.1 agrees.responses in
-    let objects = SegmentsAre-run links (by_history s) no_call no_event calls_joined events_joined (by_history-met s coherent) start calls records end (state_law s [] coherent) run in
+    let objects = SegmentsAre-run links (by_history s) trigger_empty events_empty calls_joined events_joined (by_history-met s coherent) start calls records end (state_law s [] coherent) run in
     record {
       records_of_calls = steps.1;
       reads = reads;
       responses = agrees.responses;
       read_bytes = ap (λ (port : State). bytes_read s [] (entries_of records) ++ port.in_buffer) agrees.state ∙ read_then_held s (entries_of records) agrees.responses;
-      received_bytes = ap (λ (port : State). taken_bytes s trace ++ port.in_buffer) agrees.state ∙ taken_then_held s trace;
-      trigger_calls = agrees.well_formed;
-      bound = trigger_bound_law s trace agrees.well_formed;
+      received_bytes = ap (λ (port : State). read_out_bytes s trace ++ port.in_buffer) agrees.state ∙ read_out_then_held s trace;
+      trigger_calls = agrees.fitting;
+      bound = trigger_bound_law s trace agrees.fitting;
       waiting = waiting_bytes_law s trace;
-      timeouts = timeouts_show_law s trace agrees.well_formed;
+      timeouts = timeouts_show_law s trace agrees.fitting;
       objects = objects;
       known_output = TakesOutput-all links s (segments_of (by_history s) start calls records end) objects.served;
       reads_alone = ReadsAre-without_restores links s [] [] records refl reads;
@@ -139,11 +139,11 @@ HistoryTheorem-run links no_call no_event calls_joined events_joined start calls
 -- ---- the segments by the steps, from any start
 
 pub SegmentsAre-steps :
-    {T E EV W : Type 0} (links : PortLinks T E EV W)
-    (no_call : (x y : T) → links.trigger x [] y ↔ (x ≡ y)) (no_event : (x y : EV) → links.events x [] y ↔ (x ≡ y))
+    {T E EV W : Type 0} (links : SerialLinks T E EV W)
+    (trigger_empty : (x y : T) → links.trigger x [] y ↔ (x ≡ y)) (events_empty : (x y : EV) → links.events x [] y ↔ (x ≡ y))
     (calls_joined : (x y z : T) (first second : List (TriggerAnswer E)) → links.trigger x first y → links.trigger y second z → links.trigger x (first ++ second) z)
     (events_joined : (x y z : EV) (first second : List Event) → links.events x first y → links.events y second z → links.events x (first ++ second) z)
-    (start : Port T EV W) (calls : List (Call T EV W)) (records : List (Done T EV W E)) (end : Port T EV W) →
+    (start : SerialView T EV W) (calls : List (Call T EV W)) (records : List (Done T EV W E)) (end : SerialView T EV W) →
     IsRun links start calls records end → SegmentsAre links (by_steps start.state) start calls records end
-SegmentsAre-steps links no_call no_event calls_joined events_joined start calls records end run =
-    SegmentsAre-run links (by_steps start.state) no_call no_event calls_joined events_joined (by_steps-met start.state) start calls records end refl run
+SegmentsAre-steps links trigger_empty events_empty calls_joined events_joined start calls records end run =
+    SegmentsAre-run links (by_steps start.state) trigger_empty events_empty calls_joined events_joined (by_steps-met start.state) start calls records end refl run

@@ -2,13 +2,13 @@
 use Rattle.std.proofs.Common.{◌≡◌, ℕ, Bool, true, false, ◌&&◌, List, [], refl, ap, sym, ◌∙◌, subst, IsTrue, Option, ◌↔◌, Result, Ok, Err, OnOk, ◌-◌, ◌<◌, min, ◌||◌, ◌==◌, ◌++◌, length, take, arith, Some, IfErr, nat_le, not, ◌∷◌, length-append, if◌then◌else◌, leb-true}
 use Rattle.std.specs.Bool.{beq}
 use Rattle.std.proofs.lemmas.List.{length-take, take_min}
-use Rattle.vm_superio.specs.Serial.{Coherent, is_line_up, Error, Port, write_response, enqueue_response, timeout_response, failure_response, refusal_in_result, Trigger, IOError, FullFifo, Memory, Asked, Sent, Op, Response, Write, Enqueue, CharacterTimeout, is_sent, is_lost, ends_in_refusal, WriteOk, TriggerRefused, WriterFailed, sent_by, write_kind, EnqueueOk, TimeoutOk, FifoFull, OutOfMemory, is_refused_at_once, has_bits, State, not_empty, SameSettings, Register, register_at, is_dlab, is_loopback, receive_bytes, bytes_that_fit, enqueued_bytes, step_calls, kind_in_state, answers_all, sends_byte, step, write_step, bytes_sent, outcome_of}
+use Rattle.vm_superio.specs.Serial.{Coherent, irq_level, Error, SerialView, write_response, enqueue_response, timeout_response, failure_response, refusal_in_result, Trigger, IOError, FullFifo, Memory, Asked, Sent, Op, Response, Write, Enqueue, CharacterTimeout, is_sent, is_lost, ends_in_refusal, WriteOk, TriggerRefused, WriterFailed, sent_by, decode_write, EnqueueOk, TimeoutOk, FifoFull, OutOfMemory, is_refused_at_once, has_bits, State, not_empty, SameSettings, Register, register_at, is_dlab, is_loopback, receive_bytes, bytes_that_fit, enqueued_bytes, step_calls, decode_in, answers_all, sends_byte, step, write_step, bytes_sent, outcome_of}
 use Rattle.std.specs.Io.KnownBytes.{Appends}
 use Rattle.std.specs.List.{list_all}
 use Rattle.vm_superio.specs.Links.{Contents, answers_of}
-use Rattle.vm_superio.specs.Links.Writer.{PortLinks, WriterLink}
+use Rattle.vm_superio.specs.Links.Writer.{SerialLinks, WriterLink}
 use Rattle.vm_superio.proofs.Lemmas.{known_output_law}
-use Rattle.vm_superio.specs.Serial.Step.{IsPortStep, ShowsMore, WriteFate, EnqueueFate, TimeoutFate}
+use Rattle.vm_superio.specs.Serial.Step.{IsSerialStep, ShowsMore, WriteFate, EnqueueFate, TimeoutFate}
 use Rattle.superio_laws.proofs.Lemmas.Serial.Laws.OneCall.{received_bytes}
 use Rattle.vm_superio.proofs.Lemmas.Serial.{length-answers_of-step}
 use Rattle.std.proofs.lemmas.Bool.{and_parts, false≢true}
@@ -23,20 +23,20 @@ settings_kept bytes s = grind arith
 
 -- ---- a call that leaves IER 0 calls no trigger: a call of it would leave the line up
 
-line_down : (s : State) → s.interrupt_enable ≡ 0 → is_line_up s ≡ false
+line_down : (s : State) → s.interrupt_enable ≡ 0 → irq_level s ≡ false
 unfolding has_bits
 line_down s off = grind arith
 
-unasked : {E : Type 0} (asked : Asked) (refusal : Option E) → (IsTrue (is_called asked) → ⊥) → answers_of asked refusal ≡ []
-unasked asked refusal silent = grind arith
+not_called : {E : Type 0} (asked : Asked) (refusal : Option E) → (IsTrue (is_called asked) → ⊥) → answers_of asked refusal ≡ []
+not_called asked refusal silent = grind arith
 
-pub quiet : {T E EV W : Type 0} {links : PortLinks T E EV W} {op : Op} {asked : Asked} {sent : Sent} {reply : Response}
-    {refusal : Option E} {old new : Port T EV W} → IsPortStep links op asked sent reply refusal old new
+pub quiet : {T E EV W : Type 0} {links : SerialLinks T E EV W} {op : Op} {asked : Asked} {sent : Sent} {reply : Response}
+    {refusal : Option E} {old new : SerialView T EV W} → IsSerialStep links op asked sent reply refusal old new
     → ((x y : T) → links.trigger x [] y ↔ (x ≡ y)) → new.state.interrupt_enable ≡ 0 → new.trigger ≡ old.trigger
-quiet {links = links} {op = op} {asked = asked} {sent = sent} {refusal = refusal} {old = old} {new = new} made no_call off =
+quiet {links = links} {op = op} {asked = asked} {sent = sent} {refusal = refusal} {old = old} {new = new} made empty off =
     let down = line_down (step old.state op asked) (ap (λ (s : State). s.interrupt_enable) (sym made.state) ∙ off) in
-    let none = unasked asked refusal (λ called. false≢true (sym down ∙ up_after_call old.state op asked sent made.admissible called)) in
-    sym ((no_call _ _).0 (subst (λ answers. links.trigger old.trigger answers new.trigger) none made.trigger))
+    let none = not_called asked refusal (λ called. false≢true (sym down ∙ up_after_call old.state op asked sent made.fits called)) in
+    sym ((empty _ _).0 (subst (λ answers. links.trigger old.trigger answers new.trigger) none made.trigger))
 
 -- a call that sends no byte leaves the writer
 unsent : (answered sends : Bool) (sent : Sent) → sends ≡ false → IsTrue (answered && beq (is_sent sent) sends)
@@ -47,11 +47,11 @@ unchanged : {W : Type 0} (contents : Contents W) (bytes : List ℕ) (old new : W
 unchanged contents [] old new link = sym link
 unchanged contents (byte ∷ bytes) old new link = absurd link
 
-pub silent : {T E EV W : Type 0} {links : PortLinks T E EV W} {op : Op} {asked : Asked} {sent : Sent} {reply : Response}
-    {refusal : Option E} {old new : Port T EV W} → IsPortStep links op asked sent reply refusal old new
+pub silent : {T E EV W : Type 0} {links : SerialLinks T E EV W} {op : Op} {asked : Asked} {sent : Sent} {reply : Response}
+    {refusal : Option E} {old new : SerialView T EV W} → IsSerialStep links op asked sent reply refusal old new
     → sends_byte old.state op ≡ false → new.out ≡ old.out
 silent {links = links} {op = op} {asked = asked} {sent = sent} {old = old} {new = new} made none =
-    let nothing = unsent (answers_all (step_calls old.state op) asked) (sends_byte old.state op) sent none made.admissible in
+    let nothing = unsent (answers_all (step_calls old.state op) asked) (sends_byte old.state op) sent none made.fits in
     unchanged links.contents (bytes_sent op sent) old.out new.out
     (subst (λ outcome. WriterLink links.contents (outcome_of outcome) (bytes_sent op sent) old.out new.out) nothing made.out)
 
@@ -64,22 +64,22 @@ none_lost : (sent : Sent) → is_lost sent ≡ false → IsTrue (list_all (λ ou
 none_lost sent kept = grind arith
 
 -- so a write that returns `Ok` means that the writer took what it sends
-pub sends : {T E EV W : Type 0} {links : PortLinks T E EV W} {offset value : ℕ} {asked : Asked} {sent : Sent}
-    {refusal : Option E} {old new : Port T EV W} (result : Result (Unit {0}) (Error E))
-    → IsPortStep links (Write offset value) asked sent (write_response result) refusal old new
-    → OnOk result (Appends (links.contents old.out) (links.contents new.out) (sent_by (kind_in_state old.state (Write offset value))))
+pub sends : {T E EV W : Type 0} {links : SerialLinks T E EV W} {offset value : ℕ} {asked : Asked} {sent : Sent}
+    {refusal : Option E} {old new : SerialView T EV W} (result : Result (Unit {0}) (Error E))
+    → IsSerialStep links (Write offset value) asked sent (write_response result) refusal old new
+    → OnOk result (Appends (links.contents old.out) (links.contents new.out) (sent_by (decode_in old.state (Write offset value))))
 sends (Err error) made = tt
 sends {links = links} {offset = offset} {value = value} {asked = asked} {sent = sent} {old = old} {new = new} (Ok done) made =
     let s = old.state in
-    let outcome = (and_parts (answers_all (step_calls s (Write offset value)) asked) _ made.admissible).1 in
+    let outcome = (and_parts (answers_all (step_calls s (Write offset value)) asked) _ made.fits).1 in
     subst (Appends (links.contents old.out) (links.contents new.out))
     (call_written (is_dlab s.line_control) (is_loopback s.modem_control) (Write offset value) sent outcome)
     (known_output_law links.contents old.out new.out (outcome_of sent) (bytes_sent (Write offset value) sent) made.out
     (none_lost sent (kept_by_ok (ends_in_refusal asked) sent made.response)))
 
 -- a step keeps a coherent state coherent
-pub keeps_coherent : {T E EV W : Type 0} {links : PortLinks T E EV W} {op : Op} {asked : Asked} {sent : Sent} {reply : Response}
-    {refusal : Option E} {old new : Port T EV W} → IsPortStep links op asked sent reply refusal old new
+pub keeps_coherent : {T E EV W : Type 0} {links : SerialLinks T E EV W} {op : Op} {asked : Asked} {sent : Sent} {reply : Response}
+    {refusal : Option E} {old new : SerialView T EV W} → IsSerialStep links op asked sent reply refusal old new
     → Coherent old.state → Coherent new.state
 keeps_coherent {op = op} {asked = asked} {old = old} made before = rw made.state (coherence_law old.state op asked before)
 
@@ -90,8 +90,8 @@ answers-some : {E : Type 0} (asked : Asked) (refusal : E) → true ≡ ends_in_r
 answers-some asked refusal ends = grind arith
 
 -- there is a call for each bit that turns on
-shows_more : {T E EV W : Type 0} {links : PortLinks T E EV W} {op : Op} {asked : Asked} {sent : Sent} {reply : Response}
-    {refusal : E} {old new : Port T EV W} → IsPortStep links op asked sent reply (Some refusal) old new
+shows_more : {T E EV W : Type 0} {links : SerialLinks T E EV W} {op : Op} {asked : Asked} {sent : Sent} {reply : Response}
+    {refusal : E} {old new : SerialView T EV W} → IsSerialStep links op asked sent reply (Some refusal) old new
     → ShowsMore old.state new.state
 shows_more {asked = asked} {refusal = refusal} made =
     subst (λ count. 0 < count) (length-answers_of-step made) (answers-some asked refusal made.refused)
@@ -106,7 +106,7 @@ sends-lost answered sends refused sent failed made = grind arith
 
 -- a write that sends a byte changes the registers alike whatever the trigger answers
 sends-alike : (register : Register) (inside : Bool) (value : ℕ) (asked : Asked) (s : State)
-    → IsTrue (not_empty (sent_by (write_kind register inside value))) → write_step register value asked s ≡ write_step register value Asked.Nothing s
+    → IsTrue (not_empty (sent_by (decode_write register inside value))) → write_step register value asked s ≡ write_step register value Asked.Nothing s
 sends-alike register inside value asked s sends = grind arith
 
 never-full : (refused lost : Bool) → FifoFull ≡ (if refused then TriggerRefused else (if lost then WriterFailed else WriteOk)) → ⊥
@@ -115,15 +115,15 @@ never-full refused lost is = grind arith
 never-memory : (refused lost : Bool) → OutOfMemory ≡ (if refused then TriggerRefused else (if lost then WriterFailed else WriteOk)) → ⊥
 never-memory refused lost is = grind arith
 
-pub write_fate : {T E EV W : Type 0} {links : PortLinks T E EV W} {offset value : ℕ} {asked : Asked} {sent : Sent}
-    {old new : Port T EV W} (result : Result (Unit {0}) (Error E))
-    → IsPortStep links (Write offset value) asked sent (write_response result) (refusal_in_result result) old new
+pub write_fate : {T E EV W : Type 0} {links : SerialLinks T E EV W} {offset value : ℕ} {asked : Asked} {sent : Sent}
+    {old new : SerialView T EV W} (result : Result (Unit {0}) (Error E))
+    → IsSerialStep links (Write offset value) asked sent (write_response result) (refusal_in_result result) old new
     → IfErr result (λ error. WriteFate offset value error old.state new.state)
 write_fate (Ok done) made = tt
 write_fate (Err (Trigger refusal)) made = shows_more made
 write_fate {offset = offset} {value = value} {asked = asked} {sent = sent} {old = old} (Err (IOError fault)) made =
     let s = old.state in
-    let sends = sends-lost _ (sends_byte s (Write offset value)) (ends_in_refusal asked) sent made.response made.admissible in
+    let sends = sends-lost _ (sends_byte s (Write offset value)) (ends_in_refusal asked) sent made.response made.fits in
     (sends, made.state ∙ sends-alike (register_at (is_dlab s.line_control) offset) (is_loopback s.modem_control) value asked s sends)
 write_fate {asked = asked} {sent = sent} (Err FullFifo) made = never-full (ends_in_refusal asked) (is_lost sent) made.response
 write_fate {asked = asked} {sent = sent} (Err Memory) made = never-memory (ends_in_refusal asked) (is_lost sent) made.response
@@ -169,9 +169,9 @@ never-output none full refused count is = grind arith
 never-allocates : (none full refused : Bool) (count : ℕ) → OutOfMemory ≡ replied none full refused count → ⊥
 never-allocates none full refused count is = grind arith
 
-pub enqueue_fate : {T E EV W : Type 0} {links : PortLinks T E EV W} {input : List ℕ} {asked : Asked} {sent : Sent}
-    {old new : Port T EV W} (result : Result ℕ (Error E))
-    → IsPortStep links (Enqueue input) asked sent (enqueue_response result) (refusal_in_result result) old new
+pub enqueue_fate : {T E EV W : Type 0} {links : SerialLinks T E EV W} {input : List ℕ} {asked : Asked} {sent : Sent}
+    {old new : SerialView T EV W} (result : Result ℕ (Error E))
+    → IsSerialStep links (Enqueue input) asked sent (enqueue_response result) (refusal_in_result result) old new
     → IfErr result (λ error. EnqueueFate input error old.state new.state)
 enqueue_fate (Ok done) made = tt
 enqueue_fate {input = input} {old = old} {new = new} (Err (Trigger refusal)) made = (
@@ -196,9 +196,9 @@ only-refused : {E : Type 0} (refused : Bool) (error : Error E)
     → failure_response error ≡ (if refused then TriggerRefused else TimeoutOk) → failure_response error ≡ TriggerRefused
 only-refused refused error is = grind arith
 
-pub timeout_fate : {T E EV W : Type 0} {links : PortLinks T E EV W} {asked : Asked} {sent : Sent}
-    {old new : Port T EV W} (result : Result (Unit {0}) (Error E))
-    → IsPortStep links CharacterTimeout asked sent (timeout_response result) (refusal_in_result result) old new
+pub timeout_fate : {T E EV W : Type 0} {links : SerialLinks T E EV W} {asked : Asked} {sent : Sent}
+    {old new : SerialView T EV W} (result : Result (Unit {0}) (Error E))
+    → IsSerialStep links CharacterTimeout asked sent (timeout_response result) (refusal_in_result result) old new
     → IfErr result (λ error. TimeoutFate error old.state new.state)
 timeout_fate (Ok done) made = tt
 timeout_fate (Err (Trigger refusal)) made = shows_more made

@@ -1,7 +1,7 @@
 -- A call that was made goes from the run that is left to the run so far. From a coherent start it is a history.
 use Rattle.std.proofs.Common.{◌∷◌, refl, append_assoc, append-nil, arith, []}
 use Rattle.std.proofs.lemmas.List.{nil_from_length}
-use Rattle.vm_superio.specs.Links.Writer.{port_links}
+use Rattle.vm_superio.specs.Links.Writer.{serial_links}
 use Rattle.vm_superio.proofs.Lemmas.Serial.Kept.{run-bound}
 use Rattle.vm_superio.proofs.Lemmas.Serial.Run.{IsRun-step, HistoryTheorem-run, SegmentsAre-steps}
 use Rattle.vm_superio.proofs.run.run.Goals as goal
@@ -20,7 +20,7 @@ loop-call-preserved g c =
     record {
       room = omega (arith, before.room, c.push_reserved.ensures.len, c.push_reserved.ensures.capacity, c.in-Some.ensures.cases);
       whole = λ later end h.
-          let step = IsRun-step (port_links g.T.Trigger.link g.EV.SerialEvents.link g.W.Write.contents) c.in-Some.call c.pop_front.new.self.items
+          let step = IsRun-step (serial_links g.T.Trigger.link g.EV.SerialEvents.link g.W.Write.contents) c.in-Some.call c.pop_front.new.self.items
           c.loop-call.calls.items done later _ next end c.in-Some.ensures.items c.make.ensures.act c.make.ensures.made h in
           rw (c.push_reserved.ensures.items, append_assoc) (before.whole (done ∷ later) end step);
     }
@@ -33,17 +33,17 @@ returns-clause-run g c =
 
 pub returns-clause-bound : goal.returns-clause-bound
 returns-clause-bound g c =
-    run-bound (port_links g.T.Trigger.link g.EV.SerialEvents.link g.W.Write.contents)
+    run-bound (serial_links g.T.Trigger.link g.EV.SerialEvents.link g.W.Write.contents)
     c.args.calls.items c.loop-call.done.items _ _ (returns-clause-run g c)
 
 pub returns-clause-history : goal.returns-clause-history
 returns-clause-history g c =
-    HistoryTheorem-run (port_links g.T.Trigger.link g.EV.SerialEvents.link g.W.Write.contents)
-    g.met.T.Trigger.no_call g.met.EV.SerialEvents.no_event g.met.T.Trigger.joined g.met.EV.SerialEvents.joined
+    HistoryTheorem-run (serial_links g.T.Trigger.link g.EV.SerialEvents.link g.W.Write.contents)
+    g.met.T.Trigger.empty g.met.EV.SerialEvents.empty g.met.T.Trigger.append g.met.EV.SerialEvents.append
     _ c.args.calls.items c.loop-call.done.items _ (returns-clause-run g c)
 
 pub returns-clause-segments : goal.returns-clause-segments
 returns-clause-segments g c =
-    SegmentsAre-steps (port_links g.T.Trigger.link g.EV.SerialEvents.link g.W.Write.contents)
-    g.met.T.Trigger.no_call g.met.EV.SerialEvents.no_event g.met.T.Trigger.joined g.met.EV.SerialEvents.joined
+    SegmentsAre-steps (serial_links g.T.Trigger.link g.EV.SerialEvents.link g.W.Write.contents)
+    g.met.T.Trigger.empty g.met.EV.SerialEvents.empty g.met.T.Trigger.append g.met.EV.SerialEvents.append
     _ c.args.calls.items c.loop-call.done.items _ (returns-clause-run g c)

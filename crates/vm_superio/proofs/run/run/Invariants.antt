@@ -1,7 +1,7 @@
 -- What continues the run so far makes the whole run. The calls that are left get fewer.
 use Rattle.std.proofs.Common.{◌≤◌, ◌+◌, List, ◌++◌, vec_len, vec_capacity, deque_len}
-use Rattle.vm_superio.specs.Serial.{Port}
-use Rattle.vm_superio.specs.Links.Writer.{port_links}
+use Rattle.vm_superio.specs.Serial.{SerialView}
+use Rattle.vm_superio.specs.Links.Writer.{serial_links}
 use Rattle.vm_superio.specs.Serial.Run.Steps.{IsRun}
 use Rattle.vm_superio.specs.declared.run.Done.{Done}
 use Rattle.vm_superio.proofs.run.run.Given as goal
@@ -12,10 +12,10 @@ invariant-loop-call g l =
     let E = g.row.T-E.Denot in
     let EV = g.row.EV.Denot in
     let W = g.row.W.Denot in
-    let is_run = IsRun (port_links g.T.Trigger.link g.EV.SerialEvents.link g.W.Write.contents) in
+    let is_run = IsRun (serial_links g.T.Trigger.link g.EV.SerialEvents.link g.W.Write.contents) in
     record {
       room : vec_len l.done + deque_len l.calls ≤ vec_capacity l.done;
-      whole : (later : List (Done T EV W E)) (end : Port T EV W) → is_run l.serial l.calls.items later end →
+      whole : (later : List (Done T EV W E)) (end : SerialView T EV W) → is_run l.serial l.calls.items later end →
           is_run l.initial.serial l.fn.calls.items (l.done.items ++ later) end;
     }
 

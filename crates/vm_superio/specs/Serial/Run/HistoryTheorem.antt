@@ -3,9 +3,9 @@
 -- records say which restores succeed. One can fail for want of memory; the old objects then have the calls after it.
 use Rattle.std.specs.Prelude.{◌≡◌, List, [], ◌++◌, IsTrue}
 use Rattle.std.specs.List.{AllByRecursion}
-use Rattle.vm_superio.specs.Serial.{Port, State, TraceEntry, Trace, Coherent, sent_by}
-use Rattle.vm_superio.specs.Links.Writer.{PortLinks}
-use Rattle.superio_laws.specs.Serial.History.{ResponsesAre, bytes_read, state_of_history, restore_calls_due, history_events, kind_at, is_well_formed, IsWithinBound, WaitingBytesShow, TimeoutsShow, taken_bytes, accepted_bytes}
+use Rattle.vm_superio.specs.Serial.{SerialView, State, TraceEntry, Trace, Coherent, sent_by}
+use Rattle.vm_superio.specs.Links.Writer.{SerialLinks}
+use Rattle.superio_laws.specs.Serial.History.{ResponsesAre, bytes_read, state_of_history, conditions_due_after, history_events, decode_at, is_fitting, IsWithinBound, RdaCoversWaitingBytes, RdaFollowsTimeouts, read_out_bytes, accepted_bytes}
 use Rattle.vm_superio.specs.Serial.Run.{Call, Done, RecordsOf, entries_of, trace_of, without_restores, ReadsAre}
 use Rattle.vm_superio.specs.Serial.Run.Segments.{Account, segments_of, TakesOutput, SegmentsAre}
 
@@ -13,15 +13,15 @@ use Rattle.vm_superio.specs.Serial.Run.Segments.{Account, segments_of, TakesOutp
 abbrev pub by_history : (start : State) → Account
 by_history start = record {
   state = state_of_history start;
-  due = restore_calls_due start;
+  due = conditions_due_after start;
   events = history_events start;
-  bytes = λ (trace : Trace) (entry : TraceEntry). sent_by (kind_at start trace entry.op);
+  bytes = λ (trace : Trace) (entry : TraceEntry). sent_by (decode_at start trace entry.op);
 }
 
 -- a run of these calls with these records, from a port to a port
 pub record HistoryTheorem
-    {T E EV W : Type 0} (links : PortLinks T E EV W) (start : Port T EV W) (calls : List (Call T EV W))
-    (records : List (Done T EV W E)) (end : Port T EV W) : Type 0 where
+    {T E EV W : Type 0} (links : SerialLinks T E EV W) (start : SerialView T EV W) (calls : List (Call T EV W))
+    (records : List (Done T EV W E)) (end : SerialView T EV W) : Type 0 where
   -- there is a record of each call
   pub records_of_calls : RecordsOf calls records
   -- every byte that a guest reads is a function of the start, the earlier calls and the trigger's answers
@@ -34,15 +34,15 @@ pub record HistoryTheorem
       ≡ start.state.in_buffer ++ accepted_bytes start.state (trace_of records)
   -- the bytes taken, then those held, are that list too
   pub received_bytes :
-      taken_bytes start.state (trace_of records) ++ end.state.in_buffer
+      read_out_bytes start.state (trace_of records) ++ end.state.in_buffer
       ≡ start.state.in_buffer ++ accepted_bytes start.state (trace_of records)
   -- each trigger call outside restores is one condition that becomes pending; their number is bounded; and RDA is
   -- pending while bytes are held and enabled, from an accepted byte or an IER write until IIR or RBR is read
-  pub trigger_calls : IsTrue (is_well_formed start.state (trace_of records))
+  pub trigger_calls : IsTrue (is_fitting start.state (trace_of records))
   pub bound : IsWithinBound start.state (trace_of records)
-  pub waiting : WaitingBytesShow start.state (trace_of records)
+  pub waiting : RdaCoversWaitingBytes start.state (trace_of records)
   -- a character timeout makes RDA pending while bytes are held and enabled, and calls the trigger once for it
-  pub timeouts : TimeoutsShow start.state (trace_of records)
+  pub timeouts : RdaFollowsTimeouts start.state (trace_of records)
   -- each object of a segment had the calls that the history says, in order, and no other; the trigger of a restore
   -- first those that are due. The old port comes back in its state. A refused restore hands back its own objects
   pub objects : SegmentsAre links (by_history start.state) start calls records end

@@ -5,9 +5,9 @@
 use Rattle.std.specs.Prelude.{◌≡◌, not, ℕ, Bool, true, false, if◌then◌else◌, List, [], ◌∷◌, ◌++◌, flat_map, ⊤, IsTrue}
 use Rattle.std.specs.List.{list_all, AllByRecursion}
 use Rattle.std.specs.Io.KnownBytes.{Appends}
-use Rattle.vm_superio.specs.Serial.{Port, State, Condition, Event, TraceEntry, Trace, Sent, is_lost, outcome_of, trace_after}
+use Rattle.vm_superio.specs.Serial.{SerialView, State, Condition, Event, TraceEntry, Trace, Sent, is_lost, outcome_of, trace_after}
 use Rattle.vm_superio.specs.Links.{TriggerAnswer, answers_of, all_ok, RefusesOwnState}
-use Rattle.vm_superio.specs.Links.Writer.{PortLinks, WriterLink}
+use Rattle.vm_superio.specs.Links.Writer.{SerialLinks, WriterLink}
 use Rattle.superio_laws.specs.Serial.History.{output}
 use Rattle.vm_superio.specs.Serial.Run.{Call, Reply, Restored, NotRestored, Done, entry_of, entries_of, trace_of, refusal_in_reply}
 
@@ -28,7 +28,7 @@ pub record Segment (T E EV W : Type 0) : Type 0 where
   pub out : W
   pub restoring : List (TriggerAnswer E)
   pub records : List (Done T EV W E)
-  pub end : Port T EV W
+  pub end : SerialView T EV W
 
 -- ---- the segments of a run
 
@@ -44,11 +44,11 @@ module _ {T E EV W : Type 0} where
   records_in (done ∷ later) = if is_restored done.reply then [] else done ∷ records_in later
 
   -- the port at its end: the old port that this restore hands back, or the port at the end of the run
-  abbrev pub old_port_or : (reply : Reply T EV W E) (end : Port T EV W) → Port T EV W
+  abbrev pub old_port_or : (reply : Reply T EV W E) (end : SerialView T EV W) → SerialView T EV W
   old_port_or (Restored old) end = old
   old_port_or _ end = end
 
-  abbrev pub end_of : (records : List (Done T EV W E)) (end : Port T EV W) → Port T EV W
+  abbrev pub end_of : (records : List (Done T EV W E)) (end : SerialView T EV W) → SerialView T EV W
   end_of [] end = end
   end_of (done ∷ later) end = old_port_or done.reply (end_of later end)
 
@@ -56,7 +56,7 @@ module _ {T E EV W : Type 0} where
     -- a restore that succeeds begins a segment with its own objects. Its trigger took one call for each condition due
     abbrev pub segment_begun :
         (trace : Trace) (call : Call T EV W) (reply : Reply T EV W E) (entry : TraceEntry)
-        (later : List (Done T EV W E)) (end : Port T EV W) → List (Segment T E EV W)
+        (later : List (Done T EV W E)) (end : SerialView T EV W) → List (Segment T E EV W)
     segment_begun trace (Call.Restore trigger events out) (Restored old) entry later end = record {
       before = entry ∷ trace;
       trigger = trigger;
@@ -69,7 +69,7 @@ module _ {T E EV W : Type 0} where
     segment_begun trace call reply entry later end = []
 
     abbrev pub segments_begun :
-        (trace : Trace) (calls : List (Call T EV W)) (records : List (Done T EV W E)) (end : Port T EV W)
+        (trace : Trace) (calls : List (Call T EV W)) (records : List (Done T EV W E)) (end : SerialView T EV W)
         → List (Segment T E EV W)
     segments_begun trace (call ∷ calls) (done ∷ later) end =
         segment_begun trace call done.reply (entry_of done) later end
@@ -78,7 +78,7 @@ module _ {T E EV W : Type 0} where
 
     -- the first segment of a run begins with the port as it is
     abbrev pub segments_of :
-        (start : Port T EV W) (calls : List (Call T EV W)) (records : List (Done T EV W E)) (end : Port T EV W)
+        (start : SerialView T EV W) (calls : List (Call T EV W)) (records : List (Done T EV W E)) (end : SerialView T EV W)
         → List (Segment T E EV W)
     segments_of start calls records end = record {
       before = [];
@@ -107,7 +107,7 @@ module _ {T E EV W : Type 0} where
   in_order adds trace [] = []
   in_order adds trace (done ∷ later) = adds trace (entry_of done) ++ in_order adds (entry_of done ∷ trace) later
 
-module _ {T E EV W : Type 0} (links : PortLinks T E EV W) where
+module _ {T E EV W : Type 0} (links : SerialLinks T E EV W) where
   -- each object of a segment had these calls and no other, in order: the trigger first those of the restore, after
   -- which it is `made`. The port at the end of the segment has the state of that point, also if a restore hands it back
   pub record IsServed (account : Account) (segment : Segment T E EV W) : Type 0 where
@@ -149,7 +149,7 @@ module _ {T E EV W : Type 0} (links : PortLinks T E EV W) where
   -- ---- a run by its segments
 
   pub record SegmentsAre
-      (account : Account) (start : Port T EV W) (calls : List (Call T EV W)) (records : List (Done T EV W E))
-      (end : Port T EV W) : Type 0 where
+      (account : Account) (start : SerialView T EV W) (calls : List (Call T EV W)) (records : List (Done T EV W E))
+      (end : SerialView T EV W) : Type 0 where
     pub served : AllByRecursion (IsServed account) (segments_of account start calls records end)
     pub refused : RefusalsAre account [] calls records

@@ -3,11 +3,11 @@ use Rattle.std.proofs.Common.{◌≡◌, ℕ, ◌<◌, ◌≤◌, ◌+◌, ◌-�
 use Rattle.std.proofs.lemmas.Bool.{and_parts, false≢true}
 use Rattle.std.proofs.lemmas.List.{take-append-drop}
 use Rattle.std.specs.Bool.{IsFalse}
-use Rattle.superio_laws.specs.Serial.{Rda, Thre, Condition, State, not_empty, TraceEntry, Trace, count_if, OpKind, IirRead, IerWrite, ThrWrite, sent_by, has_bits, ier_bit}
-use Rattle.superio_laws.specs.Serial.History.{kind_at, interrupt_enable, held_bytes, accepted_bytes, taken_bytes, accepted_by, taken_by, acknowledges, is_raised, is_pending, NoneAcknowledges, shows_waiting_bytes}
+use Rattle.superio_laws.specs.Serial.{Rda, Thre, Condition, State, not_empty, TraceEntry, Trace, count_if, DecodedOp, IirRead, IerWrite, ThrWrite, sent_by, has_bits, ier_bit}
+use Rattle.superio_laws.specs.Serial.History.{decode_at, ier_after, held_bytes, accepted_bytes, read_out_bytes, accepted_by, read_out_by, acknowledges, is_raised, is_pending, NoneAcknowledges, covers_waiting_bytes}
 use Rattle.superio_laws.specs.Serial.Laws.Line.{timeout_entry}
-use Rattle.superio_laws.specs.Serial.Laws.Console.{Driver, given, sent, left, has_to_send, EnablesThre, SendsEnabled, AsksWhenGiven, SendsOne, Rests, EndsAtNone, EndsInTurn, IsAskedFor, AskedToTakeLaw, AskedToSendLaw, AreConsoleRuns, after_runs, is_free, free_runs, TakenInRunsLaw, SentInRunsLaw, TakesUntilNone, TakesMost, HandlerRunLaw, HandlerEndsLaw}
-use Rattle.superio_laws.proofs.Lemmas.Serial.Laws.{taken_then_held}
+use Rattle.superio_laws.specs.Serial.Laws.Console.{Driver, given, sent, left, has_to_send, EnablesThre, SendsEnabled, AsksWhenGiven, SendsOne, Rests, EndsAtNone, EndsInTurn, IsAskedFor, InterruptToReadLaw, InterruptToSendLaw, AreConsoleRuns, after_runs, is_free, free_runs, ReadOutInPassesLaw, SentInPassesLaw, TakesUntilNone, TakesMost, HandlerRunLaw, HandlerEndsLaw}
+use Rattle.superio_laws.proofs.Lemmas.Serial.Laws.{read_out_then_held}
 use Rattle.superio_laws.proofs.Lemmas.Serial.Laws.Consequences.{none_more, nowhere, waiting_bytes_law}
 use Rattle.superio_laws.proofs.Lemmas.Serial.Laws.InterruptDriver.{Begins, begins_then, begins_first, all_bytes, some_held, taken_grows, accepted_grows, longer, counted, all_grow, enough_next}
 use Rattle.superio_laws.proofs.Lemmas.Serial.Laws.Transmit.{ier_raises, thr_raises, raised_stays, retried_law, called_since_law}
@@ -21,11 +21,11 @@ within later middle before entry first rest place =
     ∙ sym (append_assoc later first (entry ∷ rest ++ before))
 
 -- what holds of all entries holds of some in the middle
-none_within : (start : State) (acknowledges : OpKind → Bool) (newest later middle earlier before : Trace)
+none_within : (start : State) (acknowledges : DecodedOp → Bool) (newest later middle earlier before : Trace)
     → newest ≡ later ++ (middle ++ earlier) → NoneAcknowledges start acknowledges newest before
     → NoneAcknowledges start acknowledges middle (earlier ++ before)
 none_within start acknowledges newest later middle earlier before whole none first rest entry place =
-    subst (λ (trace : Trace). IsFalse (acknowledges (kind_at start trace entry.op))) (append_assoc rest earlier before)
+    subst (λ (trace : Trace). IsFalse (acknowledges (decode_at start trace entry.op))) (append_assoc rest earlier before)
     (none (later ++ first) (rest ++ earlier) entry (whole ∙ within later middle earlier entry first rest place))
 
 asks_within : (driver : Driver) (start : State) (newest later middle earlier before : Trace)
@@ -36,13 +36,13 @@ asks_within driver start newest later middle earlier before whole asks first res
     → IsTrue (has_to_send driver start trace) ⊎ EnablesThre start trace entry ⊎ SendsEnabled start trace entry) (append_assoc rest earlier before)
     (asks (later ++ first) (rest ++ earlier) entry (whole ∙ within later middle earlier entry first rest place))
 
-not_iir : (kind : OpKind) → IsFalse (acknowledges Rda kind) → IsFalse (acknowledges Thre kind)
+not_iir : (kind : DecodedOp) → IsFalse (acknowledges Rda kind) → IsFalse (acknowledges Thre kind)
 not_iir kind none = grind arith
 
 no_iir : (start : State) (newest before : Trace) → NoneAcknowledges start (acknowledges Rda) newest before
     → NoneAcknowledges start (acknowledges Thre) newest before
 no_iir start newest before none later earlier entry place =
-    not_iir (kind_at start (earlier ++ before) entry.op) (none later earlier entry place)
+    not_iir (decode_at start (earlier ++ before) entry.op) (none later earlier entry place)
 
 -- ---- while the driver has bytes to send, THRE is pending
 
@@ -55,14 +55,14 @@ kept_on raised acknowledged before none was = grind arith
 now_pending : (start : State) (trace : Trace) (entry : TraceEntry) → IsTrue (is_raised Thre start trace entry)
     → IsTrue (is_pending Thre start (entry ∷ trace))
 now_pending start trace entry raised =
-    ap (λ raised. raised || (not (acknowledges Thre (kind_at start trace entry.op)) && is_pending Thre start trace)) raised
+    ap (λ raised. raised || (not (acknowledges Thre (decode_at start trace entry.op)) && is_pending Thre start trace)) raised
 
 waits_next : (driver : Driver) (start : State) (trace : Trace) (entry : TraceEntry)
-    → IsFalse (acknowledges Thre (kind_at start trace entry.op)) → Waits driver start trace
+    → IsFalse (acknowledges Thre (decode_at start trace entry.op)) → Waits driver start trace
     → IsTrue (has_to_send driver start trace) ⊎ EnablesThre start trace entry ⊎ SendsEnabled start trace entry
     → IsTrue (is_pending Thre start (entry ∷ trace))
 waits_next driver start trace entry none was (inl earlier) =
-    kept_on (is_raised Thre start trace entry) (acknowledges Thre (kind_at start trace entry.op)) _ none (was earlier)
+    kept_on (is_raised Thre start trace entry) (acknowledges Thre (decode_at start trace entry.op)) _ none (was earlier)
 waits_next driver start trace entry none was (inr (inl (value, kind, enabled, kept))) =
     now_pending start trace entry (ier_raises start trace entry value kind enabled kept)
 waits_next driver start trace entry none was (inr (inr (value, kind, enabled))) =
@@ -197,20 +197,20 @@ asked_for condition start before run pending = record {
   retried = retried_law condition start (run ++ before) pending;
 }
 
-pub asked_to_send_law : AskedToSendLaw
+pub asked_to_send_law : InterruptToSendLaw
 asked_to_send_law driver start before run is some = asked_for Thre start before run (pending is.ends) where
   pending : EndsAtNone driver start before run ⊎ EndsInTurn driver start before run → IsTrue (is_pending Thre start (run ++ before))
   pending (inl ends) = waits_at_none driver start before run is.asks ends some
   pending (inr ends) = waits_in_turn driver start before run is.asks ends some
 
-pub asked_to_take_law : AskedToTakeLaw
+pub asked_to_take_law : InterruptToReadLaw
 asked_to_take_law driver start before run is rule some enabled = asked_for Rda start before run (pending is.ends) where
   pending : EndsAtNone driver start before run ⊎ EndsInTurn driver start before run → IsTrue (is_pending Rda start (run ++ before))
   pending (inl ends) =
       let end = ends.turn ++ (ends.iir ∷ ends.earlier ++ before) in
       let nested : (ends.turn ++ ends.iir ∷ ends.earlier) ++ before ≡ end = append_assoc ends.turn (ends.iir ∷ ends.earlier) before in
       let (later, asked, timed) = rule ends.tail (ends.turn ++ ends.iir ∷ ends.earlier) ends.none ends.place
-      (ap (λ (trace : Trace). kind_at start trace ends.none.op) nested ∙ ends.reads_none)
+      (ap (λ (trace : Trace). decode_at start trace ends.none.op) nested ∙ ends.reads_none)
       (ap (λ (trace : Trace). is_pending Thre start trace) nested ∙ ends.shows_none.0, ap (λ (trace : Trace). is_pending Rda start trace) nested ∙ ends.shows_none.1) in
       waiting_bytes_law start (run ++ before) later (ends.none ∷ end) (timeout_entry asked)
       (whole_at_none driver start before run is.asks ends ∙ ap (λ (tail : Trace). tail ++ ends.none ∷ end) timed
@@ -240,14 +240,14 @@ sent_grows driver start (entry ∷ newest) before =
     begins_then (sent driver start before) (sent driver start (newest ++ before)) (sent driver start (entry ∷ newest ++ before)) (sent_grows driver start newest before) (_, refl)
 
 taken_within : (driver : Driver) (start : State) (most : ℕ) (before : Trace) (runs : List Trace) → AreConsoleRuns driver start before runs
-    → most ≤ length (all_bytes start before) → most ≤ length (taken_bytes start before) + length runs
-    → most ≤ length (taken_bytes start (after_runs before runs))
+    → most ≤ length (all_bytes start before) → most ≤ length (read_out_bytes start before) + length runs
+    → most ≤ length (read_out_bytes start (after_runs before runs))
 taken_within driver start most before [] are few enough = omega (arith, enough)
 taken_within driver start most before (run ∷ runs) (is, later) few enough =
     let next = run ++ before in
     taken_within driver start most next runs later (omega (arith, few, all_grow start run before))
-    (enough_next most (length (taken_bytes start before)) (length (held_bytes start before)) (length (all_bytes start before)) (length runs) (length (taken_bytes start next))
-    (counted start before) (longer (taken_bytes start before) (taken_bytes start next) (taken_grows start run before))
+    (enough_next most (length (read_out_bytes start before)) (length (held_bytes start before)) (length (all_bytes start before)) (length runs) (length (read_out_bytes start next))
+    (counted start before) (longer (read_out_bytes start before) (read_out_bytes start next) (taken_grows start run before))
     (λ some. is.takes (some_held (held_bytes start before) some)) few enough)
 
 -- two beginnings of one list
@@ -267,21 +267,21 @@ most_first through waiting all n count = (
   omega (arith, length-append through (take n waiting), length-take n waiting),
 )
 
-pub taken_in_runs_law : TakenInRunsLaw
+pub taken_in_runs_law : ReadOutInPassesLaw
 taken_in_runs_law driver start before runs are =
     let held = held_bytes start before in
-    let taken = taken_bytes start before in
+    let taken = read_out_bytes start before in
     let after = after_runs before runs in
     let n = length runs in
     let (later, whole) = grows_from start before runs in
     let (accepted, grown) = accepted_grows start later before in
     let (few, enough) = most_first taken held (all_bytes start before) n (sym (counted start before)) in
-    first_of_both taken held (all_bytes start before) (taken_bytes start after) (all_bytes start after) n (sym (taken_then_held start before)) (
+    first_of_both taken held (all_bytes start before) (read_out_bytes start after) (all_bytes start after) n (sym (read_out_then_held start before)) (
       accepted,
       ap (λ (trace : Trace). all_bytes start trace) whole ∙ ap (λ bytes. start.in_buffer ++ bytes) grown
           ∙ sym (append_assoc start.in_buffer (accepted_bytes start before) accepted),
     )
-    (held_bytes start after, sym (taken_then_held start after))
+    (held_bytes start after, sym (read_out_then_held start after))
     (taken_within driver start (length (taken ++ take n held)) before runs are few enough)
 
 -- ---- a driver that is not stopped sends in each run
@@ -300,11 +300,11 @@ one_own true bytes value is one = ap length one
 one_own false bytes value is one = absurd (false≢true is)
 
 sends_more : (driver : Driver) (start : State) (point before : Trace) (entry : TraceEntry) (value : ℕ)
-    → kind_at start (point ++ before) entry.op ≡ ThrWrite value → IsTrue (driver.sends_own (point ++ before) entry)
+    → decode_at start (point ++ before) entry.op ≡ ThrWrite value → IsTrue (driver.sends_own (point ++ before) entry)
     → length (sent driver start before) < length (sent driver start (entry ∷ point ++ before))
 sends_more driver start point before entry value writes own =
     let trace = point ++ before in
-    let bytes = sent_by (kind_at start trace entry.op) in
+    let bytes = sent_by (decode_at start trace entry.op) in
     omega (
       arith,
       longer (sent driver start before) (sent driver start trace) (sent_grows driver start point before),
@@ -331,7 +331,7 @@ turn_sends driver start before run later turn earlier place (inl at) free some =
     ∙ append_assoc (later ++ at.later) (at.entry ∷ point) before in
     omega (
       arith,
-      sends_more driver start point before at.entry at.value (ap (λ (trace : Trace). kind_at start trace at.entry.op) same ∙ at.writes)
+      sends_more driver start point before at.entry at.value (ap (λ (trace : Trace). decode_at start trace at.entry.op) same ∙ at.writes)
           (ap (λ (trace : Trace). driver.sends_own trace at.entry) same ∙ at.own),
       longer (sent driver start (at.entry ∷ point ++ before)) (sent driver start ((later ++ at.later) ++ (at.entry ∷ point ++ before)))
           (sent_grows driver start (later ++ at.later) (at.entry ∷ point ++ before)),
@@ -391,7 +391,7 @@ sent_within driver start most before (run ∷ runs) (is, later) few enough =
     (λ free some. run_sends driver start before run is.ends free
     (omega (arith, some, length-drop (length (sent driver start before)) (given driver before)))) few enough)
 
-pub sent_in_runs_law : SentInRunsLaw
+pub sent_in_runs_law : SentInPassesLaw
 sent_in_runs_law driver start before runs are ordered ordered_after =
     let some = left driver start before in
     let first = sent driver start before in
@@ -411,7 +411,7 @@ record Accepts (start : State) (before newest : Trace) : Type 0 where
   entry : TraceEntry
   earlier : Trace
   place : newest ≡ later ++ entry ∷ earlier
-  accepts : IsTrue (not_empty (accepted_by (kind_at start (earlier ++ before) entry.op) (held_bytes start (earlier ++ before))))
+  accepts : IsTrue (not_empty (accepted_by (decode_at start (earlier ++ before) entry.op) (held_bytes start (earlier ++ before))))
 
 held_some : (held : List ℕ) → IsTrue (not_empty held) → 0 < length held
 held_some held some = grind arith
@@ -420,7 +420,7 @@ none_of : (bytes : List ℕ) → not_empty bytes ≡ false → bytes ≡ []
 none_of [] is = refl
 none_of (byte ∷ bytes) is = absurd (false≢true (sym is))
 
-shows_accepted : (kind : OpKind) (held : List ℕ) → IsTrue (not_empty (accepted_by kind held)) → IsTrue (shows_waiting_bytes kind held)
+shows_accepted : (kind : DecodedOp) (held : List ℕ) → IsTrue (not_empty (accepted_by kind held)) → IsTrue (covers_waiting_bytes kind held)
 shows_accepted kind held some = grind arith
 
 -- an entry that accepts nothing leaves no more bytes than before
@@ -440,17 +440,17 @@ fewer first accepted taken more gone none some =
     )
 
 held_before : (start : State) (trace : Trace) (entry : TraceEntry)
-    → not_empty (accepted_by (kind_at start trace entry.op) (held_bytes start trace)) ≡ false
+    → not_empty (accepted_by (decode_at start trace entry.op) (held_bytes start trace)) ≡ false
     → IsTrue (not_empty (held_bytes start (entry ∷ trace))) → IsTrue (not_empty (held_bytes start trace))
 held_before start trace entry none some =
-    let kind = kind_at start trace entry.op in
+    let kind = decode_at start trace entry.op in
     let held = held_bytes start trace in
     some_held held
-    (fewer start.in_buffer (accepted_bytes start trace) (taken_bytes start trace) (accepted_by kind held) (taken_by kind held)
+    (fewer start.in_buffer (accepted_bytes start trace) (read_out_bytes start trace) (accepted_by kind held) (read_out_by kind held)
     (none_of (accepted_by kind held) none) (held_some (held_bytes start (entry ∷ trace)) some))
 
 accepts_by : (start : State) (before later : Trace) (entry : TraceEntry) (here : Bool)
-    → not_empty (accepted_by (kind_at start (later ++ before) entry.op) (held_bytes start (later ++ before))) ≡ here
+    → not_empty (accepted_by (decode_at start (later ++ before) entry.op) (held_bytes start (later ++ before))) ≡ here
     → (IsTrue (not_empty (held_bytes start (later ++ before))) → Accepts start before later)
     → IsTrue (not_empty (held_bytes start (entry ∷ later ++ before))) → Accepts start before (entry ∷ later)
 accepts_by start before later entry true is rest some =
@@ -468,14 +468,14 @@ accepts_in start before (entry ∷ later) none some =
 -- bytes that came after the FIFO was found empty are pending
 pending_since_empty : (start : State) (before later : Trace) → held_bytes start before ≡ []
     → NoneAcknowledges start (acknowledges Rda) later before
-    → IsTrue (has_bits (interrupt_enable start (later ++ before)) (ier_bit Rda))
+    → IsTrue (has_bits (ier_after start (later ++ before)) (ier_bit Rda))
     → IsTrue (not_empty (held_bytes start (later ++ before))) → IsTrue (is_pending Rda start (later ++ before))
 pending_since_empty start before later none unread enabled some =
     let at = accepts_in start before later none some in
     let point = at.earlier ++ before in
     waiting_bytes_law start (later ++ before) at.later point at.entry
     (ap (λ (list : Trace). list ++ before) at.place ∙ append_assoc at.later (at.entry ∷ at.earlier) before)
-    (shows_accepted (kind_at start point at.entry.op) (held_bytes start point) at.accepts)
+    (shows_accepted (decode_at start point at.entry.op) (held_bytes start point) at.accepts)
     (none_within start (acknowledges Rda) later [] at.later (at.entry ∷ at.earlier) before at.place unread) some enabled
 
 held_by : (start : State) (trace : Trace) (some : Bool) → not_empty (held_bytes start trace) ≡ some → is_pending Rda start trace ≡ false
@@ -484,14 +484,14 @@ held_by start trace true is idle pending = absurd (false≢true (sym idle ∙ pe
 held_by start trace false is idle pending = none_of (held_bytes start trace) is
 
 emptied : (start : State) (before turn : Trace) → TakesUntilNone start before turn → is_pending Rda start (turn ++ before) ≡ false
-    → IsTrue (has_bits (interrupt_enable start (turn ++ before)) (ier_bit Rda)) → held_bytes start (turn ++ before) ≡ []
+    → IsTrue (has_bits (ier_after start (turn ++ before)) (ier_bit Rda)) → held_bytes start (turn ++ before) ≡ []
 emptied start before turn at idle enabled =
     let point = at.earlier ++ before in
     let whole = ap (λ (list : Trace). list ++ before) at.place ∙ append_assoc at.later at.earlier before in
     subst (λ trace. held_bytes start trace ≡ []) (sym whole)
     (held_by start (at.later ++ point) _ refl (subst (λ trace. is_pending Rda start trace ≡ false) whole idle)
     (pending_since_empty start point at.later at.none at.unread
-    (subst (λ trace. IsTrue (has_bits (interrupt_enable start trace) (ier_bit Rda))) whole enabled)))
+    (subst (λ trace. IsTrue (has_bits (ier_after start trace) (ier_bit Rda))) whole enabled)))
 
 pub handler_ends_law : HandlerEndsLaw
 handler_ends_law most driver start before run is = (
@@ -500,7 +500,7 @@ handler_ends_law most driver start before run is = (
 ) where
   ended : TakesUntilNone start (is.ends.iir ∷ is.ends.earlier ++ before) is.ends.turn
       ⊎ TakesMost start most (is.ends.iir ∷ is.ends.earlier ++ before) is.ends.turn
-      → IsTrue (has_bits (interrupt_enable start (is.ends.turn ++ (is.ends.iir ∷ is.ends.earlier ++ before))) (ier_bit Rda))
+      → IsTrue (has_bits (ier_after start (is.ends.turn ++ (is.ends.iir ∷ is.ends.earlier ++ before))) (ier_bit Rda))
       → (held_bytes start (is.ends.turn ++ (is.ends.iir ∷ is.ends.earlier ++ before)) ≡ [])
       ⊎ TakesMost start most (is.ends.iir ∷ is.ends.earlier ++ before) is.ends.turn
   ended (inl empty) enabled = inl (emptied start (is.ends.iir ∷ is.ends.earlier ++ before) is.ends.turn empty is.ends.shows_none.1 enabled)
@@ -510,7 +510,7 @@ handler_ends_law most driver start before run is = (
 
 turn_takes : (start : State) (most : ℕ) (before opened turn : Trace) → 0 < most
     → TakesUntilNone start (opened ++ before) turn ⊎ TakesMost start most (opened ++ before) turn → 0 < length (held_bytes start before)
-    → length (taken_bytes start before) < length (taken_bytes start (turn ++ (opened ++ before)))
+    → length (read_out_bytes start before) < length (read_out_bytes start (turn ++ (opened ++ before)))
 turn_takes start most before opened turn some (inl empty) held =
     let point = empty.earlier ++ (opened ++ before) in
     let whole = ap (λ (list : Trace). list ++ (opened ++ before)) empty.place ∙ append_assoc empty.later empty.earlier (opened ++ before) in
@@ -522,11 +522,11 @@ turn_takes start most before opened turn some (inl empty) held =
       ap length empty.none,
       all_grow start opened before,
       all_grow start empty.earlier (opened ++ before),
-      longer (taken_bytes start point) (taken_bytes start (empty.later ++ point)) (taken_grows start empty.later point),
-      ap (λ (trace : Trace). length (taken_bytes start trace)) whole,
+      longer (read_out_bytes start point) (read_out_bytes start (empty.later ++ point)) (taken_grows start empty.later point),
+      ap (λ (trace : Trace). length (read_out_bytes start trace)) whole,
     )
 turn_takes start most before opened turn some (inr many) held =
-    omega (arith, some, many, longer (taken_bytes start before) (taken_bytes start (opened ++ before)) (taken_grows start opened before))
+    omega (arith, some, many, longer (read_out_bytes start before) (read_out_bytes start (opened ++ before)) (taken_grows start opened before))
 
 pub handler_run_law : HandlerRunLaw
 handler_run_law most driver start before run is = record {
@@ -535,14 +535,14 @@ handler_run_law most driver start before run is = record {
       omega (
         arith,
         turn_takes start most before (is.ends.iir ∷ is.ends.earlier) is.ends.turn is.some is.takes (held_some (held_bytes start before) held),
-        longer (taken_bytes start end) (taken_bytes start (is.ends.tail ++ is.ends.none ∷ end)) (later_grows (is.ends.tail) (is.ends.none) end),
-        ap (λ (trace : Trace). length (taken_bytes start trace)) (whole_at_none driver start before run is.asks is.ends),
+        longer (read_out_bytes start end) (read_out_bytes start (is.ends.tail ++ is.ends.none ∷ end)) (later_grows (is.ends.tail) (is.ends.none) end),
+        ap (λ (trace : Trace). length (read_out_bytes start trace)) (whole_at_none driver start before run is.asks is.ends),
       );
   ends = inl is.ends;
   asks = is.asks;
 } where
   later_grows : (tail : Trace) (none : TraceEntry) (trace : Trace)
-      → Begins (taken_bytes start trace) (taken_bytes start (tail ++ none ∷ trace))
+      → Begins (read_out_bytes start trace) (read_out_bytes start (tail ++ none ∷ trace))
   later_grows tail none trace =
-      begins_then (taken_bytes start trace) (taken_bytes start (none ∷ trace)) (taken_bytes start (tail ++ none ∷ trace))
+      begins_then (read_out_bytes start trace) (read_out_bytes start (none ∷ trace)) (read_out_bytes start (tail ++ none ∷ trace))
       (taken_grows start (none ∷ []) trace) (taken_grows start tail (none ∷ trace))

@@ -3,8 +3,8 @@
 use Rattle.std.proofs.Common.{false, ◌≡◌, ℕ, Bool, true, List, [], ◌∷◌, ◌++◌, length, drop, refl, ap, sym, ◌∙◌, append-nil, ◌<◌, subst, arith, IsTrue, if◌then◌else◌, ◌&&◌, count_by, ◌+◌, not, ◌==◌}
 use Rattle.std.specs.Bool.{beq}
 use Rattle.std.proofs.lemmas.Bool.{and_parts, eqb-true}
-use Rattle.superio_laws.specs.Serial.{Asked, Sent, Op, Read, Write, ByteRead, WriteOk, WriterFailed, TriggerRefused, is_sent, is_lost, ends_in_refusal, OpKind, RbrRead, read_kind, sent_by, State, not_empty, has_bits, without_bits, receive_bytes, raise, kind_in_state, answers_all, step_calls, sends_byte, step, read_step, step_response, step_events, Register, Thre, register_at, is_dlab, is_loopback, is_refused_at_once, count_if, answer_count, IerWrite, only_bits, with_bits, Rda, kind_calls, becomes_pending}
-use Rattle.superio_laws.specs.Serial.History.{line_status, byte_read, accepted_by, taken_by}
+use Rattle.superio_laws.specs.Serial.{Asked, Sent, Op, Read, Write, ByteRead, WriteOk, WriterFailed, TriggerRefused, is_sent, is_lost, ends_in_refusal, DecodedOp, RbrRead, decode_read, sent_by, State, not_empty, has_bits, without_bits, receive_bytes, iir_after_raise, decode_in, answers_all, step_calls, sends_byte, step, read_step, step_response, step_events, Register, Thre, register_at, is_dlab, is_loopback, is_refused_at_once, count_if, answer_count, IerWrite, only_bits, with_bits, Rda, decoded_calls, becomes_pending}
+use Rattle.superio_laws.specs.Serial.History.{byte_read, accepted_by, read_out_by}
 use Rattle.superio_laws.specs.Serial.Laws.OneCall.{OneCallLaw, ReceivedLaw, OneReadLaw, RbrReadLaw, RbrDataReadyLaw, ThrWriteLaw, OutcomeEventsLaw, reports_outcome, TurnedBitsLaw}
 use Rattle.superio_core.proofs.Lemmas.Serial.{data_ready_cleared}
 use Rattle.superio_core.proofs.Lemmas.Serial.Step.{by_kind, next_by_kind, answers_counted, rda_sets}
@@ -15,8 +15,8 @@ use Rattle.superio_core.proofs.Lemmas.{and-without, and-without-apart}
 -- ---- bytes taken and accepted
 
 -- what is taken is the front of what is there
-pub taken_first : (k : OpKind) (bytes new : List ℕ)
-    → taken_by k bytes ++ drop (length (taken_by k bytes)) (bytes ++ new) ≡ bytes ++ new
+pub taken_first : (k : DecodedOp) (bytes new : List ℕ)
+    → read_out_by k bytes ++ drop (length (read_out_by k bytes)) (bytes ++ new) ≡ bytes ++ new
 taken_first k bytes new = grind arith
 
 pub received : ReceivedLaw
@@ -25,25 +25,25 @@ received s h = grind (arith, append-nil)
 pub received_bytes : (new : List ℕ) (s : State) → (receive_bytes new s).in_buffer ≡ s.in_buffer ++ new
 received_bytes new s = ap (λ (left : State). left.in_buffer) (received s new)
 
-first_gone : (bytes : List ℕ) → drop 1 bytes ≡ drop (length (taken_by RbrRead bytes)) (bytes ++ [])
+first_gone : (bytes : List ℕ) → drop 1 bytes ≡ drop (length (read_out_by RbrRead bytes)) (bytes ++ [])
 first_gone bytes = grind (arith, append-nil)
 
 -- the steps take and accept what the history says
-pub left_by_kind : (k : OpKind) (asked : Asked) (s : State)
-    → (by_kind k asked s).in_buffer ≡ drop (length (taken_by k s.in_buffer)) (s.in_buffer ++ accepted_by k s.in_buffer)
+pub left_by_kind : (k : DecodedOp) (asked : Asked) (s : State)
+    → (by_kind k asked s).in_buffer ≡ drop (length (read_out_by k s.in_buffer)) (s.in_buffer ++ accepted_by k s.in_buffer)
 left_by_kind k asked s = grind (arith, first_gone, received_bytes, append-nil)
 
 pub one_call : OneCallLaw
 one_call s op asked =
-    ap (λ bytes. taken_by (kind_in_state s op) s.in_buffer ++ bytes)
-    ((next_by_kind s op asked).in_buffer ∙ left_by_kind (kind_in_state s op) asked s)
-    ∙ taken_first (kind_in_state s op) s.in_buffer (accepted_by (kind_in_state s op) s.in_buffer)
+    ap (λ bytes. read_out_by (decode_in s op) s.in_buffer ++ bytes)
+    ((next_by_kind s op asked).in_buffer ∙ left_by_kind (decode_in s op) asked s)
+    ∙ taken_first (decode_in s op) s.in_buffer (accepted_by (decode_in s op) s.in_buffer)
 
 -- ---- bytes read
 
 of_step : (s : State) (op : Op) (asked : Asked) (sent : Sent)
-    → byte_read (kind_in_state s op) s.in_buffer (step_response s op asked sent)
-    ≡ taken_by (kind_in_state s op) s.in_buffer
+    → byte_read (decode_in s op) s.in_buffer (step_response s op asked sent)
+    ≡ read_out_by (decode_in s op) s.in_buffer
 of_step s op asked sent = grind arith
 
 pub one_read : OneReadLaw
@@ -67,7 +67,7 @@ pub rbr_read : RbrReadLaw
 rbr_read s byte hidden some response = record {
   bytes = is_oldest s.in_buffer _ byte some
       (subst (λ kind. byte_read kind s.in_buffer (ByteRead byte) ++ (step s (Read 0) Asked.Nothing).in_buffer
-      ≡ s.in_buffer ++ accepted_by kind s.in_buffer) (ap (λ latch. read_kind (register_at latch 0)) hidden)
+      ≡ s.in_buffer ++ accepted_by kind s.in_buffer) (ap (λ latch. decode_read (register_at latch 0)) hidden)
       (rw response (one_read s (Read 0) Asked.Nothing Sent.Nothing)));
   rest_unchanged = kept (register_at (is_dlab s.line_control) 0) s;
 }
@@ -92,22 +92,22 @@ taken : (is_refused : Bool) (sent : Sent) → IsTrue (is_sent sent)
     → sent ≡ Sent.Out
 taken is_refused sent outcome ok = grind arith
 
--- if a byte is sent, an admissible call has an outcome of it
+-- if a byte is sent, a fitting call has an outcome of it
 outcome : (is_answered sends : Bool) (sent : Sent) → sends ≡ true → IsTrue (is_answered && beq (is_sent sent) sends)
     → IsTrue (is_sent sent)
-outcome is_answered sends sent is admissible = grind arith
+outcome is_answered sends sent is fits = grind arith
 
 sends : (s : State) (value : ℕ) → is_dlab s.line_control ≡ false → is_loopback s.modem_control ≡ false
     → sends_byte s (Write 0 value) ≡ true
 sends s value hidden outside = grind arith
 
 raises : (s : State) (value : ℕ) (asked : Asked) → is_dlab s.line_control ≡ false → is_loopback s.modem_control ≡ false
-    → step s (Write 0 value) asked ≡ record s { interrupt_identification = raise Thre s.interrupt_enable s.interrupt_identification }
+    → step s (Write 0 value) asked ≡ record s { interrupt_identification = iir_after_raise Thre s.interrupt_enable s.interrupt_identification }
 raises s value asked hidden outside = grind arith
 
 pub thr_write : ThrWriteLaw
-thr_write s value asked sent hidden outside admissible =
-    let has_outcome = outcome (answers_all (step_calls s (Write 0 value)) asked) (sends_byte s (Write 0 value)) sent (sends s value hidden outside) admissible in
+thr_write s value asked sent hidden outside fits =
+    let has_outcome = outcome (answers_all (step_calls s (Write 0 value)) asked) (sends_byte s (Write 0 value)) sent (sends s value hidden outside) fits in
     record {
       outcome = has_outcome;
       state = raises s value asked hidden outside;
@@ -119,7 +119,7 @@ pub ruleset one_call_laws = (one_call, received, one_read, rbr_read, rbr_data_re
 -- ---- one call, in any state: the events that it reports
 
 reported : (s : State) (op : Op) (outcome : Sent) → IsTrue (beq (is_sent outcome) (sends_byte s op))
-    → count_by reports_outcome (step_events s op outcome) ≡ length (sent_by (kind_in_state s op))
+    → count_by reports_outcome (step_events s op outcome) ≡ length (sent_by (decode_in s op))
 reported s op outcome fit = grind arith
 
 pub events_law : OutcomeEventsLaw
@@ -173,24 +173,24 @@ pub ruleset bits = (rda_left, rda_sets, rda_cleared, thre_left, thre_set, thre_k
 
 -- an IER write, first for RDA, and then for THRE, unless the trigger refused
 ier_write_turned : (held refused : Bool) (enable old : ℕ)
-    → let first = if held then raise Rda enable old else old in
+    → let first = if held then iir_after_raise Rda enable old else old in
     count_if (held && becomes_pending Rda enable old) + count_if (becomes_pending Thre enable first && not refused)
-    ≡ count old (if refused then first else raise Thre enable first)
+    ≡ count old (if refused then first else iir_after_raise Thre enable first)
 ier_write_turned held refused enable old = grind (arith, bits)
 
-pub turned_by_kind : (k : OpKind) (asked : Asked) (s : State)
-    → IsTrue (answers_all (kind_calls k s) asked)
+pub turned_by_kind : (k : DecodedOp) (asked : Asked) (s : State)
+    → IsTrue (answers_all (decoded_calls k s) asked)
     → answer_count asked ≡ count s.interrupt_identification (by_kind k asked s).interrupt_identification
 turned_by_kind (IerWrite value) asked s fit =
     let enable = only_bits value 0x0F in
     let old = s.interrupt_identification in
     let held = not_empty s.in_buffer in
     let call = held && becomes_pending Rda enable old in
-    eqb-true _ _ (sym (answers_counted call (becomes_pending Thre enable (if held then raise Rda enable old else old)) asked) ∙ fit)
+    eqb-true _ _ (sym (answers_counted call (becomes_pending Thre enable (if held then iir_after_raise Rda enable old else old)) asked) ∙ fit)
     ∙ ier_write_turned held (call && is_refused_at_once asked) enable old
 turned_by_kind k asked s fit = grind (arith, bits)
 
 pub turned_bits_law : TurnedBitsLaw
 turned_bits_law s op asked outcome fit =
-    turned_by_kind (kind_in_state s op) asked s (and_parts (answers_all (step_calls s op) asked) _ fit).0
+    turned_by_kind (decode_in s op) asked s (and_parts (answers_all (step_calls s op) asked) _ fit).0
     ∙ ap (count s.interrupt_identification) (sym (next_by_kind s op asked).interrupt_identification)

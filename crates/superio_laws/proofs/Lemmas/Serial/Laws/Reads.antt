@@ -2,11 +2,11 @@
 use Rattle.std.proofs.Common.{arith, ◌≡◌, Bool, List, [], ◌∷◌, ◌++◌, refl, ap, sym, ◌∙◌, append_assoc, append-nil, ℕ, false, ◌==◌, subst, IsTrue, not, ◌&&◌, ◌||◌, length, drop}
 use Rattle.std.proofs.lemmas.Bool.{and_parts, false≢true, eqb-true}
 use Rattle.std.specs.Cmp.Derive.{both_true}
-use Rattle.superio_laws.specs.Serial.{Asked, Sent, Op, Read, TraceEntry, OpKind, Response, is_rbr_read, State, not_empty, Rda, Thre, register_read, register_at, is_dlab, identification_of, step, kind_in_state, has_bits}
-use Rattle.superio_laws.specs.Serial.History.{with_data_ready, state_of_history, history_response, byte_read, bytes_read, guest_read, ResponsesAre, held_bytes, interrupt_enable, kind_at, taken_by, taken_bytes, accepted_by, is_pending}
+use Rattle.superio_laws.specs.Serial.{Asked, Sent, Op, Read, TraceEntry, DecodedOp, Response, is_rbr_read, State, not_empty, Rda, Thre, register_read, register_at, is_dlab, identification_of, step, decode_in, has_bits}
+use Rattle.superio_laws.specs.Serial.History.{with_data_ready, state_of_history, history_response, byte_read, bytes_read, guest_read, ResponsesAre, held_bytes, ier_after, decode_at, read_out_by, read_out_bytes, accepted_by, is_pending}
 use Rattle.superio_laws.specs.Serial.Laws.{state_after}
-use Rattle.superio_laws.specs.Serial.Laws.Consequences.{SameReadsLaw, op_and_asked, ops_and_asked, ReadsAreTakenLaw, ReadThenHeldLaw, driver_byte, driver_bytes, polls, PollingDriverLaw, DriverGetsAllLaw, shows_data_ready, polls_after_data_ready, PollsAfterDataReadyLaw}
-use Rattle.superio_laws.proofs.Lemmas.Serial.Laws.{same_kind, register_law, state_of_history-by_state, held_bytes_law, taken_then_held, held_more}
+use Rattle.superio_laws.specs.Serial.Laws.Consequences.{SameReadsLaw, op_and_asked, ops_and_asked, RepliesAreReadOutLaw, ReadThenHeldLaw, driver_byte, driver_bytes, polls, PollingDriverLaw, DriverGetsAllLaw, shows_data_ready, polls_after_data_ready, PollsAfterDataReadyLaw}
+use Rattle.superio_laws.proofs.Lemmas.Serial.Laws.{same_kind, register_law, state_of_history-by_state, held_bytes_law, read_out_then_held, held_more}
 use Rattle.superio_laws.proofs.Lemmas.Serial.Laws.Interrupts.{thre_next, rda_next}
 use Rattle.superio_laws.specs.Serial.{trace_after}
 use Rattle.superio_core.proofs.Lemmas.Serial.{data_ready_set, data_ready_cleared}
@@ -22,7 +22,7 @@ view_at start trace = (state_after start trace, is_pending Thre start trace, is_
 abbrev next_view : (op : Op) (asked : Asked) (view : View) → View
 next_view op asked view =
     let s = view.0 in
-    let kind = kind_in_state s op in (
+    let kind = decode_in s op in (
       step s op asked,
       thre_next kind s.in_buffer s.interrupt_enable asked view.1 view.2,
       rda_next kind s.in_buffer s.interrupt_enable view.2,
@@ -34,11 +34,11 @@ view_goes_on start trace entry =
     let s = state_after start trace in
     let t = is_pending Thre start trace in
     let r = is_pending Rda start trace in
-    let next_of : OpKind → List ℕ → ℕ → View =
+    let next_of : DecodedOp → List ℕ → ℕ → View =
     λ kind bytes enable. (step s entry.op entry.asked, thre_next kind bytes enable entry.asked t r, rda_next kind bytes enable r) in
-    ap (λ (kind : OpKind). next_of kind (held_bytes start trace) (interrupt_enable start trace)) (sym (same_kind start trace entry.op))
-    ∙ ap (λ bytes. next_of (kind_in_state s entry.op) bytes (interrupt_enable start trace)) (sym (held_bytes_law start trace))
-    ∙ ap (next_of (kind_in_state s entry.op) s.in_buffer) (sym (register_law start trace).interrupt_enable)
+    ap (λ (kind : DecodedOp). next_of kind (held_bytes start trace) (ier_after start trace)) (sym (same_kind start trace entry.op))
+    ∙ ap (λ bytes. next_of (decode_in s entry.op) bytes (ier_after start trace)) (sym (held_bytes_law start trace))
+    ∙ ap (next_of (decode_in s entry.op) s.in_buffer) (sym (register_law start trace).interrupt_enable)
 
 -- the view after operations with the trigger's answers
 view_of : (start : State) → List (Op × Asked) → View
@@ -92,25 +92,25 @@ same_reads_law start one other same offset =
 
 of_call : (start : State) (trace : List TraceEntry) (op : Op) (asked : Asked) (sent : Sent) (reply : Response)
     → reply ≡ history_response start trace op asked sent
-    → byte_read (kind_at start trace op) (held_bytes start trace) reply
-    ≡ taken_by (kind_at start trace op) (held_bytes start trace)
+    → byte_read (decode_at start trace op) (held_bytes start trace) reply
+    ≡ read_out_by (decode_at start trace op) (held_bytes start trace)
 of_call start trace op asked sent reply is = grind arith
 
-pub reads_are_taken : ReadsAreTakenLaw
-reads_are_taken start trace [] are = append-nil (taken_bytes start trace)
-reads_are_taken start trace (call ∷ later) are =
+pub replies_are_read_out : RepliesAreReadOutLaw
+replies_are_read_out start trace [] are = append-nil (read_out_bytes start trace)
+replies_are_read_out start trace (call ∷ later) are =
     let rest = bytes_read start (call.0 ∷ trace) later in
-    ap (λ byte. taken_bytes start trace ++ (byte ++ rest))
+    ap (λ byte. read_out_bytes start trace ++ (byte ++ rest))
     (of_call start trace call.0.op call.0.asked call.0.sent call.1 are.0)
-    ∙ sym (append_assoc (taken_bytes start trace) _ rest)
-    ∙ reads_are_taken start (call.0 ∷ trace) later are.1
+    ∙ sym (append_assoc (read_out_bytes start trace) _ rest)
+    ∙ replies_are_read_out start (call.0 ∷ trace) later are.1
 
 pub read_then_held : ReadThenHeldLaw
 read_then_held start calls are =
-    ap (λ bytes. bytes ++ held_bytes start (trace_after [] calls)) (reads_are_taken start [] calls are)
-    ∙ taken_then_held start (trace_after [] calls)
+    ap (λ bytes. bytes ++ held_bytes start (trace_after [] calls)) (replies_are_read_out start [] calls are)
+    ∙ read_out_then_held start (trace_after [] calls)
 
-pub ruleset reads_are_taken_laws = (reads_are_taken, read_then_held)
+pub ruleset replies_are_read_out_laws = (replies_are_read_out, read_then_held)
 
 -- ---- a driver that polls reads RBR only while a byte is held, and so gets the bytes that a guest reads from the
 -- FIFO
@@ -125,7 +125,7 @@ read_of_lsr start trace = data_ready start.line_status (not_empty (held_bytes st
 
 -- ---- data ready shows at each RBR read
 
-gets_byte : (kind : OpKind) (held : List ℕ) (reply : Response) → IsTrue (not (is_rbr_read kind) || not_empty held)
+gets_byte : (kind : DecodedOp) (held : List ℕ) (reply : Response) → IsTrue (not (is_rbr_read kind) || not_empty held)
     → driver_byte kind reply ≡ byte_read kind held reply
 gets_byte kind held reply polled = grind arith
 
@@ -133,7 +133,7 @@ gets_bytes : (start : State) (trace : List TraceEntry) (calls : List (TraceEntry
     → IsTrue (polls start trace calls) → driver_bytes start trace calls ≡ bytes_read start trace calls
 gets_bytes start trace [] polled = refl
 gets_bytes start trace (call ∷ later) polled =
-    let kind = kind_at start trace call.0.op in
+    let kind = decode_at start trace call.0.op in
     let both = and_parts (not (is_rbr_read kind) || has_bits (guest_read start trace 5) 0x01)
     (polls start (call.0 ∷ trace) later) polled in
     let held = subst (λ ready. IsTrue (not (is_rbr_read kind) || ready)) (read_of_lsr start trace) both.0 in
@@ -178,28 +178,28 @@ shown start trace (Read offset) asked sent reply is shows =
 shown start trace _ asked sent reply is shows = absurd (false≢true shows)
 
 -- no other operation takes a byte
-none_taken : (kind : OpKind) (held : List ℕ) → IsTrue (not (is_rbr_read kind)) → taken_by kind held ≡ []
+none_taken : (kind : DecodedOp) (held : List ℕ) → IsTrue (not (is_rbr_read kind)) → read_out_by kind held ≡ []
 none_taken kind held other = grind arith
 
 still_held : (held accepted : List ℕ) → IsTrue (not_empty held) → IsTrue (not_empty (held ++ accepted))
 still_held held accepted some = grind arith
 
 stays_right : (start : State) (trace : List TraceEntry) (entry : TraceEntry)
-    → IsTrue (not (is_rbr_read (kind_at start trace entry.op))) → IsTrue (not_empty (held_bytes start trace))
+    → IsTrue (not (is_rbr_read (decode_at start trace entry.op))) → IsTrue (not_empty (held_bytes start trace))
     → IsTrue (not_empty (held_bytes start (entry ∷ trace)))
 stays_right start trace entry other some =
-    let kind = kind_at start trace entry.op in
+    let kind = decode_at start trace entry.op in
     let held = held_bytes start trace in
-    ap not_empty (held_more start trace entry (taken_then_held start trace)
+    ap not_empty (held_more start trace entry (read_out_then_held start trace)
     ∙ ap (λ taken. drop (length taken) (held ++ accepted_by kind held)) (none_taken kind held other))
     ∙ still_held held (accepted_by kind held) some
 
 right_after : (start : State) (trace : List TraceEntry) (entry : TraceEntry) (reply : Response) (seen : Bool)
     → reply ≡ history_response start trace entry.op entry.asked entry.sent → IsRight start trace seen
-    → let reads = is_rbr_read (kind_at start trace entry.op) in
+    → let reads = is_rbr_read (decode_at start trace entry.op) in
     IsRight start (entry ∷ trace) (not reads && (seen || shows_data_ready entry.op reply))
 right_after start trace entry reply seen is right now =
-    let reads = is_rbr_read (kind_at start trace entry.op) in
+    let reads = is_rbr_read (decode_at start trace entry.op) in
     let shows = shows_data_ready entry.op reply in
     let both = and_parts (not reads) (seen || shows) now in
     stays_right start trace entry both.0
@@ -210,7 +210,7 @@ pub polls_from : (start : State) (trace : List TraceEntry) (seen : Bool) (calls 
     → IsTrue (polls_after_data_ready start trace seen calls) → IsTrue (polls start trace calls)
 polls_from start trace seen [] right are sight = refl
 polls_from start trace seen (call ∷ later) right are sight =
-    let reads = is_rbr_read (kind_at start trace call.0.op) in
+    let reads = is_rbr_read (decode_at start trace call.0.op) in
     let next = not reads && (seen || shows_data_ready call.0.op call.1) in
     let both = and_parts (not reads || seen) (polls_after_data_ready start (call.0 ∷ trace) next later) sight in
     both_true

@@ -1,7 +1,7 @@
 -- A line of the serial port leads from its trace to another, and one of the clock adds its access.
 use Rattle.std.proofs.Common.{◌≡◌, ℕ, List, ◌∷◌, Result, Ok, Err, sym, subst, IfOk, OnErr}
 use Rattle.vm_superio.specs.Rtc.{ClockDevice}
-use Rattle.vm_superio.specs.Serial.{Port}
+use Rattle.vm_superio.specs.Serial.{SerialView}
 use Rattle.superio_script.specs.Board.{IsBetweenLines, IsSerialLineStep}
 use Rattle.superio_script.specs.ClockScript.{access_of_line}
 use Rattle.superio_script.specs.Objects.{Line, Counts, Output}
@@ -10,7 +10,7 @@ use Rattle.superio_script.specs.declared.command.SerialCommand.{SerialCommand}
 use Rattle.superio_script.proofs.devices.Board.line.Goals as goal
 
 after-serial_line :
-    {Reply Failure : Type 0} (items : Reply → List ℕ) (line : SerialCommand) (result : Result Reply Failure) (old new : Port Line Counts Output) (rtc : ClockDevice Counts) (reset_line : Line) →
+    {Reply Failure : Type 0} (items : Reply → List ℕ) (line : SerialCommand) (result : Result Reply Failure) (old new : SerialView Line Counts Output) (rtc : ClockDevice Counts) (reset_line : Line) →
     IfOk result (λ reply. IsSerialLineStep line (items reply) old new) → OnErr result (new ≡ old) → IsBetweenLines old rtc reset_line → IsBetweenLines new rtc reset_line
 after-serial_line items line (Ok reply) old new rtc reset_line step unchanged before =
     let taken = step before.mask before.trace before.serial in record {
@@ -22,7 +22,7 @@ after-serial_line items line (Ok reply) old new rtc reset_line step unchanged be
       controller = before.controller;
     }
 after-serial_line items line (Err failure) old new rtc reset_line step unchanged before =
-    subst (λ (port : Port Line Counts Output). IsBetweenLines port rtc reset_line) (sym unchanged) before
+    subst (λ (port : SerialView Line Counts Output). IsBetweenLines port rtc reset_line) (sym unchanged) before
 
 pub invariant_of-self : goal.invariant_of-self
 invariant_of-self c =

@@ -1,9 +1,9 @@
 -- The clauses follow from the step.
 use Rattle.std.proofs.Common.{refl, sym, subst, ap, ◌∙◌}
-use Rattle.vm_superio.specs.Serial.{State, ShowsHeldBytes, CharacterTimeout, timeout_response, refusal_in_result}
+use Rattle.vm_superio.specs.Serial.{State, RdaCoversHeldBytes, CharacterTimeout, timeout_response, refusal_in_result}
 use Rattle.superio_core.proofs.Lemmas.Serial.Step.{shows_held_bytes}
-use Rattle.vm_superio.specs.Serial.Step.{IsPortStep}
-use Rattle.vm_superio.specs.Links.Writer.{port_links}
+use Rattle.vm_superio.specs.Serial.Step.{IsSerialStep}
+use Rattle.vm_superio.specs.Links.Writer.{serial_links}
 use Rattle.vm_superio.proofs.Lemmas.Serial.{length-answers_of-step}
 use Rattle.vm_superio.proofs.Lemmas.Serial.Kept.{transmitter-kept, pending-kept}
 use Rattle.vm_superio.proofs.Lemmas.Serial.Step.{quiet, silent, keeps_coherent, timeout_fate}
@@ -12,15 +12,15 @@ use Rattle.vm_superio.proofs.serial.Serial.character_timeout.Goals as goal
 pub returns-clause-step : goal.returns-clause-step
 returns-clause-step g c =
     let call = c.recorded_timeout in
-    let links = port_links g.T.Trigger.link g.EV.SerialEvents.link g.W.Write.contents in
-    let made = subst (λ sent. IsPortStep links CharacterTimeout call.result.asked sent (timeout_response call.result.reply)
+    let links = serial_links g.T.Trigger.link g.EV.SerialEvents.link g.W.Write.contents in
+    let made = subst (λ sent. IsSerialStep links CharacterTimeout call.result.asked sent (timeout_response call.result.reply)
     (refusal_in_result call.result.reply) c.args.self.now call.new.self) call.ensures.no_byte call.ensures.step in
     record { asked = call.result.asked; step = made; calls = length-answers_of-step made }
 
 pub returns-clause-pending : goal.returns-clause-pending
 returns-clause-pending g c =
     let call = c.recorded_timeout in
-    subst ShowsHeldBytes (sym call.ensures.step.state) (shows_held_bytes c.args.self.now.state call.result.asked)
+    subst RdaCoversHeldBytes (sym call.ensures.step.state) (shows_held_bytes c.args.self.now.state call.result.asked)
 
 pub returns-clause-fate : goal.returns-clause-fate
 returns-clause-fate g c = timeout_fate c.recorded_timeout.result.reply c.recorded_timeout.ensures.step
@@ -28,10 +28,10 @@ returns-clause-fate g c = timeout_fate c.recorded_timeout.result.reply c.recorde
 pub returns-clause-quiet : goal.returns-clause-quiet
 returns-clause-quiet g c =
     let made = c.recorded_timeout.ensures.step in
-    λ off. quiet made g.met.T.Trigger.no_call (ap (λ (s : State). s.interrupt_enable) made.state ∙ off)
+    λ off. quiet made g.met.T.Trigger.empty (ap (λ (s : State). s.interrupt_enable) made.state ∙ off)
 
 pub returns-clause-events : goal.returns-clause-events
-returns-clause-events g c = sym ((g.met.EV.SerialEvents.no_event _ _).0 c.recorded_timeout.ensures.step.events)
+returns-clause-events g c = sym ((g.met.EV.SerialEvents.empty _ _).0 c.recorded_timeout.ensures.step.events)
 
 pub returns-clause-out : goal.returns-clause-out
 returns-clause-out g c = silent c.recorded_timeout.ensures.step refl

@@ -30,7 +30,7 @@ returns-clause-quiet g c =
     let old = c.args.self.now.state in
     let made = c.recorded_enqueue.ensures in
     let enable = ap (λ (s : State). s.interrupt_enable) (made.state ∙ settings_kept (enqueued_bytes old c.args.input.now) old) in
-    λ off. quiet made g.met.T.Trigger.no_call (enable ∙ off)
+    λ off. quiet made g.met.T.Trigger.empty (enable ∙ off)
 
 pub returns-clause-transmitter : goal.returns-clause-transmitter
 returns-clause-transmitter g c =

@@ -12,14 +12,14 @@ returns g c =
     let before = state_with c.self.inside.registers c.self.inside.in_buffer in
     rw (← c.self.view_is) (
     record {
-      admissible = search rules;
+      fits = search rules;
       response = search rules;
       refused = search rules;
       state =
-          ap (λ registers. state_with registers effects.new.fifo) c.take_back.ensures.registers
-          ∙ write_step-settled c.at-register.result value effects.result.interrupts asked before effects.new.self
+          ap (λ registers. state_with registers effects.new.fifo) c.cancel_thre.ensures.registers
+          ∙ write_step-settled c.decode-register.result value effects.result.interrupts asked before effects.new.self
           effects.new.fifo _ refl effects.ensures.interrupts effects.ensures.state
-          ∙ ap (λ register. write_step register value asked before) c.at-register.ensures;
+          ∙ ap (λ register. write_step register value asked before) c.decode-register.ensures;
       trigger = search rules;
       events = search rules;
       out = c.send_where_due-sent.ensures.out c.args.offset;

@@ -11,7 +11,7 @@ returns-clause-step g c =
     record { asked = call.result.asked; sent = call.result.sent; step = call.ensures; calls = length-answers_of-step call.ensures }
 
 pub returns-clause-quiet : goal.returns-clause-quiet
-returns-clause-quiet g c = quiet c.recorded_write.ensures g.met.T.Trigger.no_call
+returns-clause-quiet g c = quiet c.recorded_write.ensures g.met.T.Trigger.empty
 
 pub returns-clause-sends : goal.returns-clause-sends
 returns-clause-sends g c = sends c.recorded_write.result.reply c.recorded_write.ensures

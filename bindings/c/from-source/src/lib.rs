@@ -1,0 +1,233 @@
+//! The functions of `bindings/c/superio.h`, which describes them, for any target that rustc knows.
+//!
+//! `cargo build --release` makes `libsuperio_c.a` and a shared library. They need a C library's `memcpy`, `memmove` and
+//! `memset`, and nothing else: no allocator, no operating system. The devices are the erased sources of `superio_core`,
+//! and this crate alone has `unsafe` code: the memory that C passes.
+#![no_std]
+#![deny(unsafe_op_in_unsafe_fn)]
+
+#[rustfmt::skip] // as the proved source
+#[allow(clippy::all)]
+#[allow(dead_code, unused_imports)] // what the functions of the header do not need
+#[path = "../../../rust/src/core/mod.rs"]
+mod devices;
+
+use devices::rtc_pl031::saved_form::SAVED_SIZE;
+use devices::rtc_pl031::{Clock, RtcState};
+use devices::saved::Error;
+use devices::serial::saved_form::SAVED_MAX;
+use devices::serial::{EnqueueEffects, ReadEffects, SerialPort, WriteEffects};
+
+/// Changes with every change to a struct or to the meaning of a call.
+const ABI: u32 = 3;
+
+/// What a due alarm returns if it never is.
+const NEVER: u64 = u64::MAX;
+
+/// What a load returns on success.
+const LOADED: u32 = 0;
+
+#[repr(C)]
+pub struct RtcReadEffects {
+    pub value: u32,
+    pub invalid_read: bool,
+}
+
+#[repr(C)]
+pub struct RtcWriteEffects {
+    pub invalid_write: bool,
+}
+
+#[repr(C)]
+pub struct I8042WriteEffects {
+    pub resets: bool,
+}
+
+/// The bytes that C passes as a pointer and a count.
+///
+/// # Safety
+///
+/// `count` bytes can be read at `bytes`, and nobody writes them while the result is in use. If `count` is 0, `bytes`
+/// may be null.
+unsafe fn bytes_at<'a>(bytes: *const u8, count: usize) -> &'a [u8] {
+    if count == 0 {
+        return &[];
+    }
+    // SAFETY: as the function requires. A slice of no bytes has to have a pointer that is not null, hence the case
+    // above.
+    unsafe { core::slice::from_raw_parts(bytes, count) }
+}
+
+/// The number of an error in the header's `enum superio_saved_state_error`.
+fn load_status(error: Error) -> u32 {
+    match error {
+        Error::TooShort => 1,
+        Error::NotASavedState => 2,
+        Error::OtherDevice => 3,
+        Error::UnknownVersion(_) => 4,
+        Error::WrongLength => 5,
+        Error::TooManyBytes => 6,
+        Error::InvalidArmed => 7,
+    }
+}
+
+/// Writes a loaded device to its place, or says why there is none.
+///
+/// # Safety
+///
+/// A `T` can be written at `place`. It need not hold one.
+unsafe fn store<T>(place: *mut T, loaded: Result<T, Error>) -> u32 {
+    match loaded {
+        Ok(device) => {
+            // SAFETY: as the function requires. What the place held is not dropped: a device owns nothing.
+            unsafe { place.write(device) };
+            LOADED
+        }
+        Err(error) => load_status(error),
+    }
+}
+
+#[no_mangle]
+pub extern "C" fn superio_rtc_new() -> Clock {
+    Clock::new()
+}
+
+#[no_mangle]
+pub extern "C" fn superio_rtc_read(clock: &mut Clock, offset: u16, now: u64) -> RtcReadEffects {
+    let value = clock.read(offset, now);
+    RtcReadEffects { value: value.unwrap_or(0), invalid_read: value.is_none() }
+}
+
+#[no_mangle]
+pub extern "C" fn superio_rtc_write(clock: &mut Clock, offset: u16, value: u32, now: u64) -> RtcWriteEffects {
+    let is_taken = clock.write(offset, value, now);
+    RtcWriteEffects { invalid_write: !is_taken }
+}
+
+#[no_mangle]
+pub extern "C" fn superio_rtc_interrupt_line(clock: &Clock) -> bool {
+    clock.interrupt_line()
+}
+
+#[no_mangle]
+pub extern "C" fn superio_rtc_alarm_due(clock: &Clock, now: u64) -> u64 {
+    clock.alarm_due(now).unwrap_or(NEVER)
+}
+
+/// # Safety
+///
+/// [`SAVED_MAX`] bytes outside the port can be written at `bytes`. They need not be set.
+#[no_mangle]
+pub unsafe extern "C" fn superio_serial_save(port: &SerialPort, bytes: *mut u8) -> usize {
+    let mut form = [0; SAVED_MAX];
+    let count = port.to_bytes(&mut form);
+    // SAFETY: `count` is at most the size of `form` and of the room at `bytes`.
+    unsafe { bytes.copy_from_nonoverlapping(form.as_ptr(), count) };
+    count
+}
+
+/// # Safety
+///
+/// A port can be written at `port`, which need not hold one. `count` bytes outside the port can be read at `bytes`,
+/// which may be null if `count` is 0.
+#[no_mangle]
+pub unsafe extern "C" fn superio_serial_load(port: *mut SerialPort, bytes: *const u8, count: usize) -> u32 {
+    // SAFETY: as the function requires of both.
+    unsafe { store(port, SerialPort::from_bytes(bytes_at(bytes, count))) }
+}
+
+/// # Safety
+///
+/// [`SAVED_SIZE`] bytes outside the clock can be written at `bytes`. They need not be set.
+#[no_mangle]
+pub unsafe extern "C" fn superio_rtc_save(clock: &Clock, bytes: *mut u8) {
+    let form = clock.state().to_bytes();
+    // SAFETY: the form has as many bytes as there is room for at `bytes`.
+    unsafe { bytes.copy_from_nonoverlapping(form.as_ptr(), SAVED_SIZE) };
+}
+
+/// # Safety
+///
+/// A clock can be written at `clock`, which need not hold one. `count` bytes outside the clock can be read at `bytes`,
+/// which may be null if `count` is 0.
+#[no_mangle]
+pub unsafe extern "C" fn superio_rtc_load(clock: *mut Clock, bytes: *const u8, count: usize) -> u32 {
+    // SAFETY: as the function requires of both.
+    unsafe { store(clock, RtcState::from_bytes(bytes_at(bytes, count)).map(|state| Clock::from_state(&state))) }
+}
+
+#[no_mangle]
+pub extern "C" fn superio_serial_new() -> SerialPort {
+    SerialPort::new()
+}
+
+#[no_mangle]
+pub extern "C" fn superio_serial_read(port: &mut SerialPort, offset: u8) -> ReadEffects {
+    port.read(offset)
+}
+
+#[no_mangle]
+pub extern "C" fn superio_serial_write(port: &mut SerialPort, offset: u8, value: u8) -> WriteEffects {
+    port.write(offset, value)
+}
+
+/// # Safety
+///
+/// `count` bytes outside the port can be read at `bytes`, which may be null if `count` is 0.
+#[no_mangle]
+pub unsafe extern "C" fn superio_serial_enqueue(
+    port: &mut SerialPort,
+    bytes: *const u8,
+    count: usize,
+) -> EnqueueEffects {
+    // SAFETY: as the function requires, and `port` is borrowed alone: nobody writes the bytes during the call.
+    port.enqueue_raw_bytes(unsafe { bytes_at(bytes, count) })
+}
+
+#[no_mangle]
+pub extern "C" fn superio_serial_character_timeout(port: &mut SerialPort) -> u8 {
+    port.character_timeout()
+}
+
+#[no_mangle]
+pub extern "C" fn superio_serial_fifo_capacity(port: &SerialPort) -> usize {
+    port.fifo_capacity()
+}
+
+#[no_mangle]
+pub extern "C" fn superio_serial_interrupts_due(port: &SerialPort) -> u8 {
+    port.interrupts_due()
+}
+
+#[no_mangle]
+pub extern "C" fn superio_serial_interrupt_line(port: &SerialPort) -> bool {
+    port.interrupt_line()
+}
+
+#[no_mangle]
+pub extern "C" fn superio_serial_is_coherent(port: &SerialPort) -> bool {
+    port.is_coherent()
+}
+
+#[no_mangle]
+pub extern "C" fn superio_abi() -> u32 {
+    ABI
+}
+
+#[no_mangle]
+pub extern "C" fn superio_i8042_read(_offset: u8) -> u8 {
+    0
+}
+
+#[no_mangle]
+pub extern "C" fn superio_i8042_write(offset: u8, value: u8) -> I8042WriteEffects {
+    I8042WriteEffects { resets: devices::i8042::is_reset_command(offset, value) }
+}
+
+/// No call reaches this: it is proved that none panics. A library without an operating system has to have it.
+#[panic_handler]
+fn stop(_: &core::panic::PanicInfo) -> ! {
+    loop {
+        core::hint::spin_loop();
+    }
+}

@@ -1,0 +1,172 @@
+//! The byte form of a serial port's state.
+ghost use Rattle.std.specs.Prelude.{◌≡◌, ◌≤◌, length, List, ℕ, ◌++◌, take, drop, IfOk};
+ghost use Rattle.std.specs.Result.{result_err, IsOkAnd};
+ghost use Rattle.superio_core.specs.Serial.{state_with, State, state_of_uart, ring_contents};
+ghost use Rattle.superio_core.specs.Saved.{serial_encoding, serial_fault};
+
+use std::marker::Model;
+
+use super::super::fifo::{FIFO_SIZE, RxFifo, ArrayFifo};
+use super::super::saved::{SavedStateError, HEADER_SIZE, SERIAL_KIND, decode_header, header};
+use super::Uart;
+use super::registers::{REGISTER_COUNT, Registers};
+
+/// The size of a form without received bytes: the header and the registers.
+const SAVED_MIN: usize = HEADER_SIZE + REGISTER_COUNT;
+
+/// The maximum size of a port's byte form: the header, the registers and 64 received bytes.
+pub const SAVED_MAX: usize = SAVED_MIN + FIFO_SIZE;
+
+/// The bytes of a saved port. Contracts see a list of at most 81 bytes.
+#[derive(Drop)]
+pub struct SerialEncoding {
+    bytes: [u8; SAVED_MAX],
+    count: usize,
+}
+
+impl Model for SerialEncoding {
+    ghost Value = { List ℕ };
+
+    ghost view = { λ form. take form.count form.bytes };
+
+    ghost invariant = { λ form. form.count ≤ 81 };
+}
+
+impl SerialEncoding {
+    /// The bytes.
+    pub fn as_bytes(&self) -> &[u8]
+        ensures { result.now ≡ self.now }
+    {
+        &self.bytes[..self.count]
+    }
+}
+
+impl Uart {
+    /// The port as bytes; `from_bytes` reads them back. Any struct has a form: a port never holds more than 64 bytes.
+    /// The form has no byte that the guest has read.
+    ///
+    /// It is a header of eight bytes, the registers in the order of the fields, and the received bytes, oldest first.
+    pub fn to_bytes(&self) -> SerialEncoding
+        ensures form { result ≡ serial_encoding (state_of_uart self.now) }
+        ensures at_most_81 { length result ≤ 81 }
+    {
+        let (held, count) = fifo_to_array(self.in_buffer);
+        let mut bytes = [0; SAVED_MAX];
+        let count = self.registers.encode_serial(&held[..count], &mut bytes);
+        SerialEncoding { bytes, count }
+    }
+
+    /// Reads a port back from these bytes, whatever its registers hold. It may be incoherent:
+    /// [`is_coherent`](Self::is_coherent) tells.
+    ///
+    /// # Errors
+    ///
+    /// Returns the first check that fails, in the order of [`SavedStateError`]: any case but [`SavedStateError::InvalidArmed`].
+    pub fn from_bytes(bytes: &[u8]) -> Result<Uart, SavedStateError>
+        ensures form { IfOk result (λ port. bytes.now ≡ serial_encoding (state_of_uart port)) }
+        ensures at_most_64 { IfOk result (λ port. port.in_buffer.len ≤ 64) }
+        ensures read { (state : State) → length state.in_buffer ≤ 64 → bytes.now ≡ serial_encoding state →
+            IsOkAnd result (λ port. state_of_uart port ≡ state) }
+        ensures fault { result_err result ≡ serial_fault bytes.now }
+    {
+        let (registers, held) = decode_serial(bytes)?;
+        let mut in_buffer = ArrayFifo::new();
+        in_buffer.fill(held);
+        Ok(Uart {
+            registers,
+            in_buffer,
+        })
+    }
+}
+
+/// The held bytes, oldest first, at the start of an array, and their number.
+fn fifo_to_array(mut held: ArrayFifo) -> ([u8; FIFO_SIZE], usize)
+    ensures bytes { take result.1 result.0 ≡ ring_contents held }
+    ensures bound { result.1 ≤ 64 }
+{
+    let mut bytes = [0; FIFO_SIZE];
+    let mut count = 0;
+    while let Some(byte) = held.take_first() {
+        bytes[count] = byte;
+        count += 1;
+    }
+    (bytes, count)
+}
+
+impl Registers {
+    /// Writes the form of a port with these registers and received bytes to the start of `form`, and returns its
+    /// length. The other bytes do not change.
+    fn encode_serial(&self, held: &[u8], form: &mut [u8; SAVED_MAX]) -> usize
+        requires { length held.now ≤ 64 }
+        ensures count { result ≡ length (serial_encoding (state_with self.now held.now)) }
+        ensures form { form.new ≡ serial_encoding (state_with self.now held.now) ++ drop result form.old }
+    {
+        let (start, rest) = form.split_at_mut(SAVED_MIN);
+        start.copy_from_slice(&self.encode_prefix(held.len()));
+        rest[..held.len()].copy_from_slice(held);
+        SAVED_MIN + held.len()
+    }
+
+    /// The start of the form of a port with these registers and `held` received bytes.
+    fn encode_prefix(&self, held: usize) -> [u8; SAVED_MIN]
+        requires { held ≤ 64 }
+        ensures { (in_buffer : List ℕ) → length in_buffer ≡ held →
+            result ++ in_buffer ≡ serial_encoding (state_with self.now in_buffer) }
+    {
+        let [m0, m1, m2, m3, kind, version, low, high] = header(
+            SERIAL_KIND,
+            (REGISTER_COUNT + held) as u16,
+        );
+        [
+            m0,
+            m1,
+            m2,
+            m3,
+            kind,
+            version,
+            low,
+            high,
+            self.baud_divisor_low,
+            self.baud_divisor_high,
+            self.interrupt_enable,
+            self.interrupt_identification,
+            self.line_control,
+            self.line_status,
+            self.modem_control,
+            self.modem_status,
+            self.scratch,
+        ]
+    }
+}
+
+/// The registers and the received bytes of a port's form.
+///
+/// # Errors
+///
+/// As for [`Uart::from_bytes`].
+fn decode_serial(bytes: &[u8]) -> Result<(Registers, &[u8]), SavedStateError>
+    ensures form { IfOk result (λ found. bytes.now ≡ serial_encoding (state_with found.0 found.1.now)) }
+    ensures at_most_64 { IfOk result (λ found. length found.1.now ≤ 64) }
+    ensures fault { result_err result ≡ serial_fault bytes.now }
+{
+    match decode_header(SERIAL_KIND, bytes)? {
+        [dll, dlm, ier, iir, lcr, lsr, mcr, msr, scr, in_buffer @ ..] => {
+            if in_buffer.len() > FIFO_SIZE {
+                return Err(SavedStateError::TooManyBytes);
+            }
+            let registers = Registers {
+                baud_divisor_low: *dll,
+                baud_divisor_high: *dlm,
+                interrupt_enable: *ier,
+                interrupt_identification: *iir,
+                line_control: *lcr,
+                line_status: *lsr,
+                modem_control: *mcr,
+                modem_status: *msr,
+                scratch: *scr,
+            };
+            Ok((registers, in_buffer))
+        }
+        _ => Err(SavedStateError::WrongLength),
+    }
+}

@@ -1,0 +1,50 @@
+"""The files of the C library: where they are, and the digests by which others compare them."""
+import hashlib
+import re
+from pathlib import Path
+
+ROOT = Path(__file__).resolve().parents[2]
+PREBUILT = ROOT / "prebuilt"
+HEADER = ROOT / "bindings" / "c" / "superio.h"
+# What programs have compiled into them of the header, as a table, which Python reads.
+INTERFACE = ROOT / "bindings" / "python" / "superio" / "superio.abi"
+STATIC = "libsuperio_c.a"
+# Its number is the header's. What needs a header that is missing says so.
+SHARED = "libsuperio.so." + "".join(re.findall(r"^#define SUPERIO_ABI (\d+)$", HEADER.read_text(encoding="ascii"), re.M)
+                                    if HEADER.is_file() else [])
+# Beside each folder of `prebuilt`: what `rt lib` is told to build for, and the linker's name of it. The host's is last,
+# so that it is what `out/` keeps.
+TARGETS = {
+    "aarch64-linux": ("--target aarch64-unknown-linux-gnu", "aarch64linux"),
+    "x86_64-linux": ("--cpu=x86-64", "elf_x86_64"),
+}
+# The crates whose sources are compiled into the library.
+SOURCE_FOLDERS = ["crates/superio_c/src", "crates/superio_core/src"]
+
+
+def digest(path):
+    return hashlib.sha256(path.read_bytes()).hexdigest()
+
+
+def sums_of(folder, names):
+    """The lines of SHA256SUMS for files of a folder, as `sha256sum --check` reads them."""
+    return [f"{digest(folder / name)}  {name}" for name in names]
+
+
+def library_sums(folder):
+    """The lines of SHA256SUMS for the libraries of a folder."""
+    return sums_of(folder, [f"{target}/{name}" for target in TARGETS for name in (STATIC, SHARED)])
+
+
+def source_line(folders=SOURCE_FOLDERS, ending=".rt"):
+    """A line of SOURCES: the digest of what `sha256sum` prints of the sources, in the order of their paths."""
+    paths = sorted(path for folder in folders for path in (ROOT / folder).rglob(f"*{ending}"))
+    listing = "".join(f"{line}\n" for line in sums_of(ROOT, sorted(it.relative_to(ROOT).as_posix() for it in paths)))
+    return f"{hashlib.sha256(listing.encode()).hexdigest()}  the sources in {' and '.join(folders)}"
+
+
+def replace_lines(path, lines):
+    """Writes lines of a digest and a name into a file, in the place of those with the same names."""
+    old = path.read_text(encoding="ascii").splitlines() if path.exists() else []
+    by_name = {line.partition("  ")[2]: line for line in [*old, *lines]}
+    path.write_text("".join(line + "\n" for line in by_name.values()), encoding="ascii")

@@ -1,0 +1,307 @@
+/*
+ * Makes the calls of tests/data/calls and of own.txt, which come on standard input, over the C library, as C and as C++, and
+ * compares what each did. The trigger, the writer and the events object, which the library leaves to its caller, are
+ * here. Each struct and each string of bytes is beside a page that nobody may touch: in turn after one and before one.
+ *
+ * Prints the first ten lines that differ, and how many calls did the same. Exits 1 if one differs, or if there is none.
+ */
+#define _DEFAULT_SOURCE
+#include <superio.h>
+
+#include <inttypes.h>
+#include <stdio.h>
+#include <stdlib.h>
+#include <string.h>
+#include <sys/mman.h>
+
+enum { HEADER = 8, REGISTERS = 9, SHOWN = 16, MOST_WORDS = 8, MOST_TEXT = 1024 };
+/* The size of a page, and which ones may be used. */
+enum { PAGE = 131072, PORT_PAGE = 1, CLOCK_PAGE = 3, BYTES_PAGE = 5, PAGES = 7 };
+
+static uint8_t *memory;
+static superio_serial *port;
+static superio_rtc *rtc;
+static unsigned long line_number;
+
+/* The call's name and its numbers, and how the objects behave in it: the letters of tests/data/calls. */
+static char *words[MOST_WORDS + 1], behaviour[MOST_WORDS + 1];
+static int trigger_calls;
+
+/* What the call did: its reply, and then the calls of objects. */
+static char reply[MOST_TEXT], events[MOST_TEXT];
+
+static uint64_t number(int place) { return strtoull(words[place], NULL, 16); }
+
+#define add(text, ...) sprintf((text) + strlen(text), __VA_ARGS__)
+
+static void add_bytes(const void *bytes, size_t count) {
+    for (size_t i = 0; i < count; i++)
+        add(reply, "%02x", ((const uint8_t *)bytes)[i]);
+}
+
+/* Nobody may touch the pages beside those. */
+static void make_memory(void) {
+    memory = (uint8_t *)mmap(NULL, PAGES * PAGE, PROT_NONE, MAP_PRIVATE | MAP_ANONYMOUS, -1, 0);
+    for (int page = PORT_PAGE; page < PAGES; page += 2)
+        if (memory == MAP_FAILED || mprotect(memory + page * PAGE, PAGE, PROT_READ | PROT_WRITE) != 0)
+            exit(2);
+}
+
+/* A place of so many bytes: in one line right after a guard, and in the next right before one. */
+static void *beside_guard(int page, size_t size) {
+    return memory + page * PAGE + (line_number % 2 == 0 ? 0 : PAGE - size);
+}
+
+/* The bytes of a word, or NULL if there are none. */
+static uint8_t *bytes_of(const char *digits, size_t *count) {
+    *count = *digits == '-' ? 0 : strlen(digits) / 2;
+    uint8_t *bytes = (uint8_t *)beside_guard(BYTES_PAGE, *count);
+    for (size_t i = 0; i < *count; i++)
+        sscanf(digits + 2 * i, "%2" SCNx8, &bytes[i]);
+    return *count > 0 ? bytes : NULL;
+}
+
+/* ---- the objects */
+
+/* The first call is refused if `1` stands in the line, and the second if `2` does. */
+static bool trigger(void) {
+    bool is_refused = strchr(behaviour, '1' + trigger_calls++) != NULL;
+    add(events, is_refused ? " R" : " T");
+    return !is_refused;
+}
+
+/* Sends a byte as Rust's `write_all` and `flush` do. */
+static bool send(uint8_t byte) {
+    add(events, " W%02x", byte);
+    if (strchr(behaviour, 'i')) /* interrupted once: again */
+        add(events, " W%02x", byte);
+    if (strpbrk(behaviour, "nf"))
+        return false;
+    add(events, " F");
+    return !strchr(behaviour, 'u');
+}
+
+/* Asks for interrupts up to a refusal. Returns how many are left. */
+static int ask(int interrupts) {
+    while (interrupts > 0 && trigger())
+        interrupts--;
+    return interrupts;
+}
+
+/*
+ * Replies whether the interrupts that a call asks for were taken. They are due, so that they can be retried. The
+ * recordings have vm-superio's behaviour: it raises THRE only after the interrupt of RDA is taken. The library raises
+ * both, and a refusal changes nothing. So if both are left, this takes THRE back by the field: any bytes are a port.
+ */
+static bool request(int interrupts) {
+    if (superio_serial_interrupts_due(port) < interrupts)
+        add(events, " which is not due");
+    int left = ask(interrupts);
+    if (left == 2)
+        port->interrupt_identification &= (uint8_t)~0x02;
+    return left == 0;
+}
+
+/* ---- the serial port */
+
+static void reply_port(void) {
+    uint8_t form[SUPERIO_SERIAL_SAVED_MAX];
+    size_t held = superio_serial_save(port, form) - HEADER - REGISTERS;
+    add_bytes(form + HEADER, REGISTERS);
+    add(reply, held == 0 ? " -" : " ");
+    add_bytes(form + HEADER + REGISTERS, held);
+    add(reply, " %02zx", superio_serial_fifo_capacity(port));
+}
+
+static void serial_read(void) {
+    superio_serial_read_effects done = superio_serial_read(port, (uint8_t)number(1));
+    add(reply, "%02x", done.byte);
+    add(events, "%s%s", done.in_buffer_empty ? " e" : "", done.buffer_read ? " b" : "");
+}
+
+static void serial_write(void) {
+    uint8_t value = (uint8_t)number(2);
+    superio_serial_write_effects done = superio_serial_write(port, (uint8_t)number(1), value);
+    bool is_sent = !done.sends || send(value);
+    if (done.sends)
+        add(events, is_sent ? " o" : " l");
+    add(reply, !request(done.interrupts) ? "trigger" : is_sent ? "ok" : "io");
+}
+
+static void serial_enqueue(void) {
+    size_t count;
+    const uint8_t *bytes = bytes_of(words[1], &count);
+    superio_serial_enqueue_effects done = superio_serial_enqueue(port, bytes, count);
+    if (done.fifo_full)
+        add(reply, "full");
+    else if (request(done.interrupts))
+        add(reply, "%02zx", done.accepted);
+    else
+        add(reply, "trigger");
+}
+
+/* A port takes the place of this one if its interrupts are not refused. */
+static void restore(superio_serial restored) {
+    superio_serial before = *port;
+    *port = restored;
+    if (ask(superio_serial_interrupts_due(port)) == 0) {
+        reply_port();
+    } else {
+        *port = before;
+        add(reply, "trigger");
+    }
+}
+
+static void serial_struct(void) {
+    size_t count;
+    if (words[1]) {
+        const uint8_t *bytes = bytes_of(words[1], &count);
+        memset(port, 0, sizeof *port);
+        memcpy(port, bytes, count);
+    }
+    add_bytes(port, SHOWN);
+}
+
+/* Any place can be that of the oldest byte, and any number from 64 on says that as many are held. */
+static void serial_state(void) {
+    superio_serial restored = superio_serial_new();
+    size_t count;
+    memcpy(&restored, bytes_of(words[1], &count), REGISTERS);
+    const uint8_t *bytes = bytes_of(words[2], &count);
+    if (count > SUPERIO_SERIAL_FIFO_SIZE) {
+        add(reply, "full");
+        return;
+    }
+    restored.head = (uint8_t)line_number;
+    restored.len = (uint8_t)(count < SUPERIO_SERIAL_FIFO_SIZE ? count : count + line_number % 192);
+    for (size_t i = 0; i < count; i++)
+        restored.bytes[(restored.head + i) % SUPERIO_SERIAL_FIFO_SIZE] = bytes[i];
+    restore(restored);
+}
+
+/* ---- the clock, and saved devices */
+
+static void clock_state(void) {
+    if (words[1]) {
+        *rtc = superio_rtc_new();
+        rtc->lr = (uint32_t)number(1);
+        rtc->mr = (uint32_t)number(3);
+        rtc->imsc = (uint32_t)number(4);
+        rtc->ris = (uint32_t)number(5);
+        rtc->offset = strtoll(words[2], NULL, 10);
+        if (words[6]) /* any number but 0 says that an alarm is set */
+            memset((uint8_t *)&rtc->armed + sizeof rtc->armed / 2, 1, 1);
+    }
+    add(reply, "%08" PRIx32 " %" PRId64 " %08" PRIx32 " %08" PRIx32 " %08" PRIx32 "%s", rtc->lr, rtc->offset, rtc->mr,
+        rtc->imsc, rtc->ris, rtc->armed ? " armed" : "");
+}
+
+static void clock_read(void) {
+    superio_rtc_read_effects done = superio_rtc_read(rtc, (uint16_t)number(2), number(1));
+    add(events, done.invalid_read ? " i" : "");
+    if (done.invalid_read && done.value == 0)
+        add(reply, "a5a5a5a5");
+    else
+        add(reply, "%08" PRIx32, done.value);
+}
+
+static void clock_write(void) {
+    if (superio_rtc_write(rtc, (uint16_t)number(2), (uint32_t)number(3), number(1)).invalid_write)
+        add(events, " j");
+    add(reply, "ok");
+}
+
+static void save_form(bool is_serial) {
+    size_t count = is_serial ? SUPERIO_SERIAL_SAVED_MAX : SUPERIO_RTC_SAVED_SIZE;
+    uint8_t *bytes = (uint8_t *)beside_guard(BYTES_PAGE, count);
+    if (is_serial)
+        count = superio_serial_save(port, bytes);
+    else
+        superio_rtc_save(rtc, bytes);
+    add_bytes(bytes, count);
+}
+
+/* Loads a form as a device, and replies with the status in the words of docs/SCRIPT.md. */
+static void load_form(bool is_serial) {
+    static const char *const WORDS[] = {"ok", "too short", "not a saved state", "other device", "unknown version",
+                                        "wrong length", "too many bytes", "invalid armed"}; /* by the status */
+    size_t count;
+    const uint8_t *bytes = bytes_of(words[1], &count);
+    uint32_t status = is_serial ? superio_serial_load(port, bytes, count) : superio_rtc_load(rtc, bytes, count);
+    strcat(reply, status < sizeof WORDS / sizeof *WORDS ? WORDS[status] : "no status");
+    if (status == SUPERIO_LOAD_UNKNOWN_VERSION)
+        add(reply, " %02x", bytes[5]);
+}
+
+static void answer(bool is_taken) { add(reply, is_taken ? "ok" : "trigger"); }
+
+#define IS(name) (strcmp(words[0], name) == 0)
+
+static void make_call(void) {
+    if (IS("sr")) serial_read();
+    else if (IS("sw")) serial_write();
+    else if (IS("sq")) serial_enqueue();
+    else if (IS("si")) answer(request(superio_serial_character_timeout(port)));
+    else if (IS("sp")) answer(ask(superio_serial_interrupts_due(port)) == 0);
+    else if (IS("ss")) restore(*port);
+    else if (IS("sx")) serial_struct();
+    else if (IS("sl") && words[2]) serial_state();
+    else if (IS("sl") || (IS("cl") && !words[2])) load_form(IS("sl"));
+    else if (IS("sb") || IS("cb")) save_form(IS("sb"));
+    else if (IS("sc")) add(reply, "%02zx", superio_serial_fifo_capacity(port));
+    else if (IS("sh")) add(reply, "%02x", superio_serial_interrupt_line(port));
+    else if (IS("sf")) add(reply, "%02x", superio_serial_is_coherent(port));
+    else if (IS("cr")) clock_read();
+    else if (IS("cw")) clock_write();
+    else if (IS("cl") || IS("cs")) clock_state();
+    else if (IS("cd") && superio_rtc_alarm_due(rtc, number(1)) == SUPERIO_RTC_NEVER) add(reply, "never");
+    else if (IS("cd")) add(reply, "%08" PRIx64, superio_rtc_alarm_due(rtc, number(1)));
+    else if (IS("ch")) add(reply, "%02x", superio_rtc_interrupt_line(rtc));
+    else if (IS("kr")) add(reply, "%02x", superio_i8042_read((uint8_t)number(1)));
+    else if (IS("kw")) answer(!superio_i8042_write((uint8_t)number(1), (uint8_t)number(2)).resets || trigger());
+}
+
+/* Takes the words of a line's text, of which the last tell how the objects behave, and makes its call. */
+static void carry_out(char *text) {
+    int count = 0;
+    memset(words, 0, sizeof words);
+    for (char *word = strtok(text, " "); word && count < MOST_WORDS; word = strtok(NULL, " "))
+        words[count++] = word;
+    reply[0] = events[0] = behaviour[0] = '\0';
+    trigger_calls = 0;
+    for (; count > 1 && strlen(words[count - 1]) == 1 && strpbrk(words[count - 1], "12nifu"); words[--count] = NULL)
+        strcat(behaviour, words[count - 1]);
+    if (count > 0)
+        make_call();
+}
+
+int main(void) {
+    static char line[4 * PAGE], text[4 * PAGE];
+    unsigned long same = 0, different = 0;
+    if (!SUPERIO_ABI_MATCHES() || superio_abi() != SUPERIO_ABI)
+        return 2;
+    make_memory();
+    port = (superio_serial *)beside_guard(PORT_PAGE, sizeof *port);
+    rtc = (superio_rtc *)beside_guard(CLOCK_PAGE, sizeof *rtc);
+    *port = superio_serial_new();
+    *rtc = superio_rtc_new();
+    while (fgets(line, sizeof line, stdin)) {
+        char *equals = strstr(line, " = ");
+        if (!equals)
+            continue;
+        line[strcspn(line, "\n")] = '\0';
+        sprintf(text, "%.*s", (int)(equals - line), line);
+        line_number++;
+        /* Any bytes are a device, so the devices can be moved as bytes. */
+        port = (superio_serial *)memmove(beside_guard(PORT_PAGE, sizeof *port), port, sizeof *port);
+        rtc = (superio_rtc *)memmove(beside_guard(CLOCK_PAGE, sizeof *rtc), rtc, sizeof *rtc);
+        carry_out(text);
+        strcat(reply, events);
+        if (strcmp(reply, equals + 3) == 0)
+            same++;
+        else if (different++ < 10)
+            printf("recorded: %s\ngot:      %s\n", line, reply);
+    }
+    printf("%lu calls did the same, %lu did not\n", same, different);
+    return different != 0 || same == 0;
+}

@@ -1,0 +1,136 @@
+"""Cargo without a network, in copies of bindings/rust and for programs of tools over it, and which of the installed
+toolchains of Rust can build for a target."""
+import os
+import re
+import shutil
+import subprocess
+from pathlib import Path
+from typing import NamedTuple
+
+from tally import run
+
+ROOT = Path(__file__).resolve().parents[2]
+BINDINGS, COMPARISON = ROOT / "bindings" / "rust", ROOT / "tests" / "compare"
+# The folder of vm-superio 0.8.2.
+ORIGINAL = Path(os.environ["VM_SUPERIO"]).resolve() if "VM_SUPERIO" in os.environ else None
+# Debian's compiler, beside which another may come first in PATH.
+DEBIAN_RUSTC = Path("/usr/bin/rustc")
+# Most is built once, and nothing is debugged.
+SETTINGS = {"CARGO_INCREMENTAL": "0", "CARGO_PROFILE_DEV_DEBUG": "0", "CARGO_NET_OFFLINE": "true"}
+# A program over bindings/rust or, without the feature, over a vm-superio, which it takes by the line of the README.
+PROGRAM = """
+[lib]
+name = "objects"
+path = "{1}/objects.rs"
+[[bin]]
+name = "{0}"
+path = "{1}/{0}.rs"
+[features]
+further = []
+[dependencies]
+superio = {{ package = "vm-superio", version = "0.8.2" }}
+[patch.crates-io]
+vm-superio = {{ path = "{2}" }}
+[profile.release]
+codegen-units = 1
+overflow-checks = true
+"""
+
+
+class Toolchain(NamedTuple):
+    """The compiler of a toolchain, the Cargo beside it, and its version."""
+    rustc: str
+    cargo: str
+    version: str
+
+    def environment(self, **more):
+        return {**os.environ, "RUSTC": self.rustc, "RUSTDOC": str(Path(self.rustc).with_name("rustdoc")), **more}
+
+
+def toolchains():
+    """The toolchains, the one of PATH first."""
+    for rustc in dict.fromkeys((shutil.which("rustc"), str(DEBIAN_RUSTC))):
+        cargo = Path(rustc or "nowhere").with_name("cargo")
+        if cargo.is_file():
+            said = subprocess.run([rustc, "--version"], capture_output=True, text=True)
+            yield Toolchain(rustc, str(cargo), said.stdout.split()[1])
+
+
+def toolchain_for(target):
+    """The first toolchain that has the libraries of a target, or `None`."""
+    for found in toolchains():
+        words = [found.rustc, "--print", "target-libdir", "--target", target]
+        if Path(subprocess.run(words, capture_output=True, text=True).stdout.strip() or "none").is_dir():
+            return found
+    return None
+
+
+def lacking():
+    """What is not here of what builds with Cargo, or `None`. By cc it links programs."""
+    return next((tool for tool in ("cargo", "cc") if not shutil.which(tool)), None)
+
+
+def add_crate(folder, code, rest="[features]\nderive = []\n"):
+    """Makes a crate, whose name and version the folder may have. One without code takes the place of an optional
+    dependency, which has to be there, to be left out."""
+    name, _, version = folder.name.partition("-")
+    head = f'[package]\nname = "{name}"\nversion = "{version or "0.1.0"}"\nedition = "2021"\n'
+    (folder / "src").mkdir(parents=True)
+    (folder / "src" / "lib.rs").write_text(code or "", encoding="utf-8")
+    (folder / "Cargo.toml").write_text(head + rest, encoding="utf-8")
+
+
+class Cargo:
+    """Runs Cargo offline in the folder of a crate. Other crates are those of a registry, or an empty serde alone."""
+
+    def __init__(self, folder, toolchain=None, registry=None):
+        self.folder, self.cargo = folder, toolchain.cargo if toolchain else "cargo"
+        self.environment = {**(toolchain.environment() if toolchain else os.environ), **SETTINGS,
+                            "CARGO_TARGET_DIR": str(folder / "target")}
+        stand_in = folder / ".cargo" / "serde-1.0.0"
+        add_crate(stand_in, None)
+        (folder / ".cargo" / "config.toml").write_text(
+            f'source.crates-io.replace-with = "registry"\nsource.registry.directory = "{registry}"\n' if registry else
+            f'patch.crates-io.serde.path = "{stand_in}"\n', encoding="utf-8")
+
+    def run(self, *words, **environment):
+        """Runs a command, and gives its status and all that it printed."""
+        return subprocess.run([self.cargo, *words], cwd=self.folder, env={**self.environment, **environment},
+                              stdout=subprocess.PIPE, stderr=subprocess.STDOUT, text=True, errors="replace")
+
+    def check(self, tally, *words, **environment):
+        """Counts whether a command succeeds."""
+        ran = self.run(*words, **environment)
+        return tally.check(ran.returncode == 0, f"cargo {' '.join(words)}:\n{ran.stdout}")
+
+    def check_tests(self, tally, what, *words, **environment):
+        """Counts the tests that pass, of which there have to be some, and says how many."""
+        ran = self.run("test", *words, **environment)
+        found = re.findall(r"^test result: ok\. (\d+) passed", ran.stdout, flags=re.M)
+        passed = 0 if ran.returncode else sum(map(int, found))
+        if tally.check(passed, f"{what}: {ran.stdout}", passed):
+            print(f"{what}: {passed} tests")
+
+
+def copied_crate(folder, toolchain=None):
+    """Cargo in a copy of the crate: a Cargo.lock with an empty serde would not do for who has another."""
+    shutil.copytree(BINDINGS, folder, ignore=shutil.ignore_patterns("target", "Cargo.lock"))
+    return Cargo(folder, toolchain)
+
+
+class Comparison(Cargo):
+    """A program of tests/compare, over bindings/rust or over a vm-superio."""
+
+    def __init__(self, folder, crate=None, name="compare"):
+        add_crate(folder, None, PROGRAM.format(name, COMPARISON, crate or BINDINGS))
+        super().__init__(folder)
+        self.features, self.program = [] if crate else ["--features=further"], folder / "target" / "release" / name
+
+    def build(self, **environment):
+        """Returns what Cargo ended with."""
+        return self.run("build", "--release", "--quiet", *self.features, **environment)
+
+    def make(self, calls):
+        """Makes calls. Returns each with what it did and, if the program failed, its status."""
+        ran = run([self.program], input="\n".join(calls), stderr=None)  # to which panics of vm-superio write
+        return ran.stdout.splitlines() + [f"status {ran.returncode}"] * (ran.returncode != 0)

@@ -1,0 +1,56 @@
+//! The calls that bindings/rust has beside those of the Rust crate. tests/checks/calls makes each.
+use superio::rtc_pl031::{Rtc, RtcSnapshot};
+use superio::saved::SavedStateError;
+use superio::serial::SerialState;
+use superio::serial::line::InterruptLine;
+use superio::serial::timeout::CharacterTimeout;
+
+use crate::{Devices, Outcome, bytes_of, clock_of, hex, name_of, number, text_of, text_of_clock};
+
+impl Devices {
+    pub fn carry_out_further(&mut self, words: &[&str]) -> Outcome {
+        match *words {
+            ["si"] => self.serial.character_timeout().map(|()| "ok".into()).map_err(name_of),
+            ["sp"] => self.serial.retry_interrupts().map(|()| "ok".into()).map_err(|_| "trigger".into()),
+            ["sh"] => hex(self.serial.interrupt_line().into()),
+            ["sf"] => hex(self.serial.state().is_coherent().into()),
+            ["sb"] => self.serial.state().to_bytes().map(|bytes| text_of(&bytes)).map_err(fault),
+            ["sl", form] => self.load(&SerialState::from_bytes(&bytes_of(form)).map_err(fault)?),
+            ["ch"] => hex(self.clock.line().into()),
+            ["cd", moment] => Ok(self.clock.due(number(moment)).map_or("never".into(), |due| format!("{due:08x}"))),
+            ["cb"] => Ok(text_of(&self.clock.snapshot().to_bytes())),
+            ["cl", .., "armed"] => self.take_snapshot(&RtcSnapshot { armed: true, ..clock_of(words).into() }),
+            ["cl", form] => {
+                self.take_snapshot(&RtcSnapshot::from_bytes(&bytes_of(form)).map_err(fault)?)?;
+                Ok("ok".into())
+            }
+            _ => Err("no call".into()),
+        }
+    }
+
+    /// What the interrupts of a loaded port call is left out, since no one calls the trigger in C.
+    fn load(&mut self, state: &SerialState) -> Outcome {
+        self.object.begin(&[]);
+        self.restore(state)?;
+        self.object.begin(&[]);
+        Ok("ok".into())
+    }
+
+    pub fn take_snapshot(&mut self, snapshot: &RtcSnapshot) -> Outcome {
+        self.clock = Rtc::from_snapshot(snapshot, self.clock.events().clone());
+        Ok(text_of_clock(&self.clock.state()) + if self.clock.is_armed() { " armed" } else { "" })
+    }
+}
+
+/// What a load says of bytes that it refuses.
+fn fault(error: SavedStateError) -> String {
+    match error {
+        SavedStateError::TooShort => "too short".into(),
+        SavedStateError::NotASavedState => "not a saved state".into(),
+        SavedStateError::OtherDevice => "other device".into(),
+        SavedStateError::UnknownVersion(version) => format!("unknown version {version:02x}"),
+        SavedStateError::WrongLength => "wrong length".into(),
+        SavedStateError::TooManyBytes => "too many bytes".into(),
+        SavedStateError::InvalidArmed => "invalid armed".into(),
+    }
+}

@@ -1,0 +1,177 @@
+/**
+ * Tries the page docs/try.html in frames of this one, which tests/page/check opens in a browser, with what is to be
+ * tried in the element `tried`. Tells on the console, as JSON, of what kind each thing is, how many, and what is wrong.
+ */
+const { address, shown, features, pictures, scripts } = JSON.parse(document.getElementById("tried").textContent);
+const [HEIGHT, WIDTHS, SCHEMES, MOST_MILLISECONDS] = [860, [1280, 400], ["light", "dark"], 500];
+
+const tell = (kind, wrong, number = 1) => console.log(JSON.stringify({ kind, number, wrong: wrong.join("\n  ") }));
+const until = async (test) => { while (!test()) await new Promise((done) => setTimeout(done)); };
+
+/** The window of the page, and how many milliseconds after its start it was there, at the fastest. */
+let [page, fastest] = [null, Infinity];
+
+/** Opens the page anew, with a fragment of its address. */
+async function open(fragment, width = WIDTHS[0], scheme = SCHEMES[0]) {
+  const frame = document.createElement("iframe");
+  Object.assign(frame, { src: address + fragment, width, height: HEIGHT });
+  frame.style.colorScheme = scheme;
+  document.body.replaceChildren(frame);
+  await until(() => frame.contentWindow.superio);
+  page = frame.contentWindow;
+  fastest = Math.min(fastest, page.superio.shownAfter);
+}
+
+const by = (id) => page.document.getElementById(id);
+const all = (selector, within = page.document) => Array.from(within.querySelectorAll(selector));
+const texts = (selector) => all(selector).map((one) => one.textContent);
+const labels = (selector) => all(selector).map((one) => one.getAttribute("aria-label") ?? one.id).join(", ");
+/** The shown registers, by their offsets. */
+const register = (offset) => all("#registers .register:not([hidden])")[offset];
+const set = (id, value, event) => { by(id).value = value; by(id).dispatchEvent(new Event(event)); };
+/** Where the playback stopped. */
+let stops = [];
+/** What was copied. */
+let copied = "";
+
+/** What a user does, by the first word of a step. */
+const STEPS = {
+  click: (...ids) => ids.forEach((id) => by(id).click()),
+  read: (offset) => register(offset).querySelector("button[type=button]").click(),
+  put: (offset, value) => {
+    register(offset).querySelector("input").value = value;
+    register(offset).querySelector(".act button:last-child").click();
+  },
+  bit: (offset, name) => all(".bit", register(offset)).find((one) => one.textContent === name).click(),
+  fill: (id, ...words) => set(id, words.join(" "), "input"),
+  enter: (id, ...words) => { STEPS.fill(id, ...words); by(id).form.requestSubmit(); },
+  choose: (id, value) => set(id, value, "change"),
+  key: (key) => by("list").dispatchEvent(new KeyboardEvent("keydown", { key, cancelable: true })),
+  line: (number) => by("list").children[number - 1].click(),
+  copy: async () => {
+    by("said").textContent = copied = "";
+    const clipboard = { writeText: async (text) => { copied = text; } };
+    Object.defineProperty(page.navigator, "clipboard", { value: clipboard, configurable: true });
+    by("copy").click();
+    await until(() => by("said").textContent);
+  },
+  wait: (start) => until(() => SEEN.lines().includes(`${start} `)),
+  play: async (times) => {
+    for (by("speed").value = "60000"; stops.length < times; stops.push(by("boot-at").value)) {
+      by("play").click();
+      await until(() => by("play").textContent !== "Pause");
+    }
+  },
+};
+
+/** What is seen. An access of the clock by hand has the host's time. */
+const SEEN = {
+  lines: () => Array.from(by("list").children, ({ children: [, line, reply] }) =>
+    `${line.textContent}=${reply.textContent}`).join(" ").replace(/(c[rw]) (?!0{15}1)\w{16}/, "$1 NOW"),
+  now: () => texts("#list .now").join(),
+  values: () => texts("#registers .register:not([hidden]) code").join(" "),
+  names: () => texts("#registers .register:not([hidden]) b").join(" "),
+  changed: () => texts("#registers .changed b").join(" "),
+  flipped: () => texts("#registers .flipped").join(" "),
+  ignored: () => labels("#registers [aria-label$=ignored]"),
+  invalid: () => labels("[aria-invalid=true]"),
+  lit: () => texts("#port .lit").join(", "),
+  held: () => by("fifo").querySelector("text").textContent,
+  ring: () => all("#fifo path").map((path) => path.getAttribute("class") || "-").join(" "),
+  "rule-link": () => by("rule").querySelector("a").getAttribute("href"),
+  focus: () => labels(":focus"),
+  hash: () => page.location.hash,
+  taking: () => String(!by("take-over").hidden),
+  stops: () => stops.join(" "),
+  copied: () => copied,
+};
+
+/** Tries a feature, of a name, steps and what is seen. */
+async function tryFeature(feature) {
+  const [name, ...lines] = feature.split("\n");
+  const wrong = [];
+  stops = [];
+  await open(lines[0].startsWith("#") ? lines.shift() : "");
+  for (const line of lines) {
+    const [, what, sign, wanted] = /^([\w-]+) ([=~]) ?(.*)$/.exec(line) ?? [];
+    if (what) {
+      const seen = SEEN[what]?.() ?? (by(what).value || by(what).textContent);
+      const isGood = sign === "~" ? new RegExp(wanted).test(seen) : seen === wanted.replaceAll("\\n", "\n");
+      if (!isGood) wrong.push(`${what} is ${seen}, and not ${wanted}`);
+    } else {
+      const [step, ...words] = line.replaceAll("\\n", "\n").split(" ");
+      await STEPS[step](...words);
+    }
+  }
+  tell("features", wrong.map((what) => `${name}: ${what}`));
+}
+
+/** How much a text stands out from what is behind it, from 1 to 21, by the formula of WCAG. */
+function contrast(one) {
+  const colours = (colour) => colour.match(/[\d.]+/g).map(Number);
+  const shade = (parts) => parts.slice(0, 3).map((part) => part / 255)
+    .map((part) => part <= 0.03928 ? part / 12.92 : ((part + 0.055) / 1.055) ** 2.4)
+    .reduce((sum, part, place) => sum + part * [0.2126, 0.7152, 0.0722][place], 0);
+  const behind = (element) => {
+    const colour = colours(page.getComputedStyle(element).backgroundColor);
+    return colour.length === 3 || colour[3] > 0 || !element.parentElement ? colour : behind(element.parentElement);
+  };
+  const [light, dark] = [colours(page.getComputedStyle(one).color), behind(one)].map(shade).sort((a, b) => b - a);
+  return (light + 0.05) / (dark + 0.05);
+}
+
+/** Tries whether the page fits its window, each text that is in use stands out, and each control has a name. */
+async function tryLooks(width, scheme) {
+  await open(shown, width, scheme);
+  const visible = all("body *").filter((one) => one.checkVisibility());
+  const hasText = (one) => Array.from(one.childNodes).some((node) => node.nodeType === 3 && node.textContent.trim());
+  const unused = "svg, script, .hidden, .skip, :disabled, .later";
+  const controls = visible.filter((one) => one.matches("a, button, input, select, textarea"));
+  const faults = {
+    "hardly stands out": visible.filter((one) => hasText(one) && !one.closest(unused) && contrast(one) < 4.5),
+    "is cut": visible.filter((one) => one.matches("button, label, .bit, .register b") && one.clientWidth &&
+      one.scrollWidth > one.clientWidth + 1),
+    "has no name": controls.filter((one) => !one.computedName),
+    "is too wide": [page.document.scrollingElement].filter((one) => one.scrollWidth > width),
+  };
+  tell("controls in two widths and schemes", Object.entries(faults).flatMap(([what, elements]) =>
+    elements.map((one) => `${width} pixels, ${scheme}: this ${what}: ${one.outerHTML.slice(0, 90)}`)), controls.length);
+}
+
+/**
+ * Tells a picture: parts of the page, and only what is seen of them, as XML with the styles that they have at this
+ * width, and the height. It has no control, since none would do anything.
+ */
+async function take([name, fragment, width, wanted]) {
+  await open(fragment, width);
+  const controls = "button:not(.bit), input, label, form, .row";
+  all(`body > :not(main), section:not(${wanted}), .hidden, [hidden], ${controls}`).forEach((one) => one.remove());
+  const isUsed = (selector) => !/:(hover|focus|disabled)/.test(selector) &&
+    all(selector.replaceAll(/::[a-z]+/g, "") || "*").length;
+  const styles = page.document.querySelector("style").textContent
+    .replace(/@media \((?:max-width: (\d+)px|prefers-reduced-motion: .*)\) \{\n((?:  .*\n)*)\}\n/g,
+      (rule, most, rules) => width <= most ? rules.replaceAll(/^  /gm, "") : "")
+    .replace(/^([^@\s}][^{]*) \{[^}]*\}\n/gm, (rule, selector) => isUsed(selector) ? rule : "");
+  const elements = new XMLSerializer().serializeToString(page.document.querySelector("main"));
+  const parts = [width, page.document.body.offsetHeight, styles, elements];
+  console.log(JSON.stringify({ kind: "pictures", number: 1, name, parts }));
+}
+
+/** Tries whether the page replies to scripts as it should, and each ends so. */
+async function tryScripts() {
+  await open("");
+  const different = scripts.map(([place, script, isForProgram, replies, end]) =>
+    [place, script, JSON.stringify({ replies, end }), JSON.stringify(page.superio.runScript(script, isForProgram))])
+    .filter(([, , expected, got]) => got !== expected).slice(0, 10);
+  tell("scripts", different.map((one) => one.join("\n  ")), scripts.length);
+}
+
+/** Waits for what is tried, and tells if it cannot be. */
+const end = (what, trying) => trying.catch((error) => tell("features", [`${what}: ${error}`]));
+
+for (const feature of features) await end(feature, tryFeature(feature));
+for (const width of WIDTHS) for (const scheme of SCHEMES) await end("looks", tryLooks(width, scheme));
+for (const picture of pictures) await end(picture, take(picture));
+await end("scripts", tryScripts());
+tell("loading", fastest > MOST_MILLISECONDS ? [`the page took ${fastest} milliseconds at its fastest`] : []);
+console.log(JSON.stringify({ end: true }));

@@ -1,0 +1,94 @@
+#!/usr/bin/env python3
+"""Builds the WebAssembly module that the repository holds: Cargo's C library, over the erased proved devices.
+
+    web/prebuild.py
+
+Writes prebuilt/wasm32/superio.wasm, its lines in prebuilt/SHA256SUMS and prebuilt/SOURCES, and bindings/js/module.mjs,
+which has its bytes and the tables of the Python package. They are the same on every machine. Needs Debian 12's rustc,
+libstd-rust-dev-wasm32 and lld. Prints nothing if all is well. Otherwise it says why on standard error, and exits 1.
+"""
+import base64
+import ctypes
+import json
+import shutil
+import sys
+from pathlib import Path
+
+ROOT = Path(__file__).resolve().parent.parent
+sys.path[:0] = [str(ROOT / "tests" / "checks"), str(ROOT / "tests" / "c"), str(ROOT / "bindings" / "python")]
+from cargo import DEBIAN_RUSTC  # noqa: E402
+from libraries import PREBUILT, replace_lines, source_line, sums_of  # noqa: E402
+from superio.library import ABI, RTC_SAVED_SIZE, RtcStruct  # noqa: E402
+from superio.registers import CLOCK, SERIAL, RtcState  # noqa: E402
+from superio.saved import LoadStatus  # noqa: E402
+from tally import run, takes_no_argument  # noqa: E402
+
+TARGET, MODULE, SOURCES = "wasm32-unknown-unknown", "wasm32/superio.wasm", "bindings/c/from-source/src"
+EMBEDDED = ROOT / "bindings" / "js" / "module.mjs"
+# The compiler whose bytes the repository holds, the library of its target, and Debian's packages that have them.
+VERSION, LIBRARY = "rustc 1.63.0\n", DEBIAN_RUSTC.parents[1] / "lib" / "rustlib" / TARGET
+PACKAGES = "Debian 12's rustc, libstd-rust-dev-wasm32 and lld"
+# A small stack, and memory for a device and the longest bytes that a call can be passed. The paths in the module are
+# those below the top of the repository, so that its bytes are the same in any folder.
+OPTIONS = """--crate-name superio --crate-type cdylib --edition 2021 -C opt-level=z -C lto=fat -C panic=abort
+    -C codegen-units=1 -C strip=symbols -C link-arg=-zstack-size=16384 -C link-arg=--initial-memory=131072""".split()
+# Kinds of numbers, as DataView names them.
+KINDS = {ctypes.c_uint32: "Uint32", ctypes.c_int64: "BigInt64", ctypes.c_uint64: "BigUint64"}
+
+
+def has_compiler():
+    """Whether the compiler of these bytes, its library for the target and the linker are there."""
+    is_there = DEBIAN_RUSTC.exists() and LIBRARY.is_dir() and shutil.which("wasm-ld")
+    return bool(is_there) and run([DEBIAN_RUSTC, "--version"]).stdout == VERSION
+
+
+def build(place):
+    """Builds the module. Gives the compiler's status and what it printed."""
+    return run([DEBIAN_RUSTC, *OPTIONS, "--target", TARGET, "-o", place, f"{SOURCES}/lib.rs"], cwd=ROOT)
+
+
+def tables():
+    """The tables of the Python package, by their names in module.mjs: a register without its text, and with its bits
+    from the lowest on; of a field of the clock's struct the name, the place, the kind, and whether it is a flag."""
+    serial, clock = ([one._replace(bits=sorted(one.bits))._asdict() for one in registers.values()]
+                     for registers in (SERIAL, CLOCK))
+    for row in (*serial, *clock):
+        del row["about"]
+    fields = [(name, getattr(RtcStruct, name).offset, KINDS[kind], isinstance(getattr(RtcState, name), bool))
+              for name, kind in RtcStruct._fields_]
+    statuses = tuple(status.name.lower().replace("_", " ") for status in LoadStatus)
+    return {"ABI": ABI, "CLOCK_SIZE": ctypes.sizeof(RtcStruct), "CLOCK_SAVED_SIZE": RTC_SAVED_SIZE,
+            "LOAD_STATUSES": statuses, "CLOCK_STRUCT": fields, "SERIAL_ROWS": serial, "CLOCK_ROWS": clock}
+
+
+def embedded():
+    """The text of module.mjs, which has the module's bytes and the tables."""
+    module = base64.b64encode((PREBUILT / MODULE).read_bytes()).decode()
+    lines = [f"// Made by the command web/prebuild.py from prebuilt/{MODULE}, whose bytes these are in base 64,",
+             "// and from registers.py, library.py and saved.py of bindings/python/superio.",
+             f'export default "{module}";']
+    for name, value in tables().items():
+        rows = [f"  {json.dumps(row)}," for row in value] if isinstance(value, list) else []
+        lines.append(f"export const {name} = " + ("\n".join(["[", *rows, "];"]) if rows else f"{json.dumps(value)};"))
+    return "\n".join([*lines, ""])
+
+
+def listed():
+    """The module's lines of prebuilt/SHA256SUMS and prebuilt/SOURCES, by the name of the file."""
+    return {"SHA256SUMS": sums_of(PREBUILT, [MODULE])[0],
+            "SOURCES": source_line([SOURCES, "bindings/rust/src/core"], ".rs")}
+
+
+def main():
+    takes_no_argument(__doc__)
+    built = has_compiler() and build(PREBUILT / MODULE)
+    if not built or built.returncode:
+        sys.exit(f"web/prebuild.py: {built.stdout if built else ''}the module needs {PACKAGES}")
+    (PREBUILT / MODULE).chmod(0o644)
+    EMBEDDED.write_text(embedded(), encoding="ascii")
+    for name, line in listed().items():
+        replace_lines(PREBUILT / name, [line])
+
+
+if __name__ == "__main__":
+    main()
