@@ -1,7 +1,7 @@
 /**
  * The lines of a script, and the board that they drive: the devices, an interrupt line and an output of 256 bytes. It
- * replies to each line of a script as the program `superio` does, and knows further lines. Their forms are in
- * docs/SCRIPT.md.
+ * replies to each line of a script as the program `superio` does, and knows further lines. docs/SCRIPT.md has
+ * their syntax.
  */
 import { I8042, Rtc, SavedStateError, Serial } from "../bindings/js/superio.mjs";
 
@@ -69,8 +69,8 @@ function valueOf(digits, text) {
 }
 
 /**
- * The command of a line, without its LF, or null if the line has no form. `refuse` is a form for the first line, and no
- * further line is one for the program.
+ * The command of a line, without its LF, or null if it is no line of a script. `refuse` is one as the first line alone,
+ * and no further line is one for the program.
  */
 export function parse(line, isFirst = false, isForProgram = false) {
   const [name, ...texts] = line.split(" ");
@@ -82,8 +82,8 @@ export function parse(line, isFirst = false, isForProgram = false) {
   return { name, values: texts.map((text, place) => valueOf(fields[place], text)) };
 }
 
-/** Why a line has no form, as a sentence. */
-export function formOf(line) {
+/** The syntax of a line, as a sentence that says why another is none. */
+export function syntaxOf(line) {
   const [name] = line.split(" ");
   if (name === "refuse") return "refuse is for the first line, with 16 hexadecimal digits.";
   if (!Object.hasOwn(LINES, name)) return `No line of a script begins with "${name}".`;
@@ -105,8 +105,8 @@ export class Board {
   asked = 0;
   output = "";
   counts = { bufferRead: 0, outByte: 0, txLostByte: 0, inBufferEmpty: 0 };
-  /** The bytes that the guest took, as characters. */
-  taken = "";
+  /** The bytes that the guest read out, as characters. */
+  readOut = "";
   /** Where the oldest byte is in the FIFO. */
   head = 0;
   /** What the line answered in the last command, whether it lost a byte, and whether the FIFO was read empty. */
@@ -156,7 +156,7 @@ export class Board {
     this.isReadEmpty ||= done.inBufferEmpty;
     if (done.bufferRead && held) {
       this.head = (this.head + 1) % 64;
-      this.taken += String.fromCharCode(done.byte);
+      this.readOut += String.fromCharCode(done.byte);
     }
     return done.byte;
   }
@@ -224,7 +224,7 @@ function loaded(device, bytes, use) {
     return use(device.fromBytes(bytes));
   } catch (error) {
     if (!(error instanceof SavedStateError)) throw error;
-    return error.status === "unknown version" ? `${error.status} ${hex(bytes[5], 2)}` : error.status;
+    return error.reason === "unknown version" ? `${error.reason} ${hex(bytes[5], 2)}` : error.reason;
   }
 }
 

@@ -54,9 +54,9 @@ export const RECORDINGS = {
     stops: [
       ["sw 00 1b", "The shell has printed its prompt. Now it asks the terminal where the cursor is, by ESC [6n, and " +
         "gets no answer.", "the-serial-port"],
-      ["sr 00  0a", "The host typed a command. The kernel took its 10 bytes in one interrupt, and its terminal now " +
+      ["sr 00  0a", "The host typed a command. The kernel read its 10 bytes in one interrupt, and its terminal now " +
         "echoes them.", "the-serial-port"],
-      ["sq 3031", "The host pastes 4,096 bytes. The FIFO took 64 of them and is full, so the monitor keeps the " +
+      ["sq 3031", "The host pastes 4,096 bytes. The FIFO accepted 64 of them and is full, so the monitor keeps the " +
         "others until the guest has read some.", "bytes-that-wait-without-an-interrupt"],
       ["cr 000000006b063b79 0018", "The guest unmasked the alarm, set it, and polled MIS. The alarm is due now: MIS " +
         "reads 1, and the clock's line is up. The guest will clear it.", "the-clock"],
@@ -110,7 +110,7 @@ export class Boot {
   }
 
   /** What the guest read until now. */
-  get taken() {
+  get readOut() {
     return textOf(this.reads.filter(({ at }) => at <= this.at).map(({ byte }) => byte).join(""));
   }
 

@@ -1,5 +1,6 @@
 #!/usr/bin/env python3
-"""Packs the modules of bindings/js and the recorded boots into the page docs/try.html, which then needs no network.
+"""Packs the modules of bindings/js and of web, and the recorded boots, into the page docs/try.html, which then needs no
+network.
 
     web/build.py
 
@@ -45,7 +46,7 @@ def sources():
 
 
 def packed(source):
-    """Bytes in the form that browsers unpack."""
+    """Bytes as browsers unpack them."""
     return "\n".join(textwrap.wrap(base64.b64encode(zlib.compress(source, 9)).decode("ascii"), 120))
 
 

@@ -1,6 +1,6 @@
 /** The page: what it shows of a board, and which call each control makes. */
 import { CLOCK, DLAB, SERIAL, isThere, serialRegister } from "../bindings/js/registers.mjs";
-import { Board, formOf, hex, hexOf, parse, programLines, runScript } from "./board.mjs";
+import { Board, hex, hexOf, parse, programLines, runScript, syntaxOf } from "./board.mjs";
 import { Boot, RECORDINGS } from "./boot.mjs";
 import {
   CONDITIONS, WITHOUT_EFFECT, dateOf, lineFormat, plural, quoted, ruleOf, short, shownRegisters, storyOf, told,
@@ -45,7 +45,7 @@ function begin() {
 
 /**
  * Makes a call, which ends the list: what came after the present call is dropped. A line that ends in ` f` has a writer
- * that fails. Returns the call, or null if the line has no form.
+ * that fails. Returns the call, or null if it is no line of a script.
  */
 function make(line) {
   if (state.boot) takeOver();
@@ -163,7 +163,7 @@ function load(text) {
   const lines = text.split("\n").map((row) => row.trim().split(/ {2,}/)[0]);
   const bad = lines.filter((line) => line && !line.startsWith("#")).find((line) => make(line) === null);
   show();
-  return bad === undefined ? "" : `"${bad}": ${formOf(bad)}`;
+  return bad === undefined ? "" : `"${bad}": ${syntaxOf(bad)}`;
 }
 
 // What is shown.
@@ -286,14 +286,14 @@ function showLine({ serial, answers, asked }) {
 const printable = (text) => text.replace(/[\0-\x08\x0b\x0c\x0e-\x1f]/g, (one) =>
   `^${String.fromCharCode(0x40 + one.charCodeAt(0))}`);
 
-function showOutput({ output, counts, taken }) {
-  const [sent, read] = state.boot ? [state.boot.text, state.boot.taken] : [state.log + output, taken];
+function showOutput({ output, counts, readOut }) {
+  const [sent, read] = state.boot ? [state.boot.text, state.boot.readOut] : [state.log + output, readOut];
   say("output", printable(sent) || "Nothing was sent yet.");
   const waits = state.queue.length ? `; ${plural(state.queue.length, "byte")} of input wait` : "";
   say("counts", `${plural(sent.length, "byte")} sent, ${counts.txLostByte} lost${waits}`);
-  say("taken-heading", `What the guest read: ${plural(read.length, "byte")}`);
-  say("taken", printable(read));
-  for (const name of ["output", "taken"]) id(name).scrollTop = id(name).scrollHeight;
+  say("read-out-heading", `What the guest read: ${plural(read.length, "byte")}`);
+  say("read-out", printable(read));
+  for (const name of ["output", "read-out"]) id(name).scrollTop = id(name).scrollHeight;
 }
 
 function showWhy({ calls, at, board, last }) {
@@ -343,11 +343,11 @@ function showClock(board, before) {
   const clock = board.clock.clone();
   const valuesOf = ({ ris, imsc, ...others }) => ({ ris, imsc, mis: ris & imsc, ...others });
   const [values, old] = [board, before].map((one) => valuesOf(one.clock.state));
-  const due = clock.due(now);
+  const due = clock.alarmDue(now);
   const set = due === null ? `set for ${dateOf(values.mr)}, never due` : `in ${plural(due, "second")}`;
   const guestTime = clock.read("DR", now).value;
   const facts = [["Host", `${dateOf(now)} UTC`], ["Guest", `${dateOf(guestTime)} UTC`],
-    ["Alarm", values.armed ? set : "none is set"], ["Interrupt line", board.clock.line() ? "up" : "down"]];
+    ["Alarm", values.armed ? set : "none is set"], ["Interrupt line", board.clock.interruptLine() ? "up" : "down"]];
   id("times").replaceChildren(...facts.flatMap(([name, text]) => [element("dt", {}, name), element("dd", {}, text)]));
   for (const { name, update } of clockRows) update(values[name.toLowerCase()], old[name.toLowerCase()], 8);
 }
@@ -451,7 +451,7 @@ onSubmit(id("typing"), () => { type(`${id("input").value}\n`); id("input").value
 onSubmit(id("adding"), () => {
   const line = id("one").value.trim();
   if (perform(line)) id("one").value = "";
-  else refuseField(id("one"), formOf(line));
+  else refuseField(id("one"), syntaxOf(line));
 });
 onSubmit(id("clock-form"), () => withNumber(id("clock-value"), 0xffffffff, (number) =>
   perform(`cw ${moment()} ${clockOffset()} ${hex(number, 8)}`)));
@@ -539,7 +539,7 @@ window.addEventListener("hashchange", followLink);
  */
 setInterval(() => {
   const { board, last, at, calls } = tape();
-  const isDue = !state.boot && at === calls.length && board.clock.state.armed && board.clock.due(hostTime()) === 0;
+  const isDue = !state.boot && at === calls.length && board.clock.state.armed && board.clock.alarmDue(hostTime()) === 0;
   if (isDue) perform(`cr ${moment()} 0018`);
   else showClock(board, last?.before ?? board);
 }, 1000);

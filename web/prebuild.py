@@ -20,7 +20,7 @@ from cargo import DEBIAN_RUSTC  # noqa: E402
 from libraries import PREBUILT, replace_lines, source_line, sums_of  # noqa: E402
 from superio.library import ABI, RTC_SAVED_SIZE, RtcStruct  # noqa: E402
 from superio.registers import CLOCK, SERIAL, RtcState  # noqa: E402
-from superio.saved import LoadStatus  # noqa: E402
+from superio.saved import SAVED_STATE_ERRORS  # noqa: E402
 from tally import run, takes_no_argument  # noqa: E402
 
 TARGET, MODULE, SOURCES = "wasm32-unknown-unknown", "wasm32/superio.wasm", "bindings/c/from-source/src"
@@ -56,9 +56,9 @@ def tables():
         del row["about"]
     fields = [(name, getattr(RtcStruct, name).offset, KINDS[kind], isinstance(getattr(RtcState, name), bool))
               for name, kind in RtcStruct._fields_]
-    statuses = tuple(status.name.lower().replace("_", " ") for status in LoadStatus)
     return {"ABI": ABI, "CLOCK_SIZE": ctypes.sizeof(RtcStruct), "CLOCK_SAVED_SIZE": RTC_SAVED_SIZE,
-            "LOAD_STATUSES": statuses, "CLOCK_STRUCT": fields, "SERIAL_ROWS": serial, "CLOCK_ROWS": clock}
+            "SAVED_STATE_ERRORS": SAVED_STATE_ERRORS, "CLOCK_STRUCT": fields, "SERIAL_ROWS": serial,
+            "CLOCK_ROWS": clock}
 
 
 def embedded():

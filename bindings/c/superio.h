@@ -218,7 +218,7 @@ typedef struct superio_serial_write_effects {
 
 /* What an enqueue did, and leaves to you. */
 typedef struct superio_serial_enqueue_effects {
-    size_t accepted;    /* how many of the bytes, first ones first */
+    size_t accepted;    /* how many bytes it accepted, first ones first */
     bool fifo_full;     /* there were bytes, but no room */
     uint8_t interrupts; /* how often to ask for the interrupt: 0 or 1 times */
 } superio_serial_enqueue_effects;
@@ -265,7 +265,7 @@ superio_serial_read_effects superio_serial_read(superio_serial *port,
  * sees 0x06.
  *
  * A write to MCR, at offset 4, may end loopback: offer input again that an
- * enqueue did not take.
+ * enqueue did not accept.
  */
 superio_serial_write_effects superio_serial_write(superio_serial *port,
                                                   uint8_t offset,
@@ -308,8 +308,8 @@ superio_serial_enqueue_effects superio_serial_enqueue(superio_serial *port,
  *   are held.
  *
  * With these calls no byte waits for ever in either direction, if in each run
- * the driver takes a held byte, and sends one of its own while it has any: the
- * law console_driver in docs/THEOREM.md states this exactly.
+ * the driver reads out a held byte, and sends one of its own while it has any:
+ * the law console_driver in docs/THEOREM.md states this exactly.
  */
 uint8_t superio_serial_character_timeout(superio_serial *port)
     SUPERIO_MUST_USE SUPERIO_NONNULL SUPERIO_ACCESS(read_write, 1);
@@ -382,10 +382,10 @@ bool superio_serial_is_coherent(const superio_serial *port)
  * alarm. A write of guest time itself sets bit 0 at once.
  *
  * No call asks for an interrupt. If the clock has an interrupt line, set it to
- * superio_rtc_interrupt_line after each access and after a restore. Also set a timer for
- * superio_rtc_alarm_due. When the timer goes off, make an access of your own, such
- * as a read at 0x018 (RTCMIS): a guest that sleeps until the interrupt makes
- * no access.
+ * superio_rtc_interrupt_line after each access and after a restore. Also set a
+ * timer for superio_rtc_alarm_due. When the timer goes off, make an access of
+ * your own, such as a read at 0x018 (RTCMIS): a guest that sleeps until the
+ * interrupt makes no access.
  */
 typedef struct superio_rtc {
     uint32_t lr;    /* RTCLR, the last loaded value, or 0 */
@@ -475,9 +475,9 @@ uint8_t superio_i8042_read(uint8_t offset) SUPERIO_MUST_USE;
 /* ------------------------------------------------------------------------- */
 
 /*
- * A saved device is a string of bytes; docs/SAVED-STATES.md has its form. Two
- * devices have the same string only if their registers, offset, alarm and held
- * bytes are the same, on any machine. It has no checksum.
+ * A saved device is a string of bytes; docs/SAVED-STATES.md has its encoding.
+ * Two devices have the same string only if their registers, offset, alarm and
+ * held bytes are the same, on any machine. It has no checksum.
  */
 
 /* The maximum size of a saved port, and the size of a saved clock. */

@@ -76,7 +76,7 @@ export class Serial {
   /** The guest writes a value, 0 to 255, at an offset, 0 to 255. */
   write(offset: number | string, value: number): WriteEffects;
   /**
-   * Bytes arrive for the guest. Keep those that are not taken, and offer them again when a read tells
+   * Bytes arrive for the guest. Keep those that are not accepted, and offer them again when a read tells
    * `inBufferEmpty`, or when the guest leaves loopback.
    */
   enqueue(bytes: Uint8Array): EnqueueEffects;
@@ -120,9 +120,9 @@ export class Rtc {
   /** The guest writes a value of 32 bits at an offset, 0 to 0xFFFF. */
   write(offset: number | string, value: number, now: number | bigint): { invalidWrite: boolean };
   /** Whether the clock's interrupt line is up. Look after each access, and when the alarm is due. */
-  line(): boolean;
+  interruptLine(): boolean;
   /** In how many seconds the alarm is due if the guest does nothing, or null if it never is. */
-  due(now: number | bigint): number | null;
+  alarmDue(now: number | bigint): number | null;
   /** The clock as a saved state, which `fromBytes` and the other languages read on any machine. */
   toBytes(): Uint8Array;
   /** The clock of a saved state. Throws a SavedStateError if the bytes are none. */
@@ -146,9 +146,9 @@ export class I8042 {
 /** No register has this name, or an access would reach another one. */
 export class RegisterError extends RangeError {}
 
-/** Bytes are not the saved state of this device. */
+/** Bytes are not the saved state of this device. The message says why, in the same words as in every language. */
 export class SavedStateError extends Error {
   /** Why, in the words of a script. */
-  readonly status: "too short" | "not a saved state" | "other device" | "unknown version" | "wrong length" |
+  readonly reason: "too short" | "not a saved state" | "other device" | "unknown version" | "wrong length" |
     "too many bytes" | "invalid armed";
 }

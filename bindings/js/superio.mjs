@@ -5,7 +5,7 @@
  * superio.d.ts says what each call does, takes and returns. Each makes the call of that name of superio.h, compiled to
  * WebAssembly, on a copy of the device's struct. A wrong argument throws an error that names it, and changes nothing.
  */
-import text, { ABI, CLOCK_SAVED_SIZE, CLOCK_SIZE, CLOCK_STRUCT, LOAD_STATUSES } from "./module.mjs";
+import text, { ABI, CLOCK_SAVED_SIZE, CLOCK_SIZE, CLOCK_STRUCT, SAVED_STATE_ERRORS } from "./module.mjs";
 import { RegisterError, clockOffset, serialOffset } from "./registers.mjs";
 
 export { RegisterError };
@@ -78,19 +78,19 @@ function pass(bytes) {
   return some.length;
 }
 
-/** Bytes are not the saved state of this device. `status` says why, in the words of a script. */
+/** Bytes are not the saved state of this device. `reason` says why, in the words of a script. */
 export class SavedStateError extends Error {
   name = "SavedStateError";
 
-  constructor(status) {
-    super(status);
-    this.status = status;
+  constructor(reason) {
+    super(SAVED_STATE_ERRORS[reason]);
+    this.reason = reason;
   }
 }
 
 function load(device, call, bytes) {
-  const status = onDevice(device, call, DEVICE, PASSED, pass(bytes));
-  if (status) throw new SavedStateError(LOAD_STATUSES[status]);
+  const error = onDevice(device, call, DEVICE, PASSED, pass(bytes));
+  if (error) throw new SavedStateError(Object.keys(SAVED_STATE_ERRORS)[error - 1]);
 }
 
 /**
@@ -222,11 +222,11 @@ export class Rtc {
     return { invalidWrite: onDevice(this.#bytes, calls.superio_rtc_write, DEVICE, ...parameters) !== 0 };
   }
 
-  line() {
+  interruptLine() {
     return onDevice(this.#bytes, calls.superio_rtc_interrupt_line, DEVICE) !== 0;
   }
 
-  due(now) {
+  alarmDue(now) {
     // The largest number of 64 bits, never, is -1 here.
     const seconds = onDevice(this.#bytes, calls.superio_rtc_alarm_due, DEVICE, moment(now));
     return seconds < 0n ? null : Number(seconds);

@@ -8,16 +8,16 @@
 int main(void) {
     superio_serial port = superio_serial_new();
     uint8_t paste[1000], got[1000];
-    size_t taken, received = 0, pieces = 1;
+    size_t accepted, received = 0, pieces = 1;
 
     for (size_t i = 0; i < sizeof paste; i++)
         paste[i] = (uint8_t)i;
-    taken = superio_serial_enqueue(&port, paste, sizeof paste).accepted; /* what is left waits */
+    accepted = superio_serial_enqueue(&port, paste, sizeof paste).accepted; /* what is left waits */
     while (superio_serial_read(&port, 5).byte & 0x01) { /* the guest reads LSR: data is ready */
         superio_serial_read_effects done = superio_serial_read(&port, 0);
         got[received++] = done.byte;
-        if (done.in_buffer_empty && taken < sizeof paste) { /* there is room again */
-            taken += superio_serial_enqueue(&port, paste + taken, sizeof paste - taken).accepted;
+        if (done.in_buffer_empty && accepted < sizeof paste) { /* there is room again */
+            accepted += superio_serial_enqueue(&port, paste + accepted, sizeof paste - accepted).accepted;
             pieces++;
         }
     }

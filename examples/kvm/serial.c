@@ -10,7 +10,7 @@ static superio_serial port;
 static int line, timer;           /* of the interrupt; of the next turn of the event loop */
 static bool is_refused;           /* a request */
 static bool takes_input;          /* the guest polls, or has enabled RDA and not THRE, as no test of the port does */
-static uint8_t input[QUEUE_SIZE]; /* of the user, until the port takes it, the oldest first */
+static uint8_t input[QUEUE_SIZE]; /* of the user, until the port accepts it, the oldest first */
 static size_t waiting;            /* how much of it there is */
 
 /* Has the event loop make a turn in 5 milliseconds. */
@@ -27,7 +27,7 @@ static void interrupt(unsigned times) {
         wake();
 }
 
-/* Offers the input, and keeps what the port does not take: when input comes, when the guest has read the last byte of
+/* Offers the input, and keeps what the port does not accept: when input comes, when the guest has read the last byte of
  * the FIFO, and when it may have become ready or left loopback. An event loop that waits for room has to look again. */
 static void feed(void) {
     if (!takes_input)

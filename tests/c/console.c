@@ -229,8 +229,8 @@ static void act(struct console *it) {
 
 /* ---- handlers */
 
-/* Takes bytes while LSR shows some. */
-static void take(struct console *it, unsigned most) {
+/* Reads bytes out while LSR shows some. */
+static void read_out(struct console *it, unsigned most) {
     for (; most > 0 && in(it, LSR) & DATA_READY; most--) {
         uint8_t byte = in(it, RBR);
         check(it, byte == byte_at(INPUT, it->received++), "a byte is received out of order");
@@ -247,27 +247,27 @@ static void transmit(struct console *it, unsigned most) {
         enable(it, RDA);
 }
 
-/* As Linux's: until nothing is pending it takes at most 256 bytes, and then sends at most 16. */
+/* As Linux's: until nothing is pending it reads out at most 256 bytes, and then sends at most 16. */
 static void handle_linux(struct console *it) {
     while (!(in(it, IIR) & NONE_PENDING)) {
-        take(it, 256);
+        read_out(it, 256);
         transmit(it, 16);
         act(it);
     }
 }
 
-/* As Xen's: until nothing is pending it sends at most 16 bytes, and then takes one. */
+/* As Xen's: until nothing is pending it sends at most 16 bytes, and then reads one out. */
 static void handle_xen(struct console *it) {
     while (!(in(it, IIR) & NONE_PENDING)) {
         transmit(it, 16);
-        take(it, 1);
+        read_out(it, 1);
         act(it);
     }
 }
 
 /* In each direction at least one byte, if there is one. */
 static void serve(struct console *it) {
-    take(it, 1 + draw(it, 20));
+    read_out(it, 1 + draw(it, 20));
     transmit(it, 1 + draw(it, 16));
 }
 
@@ -290,7 +290,7 @@ static void handle_and_acknowledge(struct console *it) {
 static void handle_one_direction(struct console *it) {
     in(it, IIR);
     if (in(it, LSR) & DATA_READY)
-        take(it, ALL);
+        read_out(it, ALL);
     else
         transmit(it, 16);
 }

@@ -43,8 +43,15 @@ def source_line(folders=SOURCE_FOLDERS, ending=".rt"):
     return f"{hashlib.sha256(listing.encode()).hexdigest()}  the sources in {' and '.join(folders)}"
 
 
+def is_there(folder, name):
+    """Whether each path in the name of a digest is one of a folder, or of the repository."""
+    return all((folder / word).exists() or (ROOT / word).exists() for word in name.split() if "/" in word)
+
+
 def replace_lines(path, lines):
-    """Writes lines of a digest and a name into a file, in the place of those with the same names."""
+    """Writes lines of a digest and a name into a file, in the place of those with the same names. Those of what is no
+    longer there go."""
     old = path.read_text(encoding="ascii").splitlines() if path.exists() else []
     by_name = {line.partition("  ")[2]: line for line in [*old, *lines]}
-    path.write_text("".join(line + "\n" for line in by_name.values()), encoding="ascii")
+    kept = (line for name, line in by_name.items() if is_there(path.parent, name))
+    path.write_text("".join(line + "\n" for line in kept), encoding="ascii")

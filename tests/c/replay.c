@@ -1,7 +1,8 @@
 /*
- * Makes the calls of tests/data/calls and of own.txt, which come on standard input, over the C library, as C and as C++, and
- * compares what each did. The trigger, the writer and the events object, which the library leaves to its caller, are
- * here. Each struct and each string of bytes is beside a page that nobody may touch: in turn after one and before one.
+ * Makes the calls of tests/data/calls and of own.txt, which come on standard input, over the C library, as C and as
+ * C++, and compares what each did. The trigger, the writer and the events object, which the library leaves to its
+ * caller, are here. Each struct and each string of bytes is beside a page that nobody may touch: in turn after one and
+ * before one.
  *
  * Prints the first ten lines that differ, and how many calls did the same. Exits 1 if one differs, or if there is none.
  */
@@ -105,11 +106,11 @@ static bool request(int interrupts) {
 /* ---- the serial port */
 
 static void reply_port(void) {
-    uint8_t form[SUPERIO_SERIAL_SAVED_MAX];
-    size_t held = superio_serial_save(port, form) - HEADER - REGISTERS;
-    add_bytes(form + HEADER, REGISTERS);
+    uint8_t saved[SUPERIO_SERIAL_SAVED_MAX];
+    size_t held = superio_serial_save(port, saved) - HEADER - REGISTERS;
+    add_bytes(saved + HEADER, REGISTERS);
     add(reply, held == 0 ? " -" : " ");
-    add_bytes(form + HEADER + REGISTERS, held);
+    add_bytes(saved + HEADER + REGISTERS, held);
     add(reply, " %02zx", superio_serial_fifo_capacity(port));
 }
 
@@ -211,7 +212,7 @@ static void clock_write(void) {
     add(reply, "ok");
 }
 
-static void save_form(bool is_serial) {
+static void save(bool is_serial) {
     size_t count = is_serial ? SUPERIO_SERIAL_SAVED_MAX : SUPERIO_RTC_SAVED_SIZE;
     uint8_t *bytes = (uint8_t *)beside_guard(BYTES_PAGE, count);
     if (is_serial)
@@ -221,8 +222,8 @@ static void save_form(bool is_serial) {
     add_bytes(bytes, count);
 }
 
-/* Loads a form as a device, and replies with the status in the words of docs/SCRIPT.md. */
-static void load_form(bool is_serial) {
+/* Loads bytes as a device, and replies with the status in the words of docs/SCRIPT.md. */
+static void load(bool is_serial) {
     static const char *const WORDS[] = {"ok", "too short", "not a saved state", "other device", "unknown version",
                                         "wrong length", "too many bytes", "invalid armed"}; /* by the status */
     size_t count;
@@ -246,8 +247,8 @@ static void make_call(void) {
     else if (IS("ss")) restore(*port);
     else if (IS("sx")) serial_struct();
     else if (IS("sl") && words[2]) serial_state();
-    else if (IS("sl") || (IS("cl") && !words[2])) load_form(IS("sl"));
-    else if (IS("sb") || IS("cb")) save_form(IS("sb"));
+    else if (IS("sl") || (IS("cl") && !words[2])) load(IS("sl"));
+    else if (IS("sb") || IS("cb")) save(IS("sb"));
     else if (IS("sc")) add(reply, "%02zx", superio_serial_fifo_capacity(port));
     else if (IS("sh")) add(reply, "%02x", superio_serial_interrupt_line(port));
     else if (IS("sf")) add(reply, "%02x", superio_serial_is_coherent(port));

@@ -1,6 +1,6 @@
 """The lines of scripts and of recorded calls: what they reply by the search of the past in oracle.py, and those that
 checks make up: random ones, broken ones, loads of any bytes, and every answer in every state. docs/SCRIPT.md and
-tests/README.md have their forms. The program has the lines of LINES; the shell, the Python package and the page have
+tests/README.md have their syntax. The program has the lines of LINES; the shell, the Python package and the page have
 those of FURTHER too."""
 import lzma
 import random
@@ -62,9 +62,9 @@ class Board:
     def reply(self, line, table=None):
         """The reply to a line by its row of ALL, or of another table. `None` if it has none."""
         name, *texts = line.split(" ")
-        form, reply, _ = (table or ALL)[name]
-        values = (bytes.fromhex(text.strip("-")) if ".." in form else int(text, 16) for text in texts)
-        return reply(self, *(values if form else texts))
+        syntax, reply, _ = (table or ALL)[name]
+        values = (bytes.fromhex(text.strip("-")) if ".." in syntax else int(text, 16) for text in texts)
+        return reply(self, *(values if syntax else texts))
 
     def refuse(self, mask):
         self.mask = mask
@@ -143,8 +143,8 @@ class Monitor(Board):
 
 class Line(NamedTuple):
     """A line: its fields, with H for a digit and HH.. for bytes, which may be left out; how devices reply, given the
-    numbers or the bytes, or texts without a form; and the fields that random lines have, each with how often."""
-    form: str
+    numbers or the bytes, or texts without a syntax; and the fields that random lines have, each with how often."""
+    syntax: str
     reply: Callable
     made: Dict[str, int]
 
@@ -193,18 +193,18 @@ CALLS = {
 }
 
 
-def forms(table):
-    """The forms of lines, as a document has them."""
-    return [f"{name} {line.form}".rstrip() for name, line in table.items()]
+def syntaxes(table):
+    """The syntax of each line, as a document has it."""
+    return [f"{name} {line.syntax}".rstrip() for name, line in table.items()]
 
 
 def script_replies(script, table=None):
     """The replies of a script, and what its run says at the end: nothing, or which line is the first bad one. Lines
     are those of the program, or of another table."""
-    line_form = re.compile("|".join(forms(table or LINES)).replace(" HH..", "( (HH){1,128})?").replace("H", DIGIT))
+    good_line = re.compile("|".join(syntaxes(table or LINES)).replace(" HH..", "( (HH){1,128})?").replace("H", DIGIT))
     board, replies = Board(), []
     for place, line in enumerate(script.removesuffix("\n").split("\n") if script else [], 1):
-        if not line_form.fullmatch(line) or (line.startswith("refuse") and place > 1):
+        if not good_line.fullmatch(line) or (line.startswith("refuse") and place > 1):
             return replies, f"bad line {place}"
         reply = board.reply(line)
         replies += [] if reply is None else [reply]
@@ -221,7 +221,7 @@ def recordings(*paths):
 
 
 def recording_of(calls, devices=None):
-    """These calls with what they do, in the form of tests/data/calls, or as lines over a board."""
+    """These calls with what they do, as tests/data/calls has them, or as lines over a board."""
     devices = devices or Monitor()
     return "".join(f"{call} = {devices.reply(call)}\n" for call in calls)
 
@@ -242,7 +242,7 @@ def port_state(source):
 def clock_state(source):
     """Any fields of a clock."""
     ahead = source.choice((number(source) - number(source), source.getrandbits(64) - 2**63, 2**63 - 1 - number(source)))
-    return {it: {"I": number(source), "q": ahead, "b": source.randrange(2)}[form] for it, form in CLOCK_FIELDS.items()}
+    return {it: {"I": number(source), "q": ahead, "b": source.randrange(2)}[kind] for it, kind in CLOCK_FIELDS.items()}
 
 
 # What is drawn for a word in capitals. A moment mostly moves a clock about the ends of 32 bits, and values for LCR and
@@ -333,10 +333,10 @@ def random_calls(what, seed=None):
 
 
 def broken_lines():
-    """A line of each form, of the further ones too, up to each character, and with each lost, doubled or another one.
+    """A line of each syntax, of the further ones too, up to each character, and with each lost, doubled or another one.
     Some are good after all."""
-    for form in forms(ALL):
-        line = form.replace("..", "HH").replace("H", "0")
+    for syntax in syntaxes(ALL):
+        line = syntax.replace("..", "HH").replace("H", "0")
         for place, good in enumerate(f"{line} "):
             others = ("", 2 * good, good.upper(), *"g \t\r\0\xFF")
             yield from (line[:place], *(line[:place] + other + line[place + 1:] for other in others))

@@ -1,9 +1,9 @@
 """What devices show, by a search of all that was done before: slow, and plainly right.
 
 There are no registers, and no rule is shared with the definitions that the proofs use. Of each call a fact is kept:
-what it wrote, raised and acknowledged, and which bytes came in and were taken. What a call shows is found by a search
-of the facts before it. A search ends at the latest at the newest start state, a fact of the past too. docs/DEVICES.md
-has the rules.
+what it wrote, raised and acknowledged, and which bytes were accepted and read out. What a call shows is found by a
+search of the facts before it. A search ends at the latest at the newest start state, a fact of the past too.
+docs/DEVICES.md has the rules.
 """
 from typing import NamedTuple
 
@@ -18,7 +18,7 @@ ENABLED_BY = {"RDA": 0x01, "THRE": 0x02}
 # The outputs of MCR, DTR, RTS, OUT1 and OUT2, each with the input of MSR that shows it in loopback.
 LOOPED = [(0x01, 0x20), (0x02, 0x10), (0x04, 0x40), (0x08, 0x80)]
 
-# The fields of a clock, in the order of a saved state, each with the form of its number there, as struct has it.
+# The fields of a clock, in the order of a saved state, each with the format of its number there, as struct has it.
 CLOCK_FIELDS = {"LR": "I", "MR": "I", "IMSC": "I", "RIS": "I", "offset": "q", "armed": "b"}
 CLOCK_AT = {0x00: "DR", 0x04: "MR", 0x08: "LR", 0x0C: "CR", 0x10: "IMSC", 0x14: "RIS", 0x18: "MIS", 0x1C: "ICR"}
 IDENTIFICATION = bytes.fromhex("31 10 04 00 0d f0 05 b1")   # from 0xFE0 on, at four offsets each
@@ -29,7 +29,7 @@ class Fact(NamedTuple):
 
     made: dict              # what it made of registers and bits, by their names
     accepted: bytes = b""   # the bytes that came in and found room
-    took: bool = False      # whether it took the oldest byte
+    read: bool = False      # whether it read the oldest byte out
     starts: bool = False    # whether it is a start state, before which no byte is from
 
 
@@ -72,11 +72,11 @@ class Port(Device):
         return self.last("MCR") & LOOPBACK != 0
 
     def held(self):
-        held, took = b"", 0
+        held, read = b"", 0
         for fact in reversed(self.past):
-            held, took = fact.accepted + held, took + fact.took
+            held, read = fact.accepted + held, read + fact.read
             if fact.starts:
-                return held[took:]
+                return held[read:]
 
     def room(self):
         return FIFO_SIZE - len(self.held())
@@ -107,7 +107,7 @@ class Port(Device):
     def read(self, offset):
         name = self.at(offset)
         if name == "RBR":
-            return self.take()
+            return self.read_out()
         shown = self.register(name) if name else 0
         if name == "IIR":
             self.done("", {"IIR": 0, "RDA": False, "THRE": False, "NONE": True})
@@ -117,13 +117,13 @@ class Port(Device):
             shown = shown & 0x0F | sum(seen for bit, seen in LOOPED if outputs & bit)
         return f"{shown:02x}"
 
-    def take(self):
-        """Takes the oldest byte, and acknowledges RDA. The last byte, or none, clears data ready."""
+    def read_out(self):
+        """Reads the oldest byte out, and acknowledges RDA. The last byte, or none, clears data ready."""
         held = self.held()
         made = {"RDA": False} | ({} if self.register("IIR") & ~BITS["IIR"]["RDA"] else {"NONE": True})
         for event in "b" if len(held) > 1 else "eb":
             self.objects.tell(event)
-        return self.done(held[:1].hex() or "00", made | ({} if len(held) > 1 else {"READY": False}), took=bool(held))
+        return self.done(held[:1].hex() or "00", made | ({} if len(held) > 1 else {"READY": False}), read=bool(held))
 
     def write(self, offset, value):
         name = self.at(offset)
@@ -141,7 +141,7 @@ class Port(Device):
         return self.done("ok" if is_sent else "io", *self.raised(["THRE"], self.last("IER")))
 
     def receive(self, accepted, reply):
-        """Takes bytes for which there is room. If there are any, they raise RDA."""
+        """Accepts bytes for which there is room. If there are any, they raise RDA."""
         if not accepted:
             return reply
         made, is_taken = self.raised(["RDA"], self.last("IER"))
@@ -165,7 +165,7 @@ class Port(Device):
         """What a driver gets that reads RBR while LSR shows data ready. With DLAB set it cannot reach RBR."""
         got = ""
         while self.at(0) == "RBR" and self.last("READY"):
-            got += self.take()
+            got += self.read_out()
         return got
 
     def restore(self, *start):

@@ -1,4 +1,4 @@
-"""Scripts with their replies, in the form that tests/README.md describes, and those that documents show. A board of the
+"""Scripts with their replies, written as tests/README.md describes, and those that documents show. A board of the
 Python package and of the page has further lines, which the program refuses."""
 import json
 import lzma
@@ -109,8 +109,8 @@ class BoardScript(NamedTuple):
 
 
 def board_scripts(what, number):
-    """The scripts of tests/ and of documents, in which neither input nor memory fails; loads of any bytes; and random
-    scripts, so many with further lines. Each commit has others."""
+    """The scripts of tests/data and of documents, in which neither input nor memory fails; loads of any bytes; and
+    random scripts, so many with further lines. Each commit has others."""
     def of_test(test, is_for_program):
         replies = test.replies.decode("latin-1").split("\n")[:-1]
         return BoardScript(test.place, test.script.decode("latin-1"), is_for_program, replies, test.end)

@@ -15,13 +15,17 @@ impl Devices {
             ["sh"] => hex(self.serial.interrupt_line().into()),
             ["sf"] => hex(self.serial.state().is_coherent().into()),
             ["sb"] => self.serial.state().to_bytes().map(|bytes| text_of(&bytes)).map_err(fault),
-            ["sl", form] => self.load(&SerialState::from_bytes(&bytes_of(form)).map_err(fault)?),
-            ["ch"] => hex(self.clock.line().into()),
-            ["cd", moment] => Ok(self.clock.due(number(moment)).map_or("never".into(), |due| format!("{due:08x}"))),
+            ["sl", encoding] => self.load(&SerialState::from_bytes(&bytes_of(encoding)).map_err(fault)?),
+            ["ch"] => hex(self.clock.interrupt_line().into()),
+            ["cd", moment] => {
+                Ok(self.clock.alarm_due(number(moment)).map_or("never".into(), |due| format!("{due:08x}")))
+            }
             ["cb"] => Ok(text_of(&self.clock.snapshot().to_bytes())),
-            ["cl", .., "armed"] => self.take_snapshot(&RtcSnapshot { armed: true, ..clock_of(words).into() }),
-            ["cl", form] => {
-                self.take_snapshot(&RtcSnapshot::from_bytes(&bytes_of(form)).map_err(fault)?)?;
+            ["cl", .., "armed"] => {
+                self.take_snapshot(&RtcSnapshot { armed: true, ..RtcSnapshot::from_five(clock_of(words)) })
+            }
+            ["cl", encoding] => {
+                self.take_snapshot(&RtcSnapshot::from_bytes(&bytes_of(encoding)).map_err(fault)?)?;
                 Ok("ok".into())
             }
             _ => Err("no call".into()),

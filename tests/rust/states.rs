@@ -14,7 +14,7 @@ const PORT_IN_BINCODE: &str = "010201041b6108b05a02000000000000006869";
 const CLOCK: &str = r#"{"lr":1704067200,"offset":-3600,"mr":1704067260,"imsc":1,"ris":0}"#;
 const CLOCK_IN_BINCODE: &str = "80009265f0f1ffffffffffffbc0092650100000000000000";
 
-/// A state is read from both forms, and written to them again.
+/// A state is read from both formats, and written to them again.
 fn is_read_and_written<T: Serialize + DeserializeOwned>(text: &str, digits: &str) {
     let byte = |at: usize| u8::from_str_radix(&digits[at..at + 2], 16).unwrap();
     let bytes: Vec<u8> = (0..digits.len()).step_by(2).map(byte).collect();

@@ -4,7 +4,7 @@
  */
 import assert from "node:assert/strict";
 import test from "node:test";
-import { Board, parse, programLines, runScript } from "../page/board.mjs";
+import { Board, parse, programLines, runScript } from "../../../web/board.mjs";
 
 test("a script for the program has at most 65,536 bytes", () => {
   const board = new Board();

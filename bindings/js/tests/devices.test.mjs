@@ -5,7 +5,7 @@
 import assert from "node:assert/strict";
 import { readFileSync, readdirSync } from "node:fs";
 import test from "node:test";
-import { ABI, LOAD_STATUSES } from "../module.mjs";
+import { ABI, SAVED_STATE_ERRORS } from "../module.mjs";
 import * as registers from "../registers.mjs";
 import * as superio from "../superio.mjs";
 
@@ -56,9 +56,9 @@ test("a clock's alarm", () => {
   const clock = new Rtc();
   clock.write("MR", 1005, 1000);
   clock.write("RTCIMSC", 1, 1000n);
-  assert.deepEqual([clock.due(1000), clock.line()], [5, false]);
+  assert.deepEqual([clock.alarmDue(1000), clock.interruptLine()], [5, false]);
   clock.read("MIS", 1005);
-  assert.deepEqual([clock.due(1005), clock.line()], [null, true]);
+  assert.deepEqual([clock.alarmDue(1005), clock.interruptLine()], [null, true]);
 });
 
 test("devices share nothing", () => {
@@ -86,11 +86,11 @@ test("what a call gives is the caller's own, and what it takes stays as it was",
     assert.deepEqual([first, call()], [before, before], `${call}`);
   }
   for (const [device, state, saved] of [[Serial, PORT, PORT_SAVED], [Rtc, CLOCK, CLOCK_SAVED]]) {
-    const [form, given] = [fromHex(saved), structuredClone(state)];
-    device.fromBytes(form);
+    const [encoding, given] = [fromHex(saved), structuredClone(state)];
+    device.fromBytes(encoding);
     device.fromState(given);
-    new Serial().enqueue(form);
-    assert.deepEqual([form, given], [fromHex(saved), state]);
+    new Serial().enqueue(encoding);
+    assert.deepEqual([encoding, given], [fromHex(saved), state]);
   }
 });
 
@@ -99,10 +99,11 @@ test("saved bytes that are refused say why", () => {
     [CLOCK_SAVED, "other device"], [PORT_SAVED.replace("0101", "0102"), "unknown version"],
     [`${PORT_SAVED}00`, "wrong length"], ["53494f530101ffff" + "00".repeat(0x1ffff), "wrong length"],
     ["53494f5301014a00" + "00".repeat(74), "too many bytes"]];
-  for (const [form, status] of refusals) {
-    assert.throws(() => Serial.fromBytes(fromHex(form)), { name: "SavedStateError", status, message: status });
+  for (const [encoding, reason] of refusals) {
+    const message = SAVED_STATE_ERRORS[reason];
+    assert.throws(() => Serial.fromBytes(fromHex(encoding)), { name: "SavedStateError", reason, message });
   }
-  assert.throws(() => Rtc.fromBytes(fromHex(CLOCK_SAVED.replace(/01$/, "02"))), { status: "invalid armed" });
+  assert.throws(() => Rtc.fromBytes(fromHex(CLOCK_SAVED.replace(/01$/, "02"))), { reason: "invalid armed" });
   assert.throws(() => Rtc.fromBytes(fromHex(PORT_SAVED)), SavedStateError);
 });
 
@@ -115,8 +116,8 @@ function refused(call, name, text) {
 const OF_OTHER_KINDS = [undefined, null, true, [7], {}, new Number(7), () => 7, Symbol("seven"), Object.create(null)];
 
 test("any Uint8Array is taken as bytes, and nothing else is", () => {
-  const form = fromHex(PORT_SAVED);
-  const others = ["53", form.buffer, new DataView(form.buffer), new Int8Array(8), new Uint8ClampedArray(8)];
+  const encoding = fromHex(PORT_SAVED);
+  const others = ["53", encoding.buffer, new DataView(encoding.buffer), new Int8Array(8), new Uint8ClampedArray(8)];
   for (const call of [(it) => new Serial().enqueue(it), (it) => Serial.fromState({ ...PORT, inBuffer: it }),
     (it) => Serial.fromBytes(it), (it) => Rtc.fromBytes(it)]) {
     for (const other of [...OF_OTHER_KINDS, ...others]) refused(() => call(other), "TypeError", "a Uint8Array");
@@ -124,9 +125,9 @@ test("any Uint8Array is taken as bytes, and nothing else is", () => {
   refused(() => new Serial().enqueue([65]), "TypeError", "bytes is of class Array, and a Uint8Array is wanted");
   refused(() => Serial.fromBytes("53"), "TypeError", 'bytes is "53", and a Uint8Array is wanted');
   assert.deepEqual(new Serial().enqueue(new Uint8Array(70_000)), { accepted: 64, fifoFull: false, interrupts: 0 });
-  const shared = new Uint8Array(new SharedArrayBuffer(form.length));
-  shared.set(form);
-  for (const taken of [Buffer.from(form), shared]) {
+  const shared = new Uint8Array(new SharedArrayBuffer(encoding.length));
+  shared.set(encoding);
+  for (const taken of [Buffer.from(encoding), shared]) {
     const port = Serial.fromState({ ...PORT, inBuffer: taken.subarray(17) });
     assert.deepEqual(Serial.fromBytes(taken).state, port.state);
     assert.equal(port.enqueue(taken).accepted, taken.length);
@@ -141,7 +142,7 @@ const NUMBERS = [
   ["offset", [0, 0xffff], (it) => new Rtc().read(it, 0)], ["offset", [0, 0xffff], (it) => new Rtc().write(it, 0, 0)],
   ["value", OF_WORD, (it) => new Rtc().write(8, it, 0)],
   ["now", OF_MOMENT, (it) => new Rtc().read(0, it)], ["now", OF_MOMENT, (it) => new Rtc().write(8, 0, it)],
-  ["now", OF_MOMENT, (it) => new Rtc().due(it)],
+  ["now", OF_MOMENT, (it) => new Rtc().alarmDue(it)],
   ["offset", OF_BYTE, (it) => new I8042().read(it)], ["offset", OF_BYTE, (it) => new I8042().write(it, 0)],
   ["value", OF_BYTE, (it) => new I8042().write(4, it)],
   ["offset", [-(2n ** 63n), 2n ** 63n - 1n], (it) => Rtc.fromState({ ...CLOCK, offset: it })],
@@ -239,7 +240,7 @@ const declared = (body) => Array.from(body.matchAll(/^  (static |readonly )?(\w+
   ([, kind = "", name, parameters = ""]) =>
     `${kind}${name} ${Array.from(parameters.matchAll(/(\w+):/g), ([, word]) => word)}`);
 
-/** The members that a class has, in the same form. */
+/** The members that a class has, written the same way. */
 function membersOf(made) {
   const parametersOf = (call) => /\((.*?)\)/.exec(call.toString())[1].replaceAll(" ", "");
   const ofDevices = Object.entries(Object.getOwnPropertyDescriptors(made.prototype)).map(([name, { get, value }]) =>
@@ -262,7 +263,7 @@ test("superio.d.ts declares the classes that there are", () => {
 for (const [, name, base = "", body = ""] of classes) {
   test(`superio.d.ts declares what ${name} has`, () => {
     assert.equal(Object.getPrototypeOf(superio[name]).name, base);
-    const members = [...new Set([...declared(body), "constructor "])].filter((one) => one !== "readonly status ");
+    const members = [...new Set([...declared(body), "constructor "])].filter((one) => one !== "readonly reason ");
     assert.deepEqual(members.sort(), membersOf(superio[name]).sort());
   });
 }
@@ -276,13 +277,13 @@ test("superio.d.ts declares the fields of what calls give", () => {
   }
 });
 
-test("superio.d.ts declares each status of a load", () => {
-  const [union] = /readonly status: [^;]*/.exec(declarations);
-  assert.deepEqual(["ok", ...Array.from(union.matchAll(/"(.*?)"/g), ([, status]) => status)], LOAD_STATUSES);
+test("superio.d.ts declares each reason why bytes are no saved state", () => {
+  const [union] = /readonly reason: [^;]*/.exec(declarations);
+  assert.deepEqual(Array.from(union.matchAll(/"(.*?)"/g), ([, reason]) => reason), Object.keys(SAVED_STATE_ERRORS));
 });
 
 test("package.json names the files that the package has, and those that a release puts beside them", () => {
-  const isOwn = (name) => !["package.json", "page", "tests"].includes(name);
+  const isOwn = (name) => !["package.json", "tests"].includes(name);
   const there = readdirSync(new URL("..", import.meta.url)).filter(isOwn);
   assert.deepEqual(new Set(files), new Set([...there, "LICENSE", "LICENSES"]));
   assert.deepEqual(Object.values(exports).filter((name) => !files.includes(name.slice(2))), []);

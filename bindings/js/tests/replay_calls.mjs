@@ -1,13 +1,13 @@
 /**
- * Makes the recorded calls of tests/data/calls, which come on standard input, over the board of the page and so over the
- * JavaScript package, and compares them. The board has the trigger and the events, which the devices leave to their
+ * Makes the recorded calls of tests/data/calls, which come on standard input, over the board of the page and so over
+ * the JavaScript package, and compares them. The board has the trigger and the events, which the devices leave to their
  * caller. What becomes of a byte that goes out is not compared.
  *
  * Prints the first ten lines that differ, and how many calls did the same. Exits 1 if one differs or there is none.
  */
 import process from "node:process";
 import { text } from "node:stream/consumers";
-import { Board, bytesOf, hex, hexOf } from "../page/board.mjs";
+import { Board, bytesOf, hex, hexOf } from "../../../web/board.mjs";
 import { Rtc, Serial } from "../superio.mjs";
 
 const FIFO_SIZE = 64;

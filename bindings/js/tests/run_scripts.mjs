@@ -7,7 +7,7 @@
  */
 import process from "node:process";
 import { json } from "node:stream/consumers";
-import { runScript } from "../page/board.mjs";
+import { runScript } from "../../../web/board.mjs";
 
 const scripts = await json(process.stdin);
 const different = scripts.flatMap(([place, script, isForProgram, replies, end]) => {

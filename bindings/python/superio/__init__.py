@@ -10,10 +10,10 @@ from .board import Board, Call
 from .devices import *  # noqa: F403, all that `__all__` of the module names
 from .library import LibraryError
 from .registers import AlarmIsSetError, RegisterError, RtcState, SerialState
-from .saved import LoadStatus, SavedStateError
+from .saved import SavedStateError
 from .script import Command, ScriptError, parse
 
-__all__ = [*devices.__all__, "AlarmIsSetError", "Board", "Call", "Command", "LibraryError", "LoadStatus",
-           "RegisterError", "RtcState", "SavedStateError", "ScriptError", "SerialState", "parse", "__version__"]
+__all__ = [*devices.__all__, "AlarmIsSetError", "Board", "Call", "Command", "LibraryError", "RegisterError",
+           "RtcState", "SavedStateError", "ScriptError", "SerialState", "parse", "__version__"]
 
 __version__ = "0.2.0"

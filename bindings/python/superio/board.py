@@ -8,7 +8,7 @@ from typing import Any, Callable, Dict, List, NamedTuple, Optional, Tuple, Union
 from .devices import I8042, Rtc, Serial
 from .registers import (DLAB, SERIAL, Register, RtcState, SerialState, bits_by_name, check_kind, clock_register,
                         serial_register)
-from .saved import LoadStatus, SavedStateError
+from .saved import SavedStateError
 
 OUTPUT_SIZE = 256
 """How many bytes the board's output takes. Each byte after them is lost."""
@@ -23,7 +23,7 @@ class Field(NamedTuple):
     """A field of a line."""
 
     name: str
-    form: str       # as `help` shows it
+    syntax: str     # as `help` shows it
     digits: int     # how many it has, 0 for bytes of two digits each
     kind: str = ""  # what it can be in a shell beside digits: a register or bits of one, or a moment
 
@@ -224,7 +224,7 @@ def _loaded(data: bytes, kind: Any, replace_device: Callable[[Any], str]) -> str
     try:
         return replace_device(kind.from_bytes(data))
     except SavedStateError as error:
-        return f"{error} {data[5]:02x}" if error.status is LoadStatus.UNKNOWN_VERSION else str(error)
+        return f"{error.reason} {data[5]:02x}" if error.reason == "unknown version" else error.reason
 
 
 PROGRAM_LINES: Dict[str, Line] = {

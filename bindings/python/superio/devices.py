@@ -101,9 +101,9 @@ class Serial(Saved):
         return WriteEffects(done.sends, done.interrupts)
 
     def enqueue(self, data: bytes) -> EnqueueEffects:
-        """Bytes arrive for the guest. The first of them are taken, as many as there is room for, and in loopback none.
+        """Bytes arrive for the guest. The port accepts as many of the first as there is room for, and in loopback none.
 
-        Afterwards ask for the interrupt as often as `interrupts` says. Keep the bytes that were not taken, and offer
+        Afterwards ask for the interrupt as often as `interrupts` says. Keep the bytes that were not accepted, and offer
         them again when a read tells `in_buffer_empty`, or when the guest leaves loopback.
         """
         data = byte_string("data", data)
@@ -203,11 +203,11 @@ class Rtc(Saved):
                                                number("now", now, 64))
         return RtcWriteEffects(done.invalid_write)
 
-    def line(self) -> bool:
+    def interrupt_line(self) -> bool:
         """Whether the clock's interrupt line is up. Look after each access, and when the alarm is due."""
         return self._library.superio_rtc_interrupt_line(self._pointer)
 
-    def due(self, now: int) -> Optional[int]:
+    def alarm_due(self, now: int) -> Optional[int]:
         """In how many seconds from a moment the alarm is due if the guest does nothing, `None` if it never is."""
         seconds = self._library.superio_rtc_alarm_due(self._pointer, number("now", now, 64))
         return None if seconds == _NEVER else seconds

@@ -11,8 +11,8 @@ _PACKAGE = Path(__file__).resolve().parent
 _TABLE = (_PACKAGE / "superio.abi").read_text(encoding="ascii")
 
 
-def _found(form: str) -> List[Any]:
-    return re.findall(f"^{form}$", _TABLE, re.M)
+def _found(row: str) -> List[Any]:
+    return re.findall(f"^{row}$", _TABLE, re.M)
 
 
 ABI = int(_found(r"abi (\d+)")[0])

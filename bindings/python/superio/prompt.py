@@ -96,7 +96,7 @@ class Prompt(cmd.Cmd):
                 raise UsageError
             self.perform(name, rest.strip())
         except UsageError:
-            raise ScriptError(f"the form is: {usage}") from None
+            raise ScriptError(f"the syntax is: {usage}") from None
 
     def perform(self, name: str, rest: str) -> None:
         """Carries out a command with the rest of its line."""

@@ -88,7 +88,7 @@ _MSR_BITS = ((0x10, "CTS"), (0x20, "DSR"), (0x40, "RI"), (0x80, "DCD"))
 _ALARM = ((0x01, "ALARM"),)
 
 SERIAL: Dict[str, Register] = {register.name: register for register in (
-    Register("RBR", 0, "receiver buffer: takes the oldest received byte", (), False, "r"),
+    Register("RBR", 0, "receiver buffer: reads the oldest received byte out", (), False, "r"),
     Register("THR", 0, "transmitter holding: sends a byte", (), False, "w"),
     Register("DLL", 0, "divisor latch, low byte", (), True),
     Register("IER", 1, "interrupt enable", _IER_BITS, False),
@@ -187,7 +187,7 @@ _State = TypeVar("_State", bound="State")
 
 
 class State:
-    """The state of a device, whose fields are checked, and its form in vm-superio."""
+    """The state of a device, whose fields are checked, and its fields in vm-superio."""
 
     def __post_init__(self) -> None:
         for name, kind in self.kinds().items():

@@ -1,6 +1,5 @@
-"""The states of the devices as the bytes of a saved state."""
+"""The states of the devices as saved states, and why bytes are none."""
 from ctypes import byref, c_uint8
-from enum import IntEnum
 from typing import Any, Callable, Tuple, Type, TypeVar
 
 from .library import load
@@ -9,28 +8,30 @@ from .registers import State, byte_string, check_kind
 _Device = TypeVar("_Device", bound="Saved")
 
 
-class LoadStatus(IntEnum):
-    """`enum superio_saved_state_error`: why bytes are no saved state. They are checked in this order."""
-
-    OK = 0
-    TOO_SHORT = 1
-    NOT_A_SAVED_STATE = 2
-    OTHER_DEVICE = 3
-    UNKNOWN_VERSION = 4
-    WRONG_LENGTH = 5
-    TOO_MANY_BYTES = 6
-    INVALID_ARMED = 7
+SAVED_STATE_ERRORS = {
+    "too short": "Too short for a saved state",
+    "not a saved state": "Not a saved state",
+    "other device": "The saved state of another device",
+    "unknown version": "A saved state of an unknown version",
+    "wrong length": "A saved state of the wrong length",
+    "too many bytes": "More than 64 received bytes",
+    "invalid armed": "An alarm that is neither set nor clear",
+}
+"""Why bytes are no saved state, in the words of a script, each with its text in every language. The order is that of
+the checks, and so of `enum superio_saved_state_error`, which begins with 1."""
 
 
 class SavedStateError(ValueError):
-    """Bytes are not the saved state of this device. `status` says why, and the message in the words of a script."""
+    """Bytes are not the saved state of this device. `reason` says why, in the words of a script: "too short",
+    "not a saved state", "other device", "unknown version", "wrong length", "too many bytes" or "invalid armed".
+    """
 
-    def __init__(self, status: LoadStatus) -> None:
-        super().__init__(status.name.lower().replace("_", " "))
-        self.status = status
+    def __init__(self, reason: str) -> None:
+        super().__init__(SAVED_STATE_ERRORS[reason])
+        self.reason = reason
 
     def __reduce__(self) -> Tuple[Any, ...]:
-        return type(self), (self.status,)
+        return type(self), (self.reason,)
 
 
 class Saved:
@@ -68,9 +69,9 @@ class Saved:
         return device
 
     def _load(self, data: bytes) -> None:
-        status = LoadStatus(self._function("load")(self._pointer, data, len(data)))
-        if status is not LoadStatus.OK:
-            raise SavedStateError(status)
+        error = self._function("load")(self._pointer, data, len(data))
+        if error:
+            raise SavedStateError([*SAVED_STATE_ERRORS][error - 1])
 
     def _set(self, state: State, kind: Type[State]) -> None:
         """Takes the fields of a state, which has to be of this class."""

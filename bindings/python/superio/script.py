@@ -1,4 +1,4 @@
-"""The lines of a script, and the further lines that a board carries out: docs/SCRIPT.md has their forms.
+"""The lines of a script, and the further lines that a board carries out: docs/SCRIPT.md has their syntax.
 
 `BadLine` says which line of a file was not carried out.
 """
@@ -8,14 +8,14 @@ from functools import lru_cache
 from .board import BYTES, FURTHER_LINES, LINES, MASK, MOMENT, Command, Field, Value
 from .registers import byte_string
 
-__all__ = ["BYTES", "BadLine", "Command", "FORMS", "FURTHER_LINES", "Field", "LINES", "MASK", "MOMENT", "ScriptError",
-           "Value", "form_of", "parse", "reason_of", "shown", "text_of"]
+__all__ = ["BYTES", "BadLine", "Command", "FURTHER_LINES", "Field", "LINES", "LINE_FIELDS", "MASK", "MOMENT",
+           "ScriptError", "Value", "parse", "reason_of", "shown", "syntax_of", "text_of"]
 
 _CACHED = 4096  # lines
 
 
 class ScriptError(ValueError):
-    """A line has no form. The message says why."""
+    """A line is not understood. The message says why."""
 
 
 def shown(text: str, most: int = 24) -> str:
@@ -40,29 +40,29 @@ class BadLine(ValueError):
         super().__init__(f'{name}:{number}: "{text}": {reason_of(error)}')
 
 
-FORMS = {name: line.fields for name, line in LINES.items()}
+LINE_FIELDS = {name: line.fields for name, line in LINES.items()}
 """The fields of each line. Bytes may be left out."""
 
 
-def form_of(name: str) -> str:
-    """The form of a line, as `help` shows it."""
-    return " ".join([name, *(field.form for field in FORMS[name])])
+def syntax_of(name: str) -> str:
+    """The syntax of a line, as `help` shows it."""
+    return " ".join([name, *(field.syntax for field in LINE_FIELDS[name])])
 
 
 def _pattern(name: str) -> "re.Pattern[str]":
     fields = (f" ([0-9A-Fa-f]{{{field.digits}}})" if field.digits else "(?: ((?:[0-9A-Fa-f]{2}){1,128}))?"
-              for field in FORMS[name])
+              for field in LINE_FIELDS[name])
     return re.compile(name + "".join(fields))
 
 
-_PATTERNS = {name: _pattern(name) for name in FORMS}
+_PATTERNS = {name: _pattern(name) for name in LINE_FIELDS}
 
 
 def parse(line: bytes, is_first: bool = False, is_for_program: bool = False) -> Command:
     """The command of a line, without its LF. `is_first` says whether it is the script's first, and `is_for_program`
     whether it has to be a line that the program `superio` takes, as the further lines are not.
 
-    Raises `ScriptError`, which says why, if the line has no form.
+    Raises `ScriptError`, which says why, if the line is not understood.
     """
     command = _parse(byte_string("line", line), bool(is_first))
     if is_for_program and command.name in FURTHER_LINES:
@@ -75,19 +75,19 @@ def _parse(line: bytes, is_first: bool) -> Command:
     """The same, also of a further line. A script has most of its lines many times."""
     text = line.decode("ascii", "replace")
     name = text.partition(" ")[0]
-    if name not in FORMS:
+    if name not in LINE_FIELDS:
         raise ScriptError("no line has this name")
     found = _PATTERNS[name].fullmatch(text)
     if not found:
-        raise ScriptError(f"the form is: {form_of(name)}")
+        raise ScriptError(f"the syntax is: {syntax_of(name)}")
     if name == MASK and not is_first:
         raise ScriptError("a mask comes before every other line")
     return Command(name, tuple(int(digits, 16) if field.digits else bytes.fromhex(digits)
-                               for field, digits in zip(FORMS[name], found.groups()) if digits))
+                               for field, digits in zip(LINE_FIELDS[name], found.groups()) if digits))
 
 
 def text_of(command: Command) -> str:
     """The line of a command, as a file has it."""
     texts = [value.hex() if isinstance(value, bytes) else f"{value:0{field.digits}x}"
-             for field, value in zip(FORMS[command.name], command.values)]
+             for field, value in zip(LINE_FIELDS[command.name], command.values)]
     return " ".join([command.name, *texts])

@@ -7,7 +7,7 @@ from typing import IO, Callable, Dict, Iterable, List, Optional, Tuple
 from .board import FURTHER_LINES, MASK, PROGRAM_LINES, Board, Call, Command, Line
 from .prompt import Help, Prompt, write_text
 from .registers import CLOCK, SERIAL
-from .script import FORMS, BadLine, ScriptError, form_of, parse, text_of
+from .script import LINE_FIELDS, BadLine, ScriptError, parse, syntax_of, text_of
 from .tell import Story, changes, clock_registers, registers, told, turn
 from .words import Speaker, UsageError
 
@@ -30,7 +30,7 @@ _OF_MASK = "Only before every other call. The line refuses call k, from 0, if bi
 
 def _helps(lines: Dict[str, Line]) -> Tuple[Help, ...]:
     """What `help` says of lines."""
-    return tuple(Help(form_of(name), line.about, _OF_MASK if name == MASK else "",
+    return tuple(Help(syntax_of(name), line.about, _OF_MASK if name == MASK else "",
                       tuple(field.kind for field in line.fields)) for name, line in lines.items())
 
 
@@ -132,7 +132,7 @@ class Session(Prompt):
             self.run(command, is_short=True)
 
     def perform(self, name: str, rest: str) -> None:
-        if name in FORMS:
+        if name in LINE_FIELDS:
             self.run(self._speaker.line(name, rest), is_short=True)
         elif self.help[name].means:
             self.run(self._speaker.command(self.help[name].means, rest), is_short=False)

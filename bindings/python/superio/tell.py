@@ -92,12 +92,12 @@ def _serial_write(call: Call) -> str:
 def _enqueue(call: Call) -> str:
     data = call.command.values[0] if call.command.values else b""
     state = call.after.serial
-    taken = len(state.in_buffer) - len(call.before.serial.in_buffer)
+    accepted = len(state.in_buffer) - len(call.before.serial.in_buffer)
     noun = "byte" if len(data) == 1 else "bytes"
-    if taken == len(data):
-        return f"{taken} {noun} received" + _interrupt_for_data(call)
+    if accepted == len(data):
+        return f"{accepted} {noun} received" + _interrupt_for_data(call)
     reason = "the port is in loopback" if state.modem_control & LOOPBACK else "the FIFO is full"
-    return f"{taken} of {len(data)} {noun} received: {reason}" + _interrupts(call)
+    return f"{accepted} of {len(data)} {noun} received: {reason}" + _interrupts(call)
 
 
 def _character_timeout(call: Call) -> str:
@@ -170,14 +170,14 @@ def clock_registers(state: RtcState, now: Optional[int] = None) -> List[str]:
         rows.append(f"  DR   {guest_time:#010x}  {date_of(guest_time)}")
     rows.extend(_row(CLOCK[name], getattr(state, name.lower()), 10) for name in CLOCK_KEPT)
     rows.append(f"  {_alarm(clock, now)}")
-    rows.append(f"  interrupt line {'up' if clock.line() else 'down'}")
+    rows.append(f"  interrupt line {'up' if clock.interrupt_line() else 'down'}")
     return rows
 
 
 def _alarm(clock: Rtc, now: Optional[int]) -> str:
     if not clock.state.armed:
         return "no alarm is set"
-    due = None if now is None else clock.due(now)
+    due = None if now is None else clock.alarm_due(now)
     return "alarm set" if due is None else f"alarm due in {due} s" if due else "alarm due now"
 
 

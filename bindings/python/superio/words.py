@@ -6,7 +6,7 @@ from typing import Any, Callable, List, Optional
 from .board import BYTES, MASK, MOMENT, Board, Command, Field
 from .registers import (CLOCK, SERIAL, Register, bits_by_name, clock_offset, clock_register, serial_offset,
                         serial_register)
-from .script import FORMS, ScriptError, parse, shown
+from .script import LINE_FIELDS, ScriptError, parse, shown
 
 # A word of a line. A character in quotes is one, also a blank one.
 _WORD = re.compile(r"'(?:\\.[^']*|[^'])'|\S+")
@@ -68,7 +68,7 @@ class Speaker:
             return self._alarm(words)
         if name in ("clock", "i8042"):
             name = _NAMES.get((name, words.pop(0) if words else ""), "")
-        fields = FORMS.get(name, ())
+        fields = LINE_FIELDS.get(name, ())
         if fields[:1] == (MOMENT,):  # people say it last, or leave it out
             words.insert(0, words.pop() if len(words) == len(fields) else "now")
         if not name or len(words) != len(fields):
@@ -77,7 +77,7 @@ class Speaker:
 
     def line(self, name: str, rest: str) -> Command:
         """The command of a script's line, whose fields need not be written out: `sr LSR`, `sw 3 0x83`, `cr now DR`."""
-        texts, fields = rest.split(), FORMS[name]
+        texts, fields = rest.split(), LINE_FIELDS[name]
         if name == "sq" and rest[:1] in ("'", '"'):
             return Command(name, (self._bytes(rest),))
         if fields == (BYTES,):
@@ -91,7 +91,7 @@ class Speaker:
     def _filled(self, name: str, texts: List[str], base: int) -> Command:
         """A script's line of this name, with as many fields as it has, as people write them."""
         values: List[Any] = []
-        for field, text in zip(FORMS[name], texts):
+        for field, text in zip(LINE_FIELDS[name], texts):
             values.append(self._field(name, field, text, values, base))
         return Command(name, tuple(values))
 

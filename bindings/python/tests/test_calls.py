@@ -2,7 +2,7 @@
 import re
 import unittest
 
-import support  # noqa: F401, which finds the modules of tools
+import support  # noqa: F401, which finds the modules of tests
 
 from lines import every_answer, recording_of, recordings
 

@@ -27,7 +27,7 @@ RUNS = [
                  "those are RBR THR DLL IER DLM IIR FCR LCR MCR LSR MSR SCR\n")),
     ([], b"\xff\x1b\n", (1, "", '<stdin>:1: "\\xff\\x1b": no command is called \\xff\\x1b: help lists them\n')),
     ([], b"\n   # indented\n  kr 04  \t\r\nread LSR\r\n\r\nkr 04", (0, "00\nLSR = 0x60  THRE TEMT\n00\n", "")),
-    ([], b"# " + b"x" * 200_000 + b"\nkr 04\nkr", (1, "00\n", '<stdin>:3: "kr": the form is: kr OO\n')),
+    ([], b"# " + b"x" * 200_000 + b"\nkr 04\nkr", (1, "00\n", '<stdin>:3: "kr": the syntax is: kr OO\n')),
     ([], b"kr " + b"1" * 100, (1, "", f'<stdin>:1: "kr {"1" * 57}..": {"1" * 24}.. is no offset: it has 8 bits\n')),
     ([], b"kr 04\nquit\nkr 04\n", (0, "00\n", "")),
     ([], b"write SCR 7\nreset\nread SCR\n", (0, "ok\na fresh board\nSCR = 0x00\n", "")),
@@ -35,12 +35,12 @@ RUNS = [
     (["/"], b"", (2, "", "python3 -m superio: /: Is a directory\n")),
     (["/nowhere/at/all"], b"", (2, "", "python3 -m superio: " + NOWHERE)),
     (["view", "/nowhere/at/all"], b"", (2, "", "python3 -m superio: " + NOWHERE)),
-    (["view", "-"], b"sr\n", (1, "", '<stdin>:1: "sr": the form is: sr OO\n')),
+    (["view", "-"], b"sr\n", (1, "", '<stdin>:1: "sr": the syntax is: sr OO\n')),
     (["view", "-"], b"# nothing\n", (1, "", "- has no call\n")),
     (["--version"], b"", (0, f"superio {superio.__version__}\n", "")),
 ]
 
-HELD = "hi".ljust(64, "*")  # the longest form of a port
+HELD = "hi".ljust(64, "*")  # as many bytes as a port holds
 PORT = SerialState(scratch=7, line_status=0x61, in_buffer=HELD.encode())
 SL, CL = (f"{name} {device.to_bytes().hex()}\n" for name, device in (
     ("sl", Serial.from_state(PORT)), ("cl", Rtc.from_state(RtcState(lr=100, offset=-900)))))
@@ -54,13 +54,13 @@ FILES = [
      (0, "ok\n64 bytes received; no interrupt: IER does not enable RDA\nok\nport and clock saved to a file\n"), "",
      {"a file": SL + CL}),
     ({"it": SL + CL}, f"load it\n{LOADED}", (0, f"ok\nok\nSCR = 0x07\n{HELD.encode().hex()}\n0000006b\n"), "", {}),
-    ({"it": "sl 00\ncl zz\n"}, "load it\n", (1, "too short\n"), 'it:2: "cl zz": the form is: cl HH..', {}),
+    ({"it": "sl 00\ncl zz\n"}, "load it\n", (1, "too short\n"), 'it:2: "cl zz": the syntax is: cl HH..', {}),
     # Files follow each other, and go ten deep. What a line of one says is said with both places.
     (CHAIN, "source 0\n" * 12, (0, "ok\n" * 12), "", {}),
     (CHAIN, "source 9\n", (0, "ok\n"), "", {}),
     (CHAIN, "source 10\n", (1, ""), "files that load each other go at most 10 deep", {}),
     ({"it": "kr 04\nkr 4 4\n"}, "source it\n", (1, "00\n"),
-     '<stdin>:1: "source it": it:2: "kr 4 4": the form is: kr OO\n', {}),
+     '<stdin>:1: "source it": it:2: "kr 4 4": the syntax is: kr OO\n', {}),
     ({"it": "kr 04\nquit\n"}, "source it\nkr 04\n", (0, "00\n"), "", {}),
     # A script for the program leaves a further line out that changed nothing. One that changed something is named.
     ({}, "refuse 2\nkr 04\nsb\ntimeout\nread SCR\nscript\nscript new\n",

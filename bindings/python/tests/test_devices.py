@@ -4,14 +4,18 @@ import dataclasses
 import doctest
 import json
 import pickle
+import re
 import typing
 import unittest
 
-import support  # noqa: F401, which finds the package
+from support import ROOT
 
 import superio
-from superio import (AlarmIsSetError, Board, Command, I8042, LoadStatus, RegisterError, Rtc, RtcState, SavedStateError,
-                     Serial, SerialState, board, devices, parse, registers)
+from superio import (AlarmIsSetError, Board, Command, I8042, RegisterError, Rtc, RtcState, SavedStateError, Serial,
+                     SerialState, board, devices, parse, registers)
+from superio.saved import SAVED_STATE_ERRORS
+
+ERROR_TEXTS = ROOT / "crates" / "superio_core" / "src" / "saved" / "error_text.rt"
 
 # States that programs over vm-superio 0.8.2 saved, as serde's JSON has them.
 MOVED = [(Serial, """{"baud_divisor_low":1,"baud_divisor_high":2,"interrupt_enable":1,"interrupt_identification":4,\
@@ -55,7 +59,7 @@ REFUSED = [
     (lambda: SerialState(in_buffer=3), TypeError, "in_buffer is 3", BYTES),
     (lambda: SerialState(in_buffer=bytes(65)), ValueError, "in_buffer has 65 bytes", "a port holds at most 64"),
     (lambda: Rtc().read("DR", 1 << 64), ValueError, "now is ", MOMENT),
-    (lambda: Rtc().due(-1), ValueError, "now is -1", MOMENT),
+    (lambda: Rtc().alarm_due(-1), ValueError, "now is -1", MOMENT),
     (lambda: Rtc().write("LR", 1 << 32, 0), ValueError, "value is ", WORD),
     (lambda: Rtc().write("LR", 0, 1.5), TypeError, "now is 1.5", MOMENT),
     (lambda: Rtc().read(1 << 16, 0), ValueError, "offset is 65536", f"an int from 0 to 65535{OR_NAME}"),
@@ -150,13 +154,18 @@ class States(unittest.TestCase):
 
     def test_each_error_can_be_copied(self):
         """As a pool of processes does that passes one on."""
-        errors = [SavedStateError(LoadStatus(number)) for number in range(1, 8)]
-        self.assertEqual(["too short", "not a saved state", "other device", "unknown version", "wrong length",
-                          "too many bytes", "invalid armed"], [*map(str, errors)])
+        errors = [*map(SavedStateError, SAVED_STATE_ERRORS)]
         public = [kind for kind in vars(superio).values() if isinstance(kind, type) and issubclass(kind, Exception)]
         for error in [*errors, *(kind("a") for kind in public if kind is not SavedStateError)]:
             for other in (way(error) for way in self.WAYS):
                 self.assertEqual((type(error), str(error), vars(error)), (type(other), str(other), vars(other)))
+
+    def test_errors_of_saved_states_have_the_texts_of_rattle(self):
+        """And the names of its cases, in the words of a script."""
+        cases = re.findall(r'SavedStateError::(\w+)(?:\(_\))? => write!\(f, "(.*)"\)', ERROR_TEXTS.read_text("utf-8"))
+        words = [(re.sub("(?<!^)(?=[A-Z])", " ", name).lower(), text) for name, text in cases]
+        self.assertEqual([*SAVED_STATE_ERRORS.items()], words)
+        self.assertEqual(words, [(error.reason, str(error)) for error in map(SavedStateError, SAVED_STATE_ERRORS)])
 
     def test_a_state_has_the_types_that_it_is_annotated_with(self):
         """Also one that was made of other numbers, such as Booleans, which JSON has as other values."""

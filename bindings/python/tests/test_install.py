@@ -15,9 +15,10 @@ from support import ENVIRONMENT, PACKAGE, ROOT, TIMEOUT, FolderTest, ended
 from header import read_header
 
 import superio
-from superio import LibraryError, LoadStatus, library, registers
+from superio import LibraryError, library, registers
+from superio.saved import SAVED_STATE_ERRORS
 
-# What Python got after 3.8, and what someone may use without a thought: names, and two forms of an annotation.
+# What Python got after 3.8, and what someone may use without a thought: names, and two ways to write an annotation.
 NEWER = re.compile(r"\b(removeprefix|removesuffix|randbytes|bit_count|pairwise|batched|is_relative_to|StrEnum|Self|"
                    r"cache|datetime.UTC|TypeAlias|Annotated|ParamSpec|override|file_digest|zoneinfo|tomllib|strict|"
                    r"slots|kw_only|root_dir)\b|(?:: |-> |\[)(?:dict|list|set|tuple|type)\[|(?:: |-> )[\w.]+ \| ")
@@ -126,10 +127,12 @@ class Layout(unittest.TestCase):
     def test_constants_are_those_of_the_header(self):
         named = {"VERSION": superio.__version__, "ABI": library.ABI, "SERIAL_SAVED_MAX": library.SERIAL_SAVED_MAX,
                  "RTC_SAVED_SIZE": library.RTC_SAVED_SIZE, "SERIAL_FIFO_SIZE": registers.FIFO_SIZE,
-                 **{f"LOAD_{status.name}": status.value for status in LoadStatus}}
+                 "LOAD_OK": 0, **{f"LOAD_{reason.upper().replace(' ', '_')}": number
+                                  for number, reason in enumerate(SAVED_STATE_ERRORS, 1)}}
         for name, value in named.items():
             self.assertEqual(value, DECLARED.constants[f"SUPERIO_{name}"], name)
-        self.assertEqual(len(LoadStatus), sum(name.startswith("SUPERIO_LOAD_") for name in DECLARED.constants))
+        errors = [name for name in DECLARED.constants if name.startswith("SUPERIO_LOAD_") and name != "SUPERIO_LOAD_OK"]
+        self.assertEqual(len(SAVED_STATE_ERRORS), len(errors))
 
 
 class Finding(unittest.TestCase):

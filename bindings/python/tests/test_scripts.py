@@ -135,7 +135,7 @@ PLACES = [("next", 2), ("next 3", 5), ("back 2", 3), ("next thre", 8), ("back rd
           ("next sent", 8), ("next reset", 12), ("back IIR", 7), ("back lsr", 4), ("first", 1),
           ("next difference", 12), ("goto 4", 4), ("next change", 5), ("back input", 3), ("last", 12),
           ("next", "there is no call further on"), ("goto 0", "there is no call before"),
-          ("goto x", "the form is: goto N"), ("first", 1), ("back", "there is no call before"), ("", 2),
+          ("goto x", "the syntax is: goto N"), ("first", 1), ("back", "there is no call before"), ("", 2),
           ("foo", "no command is called foo: help lists them"), ("next timeout", 9)]
 
 # Traces, and the bars of their lanes in the picture.
@@ -176,7 +176,7 @@ class Traces(FolderTest):
         self.assertFalse(any(step.differs for step in steps))
 
     def test_faults(self):
-        for trace, reason in ((b"sr 05\nsr 5\n", 'trace:2: "sr 5": the form is: sr OO'),
+        for trace, reason in ((b"sr 05\nsr 5\n", 'trace:2: "sr 5": the syntax is: sr OO'),
                               (b'sent "\xc3\xa9"\n', "the text is no JSON string of ASCII"),
                               (b"sr 05\nrefuse 0000000000000001\n", "a mask comes before every other line")):
             with self.subTest(trace), self.assertRaisesRegex(BadLine, reason):

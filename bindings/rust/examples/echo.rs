@@ -19,7 +19,7 @@ const LINE_STATUS: u8 = 5;
 
 const FIFO_SIZE: usize = 64;
 
-/// How many bytes the guest's driver takes at an interrupt. It leaves the others to the next one, as many drivers do.
+/// How many bytes the guest's driver reads out at an interrupt. It leaves the others to the next one, as many do.
 const MOST: usize = 16;
 
 /// The interrupt line: a flag that the guest's processor looks at. An eventfd in its place may refuse an interrupt.
@@ -48,8 +48,8 @@ impl<L: Trigger, W: Write> Machine<L, W> {
         Machine { port: Serial::new(line, output), waiting: VecDeque::new(), must_retry: false }
     }
 
-    /// Offers the input that waits, once: a guest need not read, and takes nothing while it is in loopback. The port
-    /// has taken bytes also if the interrupt was refused.
+    /// Offers the input that waits, once: a guest need not read, and in loopback the port accepts nothing. The port
+    /// has accepted bytes also if the interrupt was refused.
     fn offer(&mut self) {
         let room = self.port.fifo_capacity();
         if !self.waiting.is_empty() && room > 0 {

@@ -1,5 +1,5 @@
 //! An i8042 keyboard controller, reduced to CPU reset.
-use crate::values::is_reset_command;
+use crate::sansio::is_reset_command;
 use crate::Trigger;
 
 /// A keyboard controller that knows one command: 0xFE, written at offset 4, resets the machine.

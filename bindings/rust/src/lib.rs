@@ -17,48 +17,47 @@ pub mod serial;
 /// Saved states, and why bytes are refused. A monitor may also keep the state of a clock alone.
 ///
 /// ```
-/// use vm_superio::values::rtc_pl031::saved_form::SAVED_SIZE;
-/// use vm_superio::values::saved::Error;
-/// use vm_superio::values::serial::saved_form::{registers_of, SAVED_MAX};
-/// use vm_superio::values::{Clock, RtcState, SerialPort};
+/// use vm_superio::sansio::rtc_pl031::encoding::SAVED_SIZE;
+/// use vm_superio::sansio::saved::SavedStateError;
+/// use vm_superio::sansio::{Pl031, RtcState, Uart};
 ///
-/// let mut port = SerialPort::new();
+/// let mut port = Uart::new();
 /// port.enqueue_raw_bytes(b"hi");
-/// let mut form = [0; SAVED_MAX];
-/// let length = port.to_bytes(&mut form);
-/// let restored = SerialPort::from_bytes(&form[..length]).unwrap();
+/// let encoding = port.to_bytes();
+/// let restored = Uart::from_bytes(encoding.as_bytes()).unwrap();
 /// assert_eq!(restored.fifo_capacity(), 62);
-/// let (registers, held) = registers_of(&form[..length]).unwrap();
-/// assert_eq!(held, b"hi");
-/// let mut again = [0; SAVED_MAX];
-/// assert_eq!((registers.write_form(held, &mut again), again), (length, form));
-/// assert_eq!(SerialPort::from_bytes(&form).err(), Some(Error::WrongLength)); // the rest of `form` is no part of it
+/// assert_eq!(restored.to_bytes().as_bytes(), encoding.as_bytes());
+/// let longer = [encoding.as_bytes(), &[0]].concat();
+/// assert_eq!(Uart::from_bytes(&longer).err(), Some(SavedStateError::WrongLength));
 ///
-/// let mut state = RtcState::from_five(0, 60, 0, 1, 0); // a minute ahead of the host, and no alarm
-/// assert_eq!(state.read(0x000, 1_000), Some(1_060));
-/// assert!(state.write(0x004, 1_070, 1_000)); // the guest sets an alarm
-/// assert_eq!((state.alarm_due(1_000), state.interrupt_line()), (Some(10), false));
-/// let bytes: [u8; SAVED_SIZE] = state.to_bytes();
-/// let clock = Clock::from_state(&RtcState::from_bytes(&bytes).unwrap());
-/// assert!(clock.state().armed);
-/// assert_eq!(RtcState::from_bytes(&form[..length]).err(), Some(Error::OtherDevice));
+/// let five = RtcState::from_five(0, 60, 0, 1, 0); // a minute ahead of the host, and no alarm
+/// let mut clock = Pl031::from_state(&five);
+/// assert_eq!(clock.read(0x000, 1_000), Some(1_060));
+/// assert!(clock.write(0x004, 1_070, 1_000)); // the guest sets an alarm
+/// assert_eq!((clock.alarm_due(1_000), clock.interrupt_line()), (Some(10), false));
+/// let bytes: [u8; SAVED_SIZE] = clock.state().to_bytes();
+/// let state = RtcState::from_bytes(&bytes).unwrap();
+/// assert_eq!((state.armed, state.to_five()), (true, None));
+/// assert_eq!(Pl031::from_state(&state).alarm_due(1_004), Some(6));
+/// assert_eq!(RtcState::from_bytes(encoding.as_bytes()).err(), Some(SavedStateError::OtherDevice));
 /// ```
 ///
-/// [`Registers`](values::serial::Registers) are those of a port over a receive FIFO of the monitor's own, which is a
-/// [`ReceiveFifo`](values::fifo::ReceiveFifo). If the first of two interrupts is refused, tell them by
-/// [`take_back`](values::serial::Registers::take_back).
+/// [`Registers`](sansio::serial::Registers) are those of a port over a receive FIFO of the monitor's own, which is an
+/// [`RxFifo`](sansio::fifo::RxFifo). If the first of two interrupts is refused, tell them by
+/// [`cancel_thre`](sansio::serial::Registers::cancel_thre).
 ///
-/// No call takes or returns a [`Condition`](values::serial::registers::Condition), a
-/// [`ClockRegister`](values::rtc_pl031::ClockRegister) or a [`Sent`](values::serial::Sent): the contracts of
+/// No call takes or returns a [`Condition`](sansio::serial::registers::Condition), a
+/// [`ClockRegister`](sansio::rtc_pl031::ClockRegister) or a [`Sent`](sansio::serial::Sent): the contracts of
 /// the proved source name their cases.
 #[path = "core/mod.rs"]
 // These lines are those of the proved source, in the layout and style of its language. A name in a pattern that is no
 // constant, or a result that is not used, would mean another thing here than there.
 #[rustfmt::skip]
 #[allow(clippy::style)]
+#[allow(missing_copy_implementations)] // of a saved port's bytes, which are only read
 #[deny(arithmetic_overflow, overflowing_literals, unconditional_panic, unconditional_recursion)]
 #[deny(non_snake_case, unreachable_patterns, unused_must_use, unused_variables)]
-pub mod values;
+pub mod sansio;
 
 pub use i8042::I8042Device;
 #[cfg(feature = "std")]

@@ -5,14 +5,14 @@
 //! In vm-superio 0.8.2 the match register RTCMR (0x004) only reads back what was written. Here it is an alarm. The
 //! first access that finds guest time at or past the match raises bit 0 of the raw interrupt status, unless the match
 //! was past when it was written. The clock has no trigger. If your monitor has an interrupt line for it, set the line
-//! to [`Rtc::line`] after each access, and make an access when [`Rtc::due`] says so.
+//! to [`Rtc::interrupt_line`] after each access, and make an access when [`Rtc::alarm_due`] says so.
 use std::error::Error as StdError;
 use std::fmt;
 use std::sync::Arc;
 use std::time::{SystemTime, UNIX_EPOCH};
 
+use crate::sansio::{self, Pl031};
 use crate::saved::SavedStateError;
-use crate::values::{self, Clock};
 
 /// The offset of RTCDR, which shows guest time.
 const RTCDR: u16 = 0x000;
@@ -54,8 +54,7 @@ impl<EV: RtcEvents> RtcEvents for Arc<EV> {
 /// zeros.
 ///
 /// These five fields do not say whether an alarm is set, so a clock restored from them has none.
-/// [`RtcSnapshot`] has the whole state. `RtcState::try_from` makes the five fields of one, and refuses if that loses an
-/// alarm.
+/// [`RtcSnapshot`] has the whole state, and [`RtcSnapshot::to_five`] refuses to lose an alarm.
 #[derive(Clone, Copy, Debug, Default, Eq, PartialEq)]
 #[cfg_attr(feature = "serde", derive(serde::Deserialize, serde::Serialize))]
 pub struct RtcState {
@@ -85,7 +84,7 @@ pub struct RtcState {
 /// let snapshot = RtcSnapshot::from_bytes(&bytes).unwrap();
 /// assert!(snapshot.armed);
 /// let restored = Rtc::from_snapshot(&snapshot, NoEvents);
-/// assert_eq!(restored.due(950), Some(50));
+/// assert_eq!(restored.alarm_due(950), Some(50));
 /// ```
 #[derive(Clone, Copy, Debug, Default, Eq, PartialEq)]
 #[cfg_attr(feature = "serde", derive(serde::Deserialize, serde::Serialize))]
@@ -97,28 +96,46 @@ pub struct RtcSnapshot {
 }
 
 impl RtcSnapshot {
-    /// The saved form: 33 bytes, the same on every machine. A state has exactly one.
+    /// The whole state of a clock with these five fields. No alarm is set.
+    pub fn from_five(state: RtcState) -> RtcSnapshot {
+        RtcSnapshot { state, armed: false }
+    }
+
+    /// The five fields that `from_five` takes, for a program without alarms.
+    ///
+    /// # Errors
+    ///
+    /// [`AlarmIsSet`] if an alarm is set and has not fired.
+    pub fn to_five(&self) -> Result<RtcState, AlarmIsSet> {
+        if self.armed {
+            Err(AlarmIsSet)
+        } else {
+            Ok(self.state)
+        }
+    }
+
+    /// The encoding: 33 bytes, the same on every machine. A state has exactly one.
     pub fn to_bytes(&self) -> Vec<u8> {
         self.value().to_bytes().to_vec()
     }
 
-    /// The state of a saved form.
+    /// The state of an encoding.
     ///
     /// # Errors
     ///
     /// The first check of [`SavedStateError`] that the bytes fail.
     pub fn from_bytes(bytes: &[u8]) -> Result<RtcSnapshot, SavedStateError> {
-        values::RtcState::from_bytes(bytes).map(RtcSnapshot::of)
+        sansio::RtcState::from_bytes(bytes).map(RtcSnapshot::of)
     }
 
-    fn of(value: values::RtcState) -> RtcSnapshot {
-        let values::RtcState { lr, offset, mr, imsc, ris, armed } = value;
+    fn of(value: sansio::RtcState) -> RtcSnapshot {
+        let sansio::RtcState { lr, offset, mr, imsc, ris, armed } = value;
         RtcSnapshot { state: RtcState { lr, offset, mr, imsc, ris }, armed }
     }
 
-    fn value(&self) -> values::RtcState {
+    fn value(&self) -> sansio::RtcState {
         let RtcState { lr, offset, mr, imsc, ris } = self.state;
-        values::RtcState { lr, offset, mr, imsc, ris, armed: self.armed }
+        sansio::RtcState { lr, offset, mr, imsc, ris, armed: self.armed }
     }
 }
 
@@ -133,30 +150,6 @@ impl fmt::Display for AlarmIsSet {
 }
 
 impl StdError for AlarmIsSet {}
-
-impl TryFrom<RtcSnapshot> for RtcState {
-    type Error = AlarmIsSet;
-
-    /// The registers, for a program that knows no alarm.
-    ///
-    /// # Errors
-    ///
-    /// [`AlarmIsSet`] if an alarm is set and has not fired.
-    fn try_from(snapshot: RtcSnapshot) -> Result<RtcState, AlarmIsSet> {
-        if snapshot.armed {
-            Err(AlarmIsSet)
-        } else {
-            Ok(snapshot.state)
-        }
-    }
-}
-
-impl From<RtcState> for RtcSnapshot {
-    /// The whole state of a clock with these registers and no alarm set.
-    fn from(state: RtcState) -> RtcSnapshot {
-        RtcSnapshot { state, armed: false }
-    }
-}
 
 /// A PL031 real-time clock, which shows the host's time until the guest sets another.
 ///
@@ -181,7 +174,7 @@ impl From<RtcState> for RtcSnapshot {
 /// assert_eq!(u32::from_le_bytes(data), 1_007);
 /// ```
 pub struct Rtc<EV: RtcEvents> {
-    clock: Clock,
+    clock: Pl031,
     events: EV,
 }
 
@@ -225,17 +218,17 @@ impl Rtc<NoEvents> {
 impl<EV: RtcEvents> Rtc<EV> {
     /// Makes a clock from `state`, whatever its values, with no alarm set. Does not call the events object.
     pub fn from_state(state: &RtcState, rtc_events: EV) -> Self {
-        Self::from_snapshot(&RtcSnapshot::from(*state), rtc_events)
+        Self::from_snapshot(&RtcSnapshot::from_five(*state), rtc_events)
     }
 
     /// Makes a clock from a whole state, whatever its values. Does not call the events object.
     pub fn from_snapshot(snapshot: &RtcSnapshot, rtc_events: EV) -> Self {
-        Rtc { clock: Clock::from_state(&snapshot.value()), events: rtc_events }
+        Rtc { clock: Pl031::from_state(&snapshot.value()), events: rtc_events }
     }
 
     /// Makes a clock in the default state. Does not call the events object.
     pub fn with_events(rtc_events: EV) -> Self {
-        Rtc { clock: Clock::new(), events: rtc_events }
+        Rtc { clock: Pl031::new(), events: rtc_events }
     }
 
     /// A snapshot of the registers, as vm-superio has it; [`from_state`](Rtc::from_state) recreates the clock without
@@ -255,13 +248,13 @@ impl<EV: RtcEvents> Rtc<EV> {
     }
 
     /// Whether the interrupt line is up: an interrupt is raised and the mask lets it pass.
-    pub fn line(&self) -> bool {
+    pub fn interrupt_line(&self) -> bool {
         self.clock.interrupt_line()
     }
 
     /// The seconds from the moment `now`, in seconds since 1970, until the alarm is due if the guest makes no access.
     /// `None` if it never is. An access at that moment raises the interrupt, and no earlier one does.
-    pub fn due(&self, now: u64) -> Option<u64> {
+    pub fn alarm_due(&self, now: u64) -> Option<u64> {
         self.clock.alarm_due(now)
     }
 

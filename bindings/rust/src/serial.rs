@@ -3,7 +3,7 @@ use std::error::Error as StdError;
 use std::fmt;
 use std::io::{self, Write};
 
-use crate::values::SerialPort;
+use crate::sansio::Uart;
 use crate::Trigger;
 
 mod events;
@@ -62,7 +62,7 @@ const THRE: u8 = 0x02;
 /// assert_eq!(serial.writer(), b"!");
 /// ```
 pub struct Serial<T: Trigger, EV: SerialEvents, W: Write> {
-    port: SerialPort,
+    port: Uart,
     interrupt_evt: T,
     events: EV,
     out: W,
@@ -136,7 +136,7 @@ impl<T: Trigger, EV: SerialEvents, W: Write> Serial<T, EV, W> {
 
     /// Makes a new port. Calls neither the trigger nor the events object.
     pub fn with_events(trigger: T, serial_evts: EV, out: W) -> Self {
-        Serial { port: SerialPort::new(), interrupt_evt: trigger, events: serial_evts, out }
+        Serial { port: Uart::new(), interrupt_evt: trigger, events: serial_evts, out }
     }
 
     /// A snapshot; [`from_state`](Serial::from_state) recreates the port.

@@ -37,7 +37,7 @@ fn output_goes_to_the_writer_which_comes_back() {
 }
 
 #[test]
-fn an_enqueue_of_any_length_takes_the_first_bytes_that_fit() {
+fn an_enqueue_of_any_length_accepts_the_first_bytes_that_fit() {
     for power in [8, 16, 20] {
         for length in [(1 << power) - 1, 1 << power, (1 << power) + 1] {
             let mut port = Serial::new(Line::default(), io::sink());
@@ -70,7 +70,7 @@ fn a_clock_shows_the_hosts_time_until_another_is_set() {
 }
 
 #[test]
-fn a_state_of_more_bytes_than_a_port_holds_has_no_form_and_makes_no_port() {
+fn a_state_of_more_bytes_than_a_port_holds_has_no_encoding_and_makes_no_port() {
     for count in [65, 255, 256, 320] {
         let state = SerialState {
             interrupt_enable: 0x03,
@@ -87,10 +87,10 @@ fn a_state_of_more_bytes_than_a_port_holds_has_no_form_and_makes_no_port() {
 #[test]
 fn five_fields_are_made_only_without_an_alarm() {
     let state = RtcState { lr: 1, offset: -2, mr: 3, imsc: 4, ris: 5 };
-    let snapshot = RtcSnapshot::from(state);
+    let snapshot = RtcSnapshot::from_five(state);
     assert_eq!((snapshot.state, snapshot.armed), (state, false));
-    assert_eq!(RtcState::try_from(snapshot), Ok(state));
-    assert_eq!(RtcState::try_from(RtcSnapshot { armed: true, ..snapshot }), Err(AlarmIsSet));
+    assert_eq!(snapshot.to_five(), Ok(state));
+    assert_eq!(RtcSnapshot { armed: true, ..snapshot }.to_five(), Err(AlarmIsSet));
     let error: Box<dyn StdError> = AlarmIsSet.into();
     assert_eq!(error.to_string(), "an alarm is set, and the five fields of RtcState cannot hold it");
 }

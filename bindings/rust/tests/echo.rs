@@ -44,8 +44,8 @@ enum Step {
     Input(usize),
     /// The guest reads this value at an offset.
     Read(u8, u8),
-    /// The guest reads so many of the bytes that came.
-    Take(usize),
+    /// The guest reads out so many of the bytes that came.
+    ReadOut(usize),
     /// The guest writes a value at an offset.
     Write(u8, u8),
     /// The line refuses so many interrupts.
@@ -58,7 +58,7 @@ type Script = (&'static str, &'static [(Step, usize, usize)]);
 #[rustfmt::skip] // several steps a line
 const SCRIPTS: [Script; 9] = [
     ("bytes that are left interrupt again once the guest has read that nothing is pending", &[
-        (Write(IER, 1), 0, 64), (Input(3), 1, 61), (Read(IIR, 0xC4), 0, 61), (Take(1), 0, 62),
+        (Write(IER, 1), 0, 64), (Input(3), 1, 61), (Read(IIR, 0xC4), 0, 61), (ReadOut(1), 0, 62),
         (Read(LSR, 0x61), 0, 62), (Read(IIR, 0xC1), 1, 62), (Read(IIR, 0xC4), 0, 62),
     ]),
     ("bytes that are left interrupt again at the next turn, and no input interrupts by itself", &[
@@ -66,14 +66,14 @@ const SCRIPTS: [Script; 9] = [
         (Read(IIR, 0xC4), 0, 61), (Input(0), 1, 61),
     ]),
     ("input beyond the FIFO follows once the guest has emptied it", &[
-        (Write(IER, 1), 0, 64), (Input(100), 1, 0), (Take(63), 0, 63), (Take(1), 1, 28), (Take(36), 0, 64),
+        (Write(IER, 1), 0, 64), (Input(100), 1, 0), (ReadOut(63), 0, 63), (ReadOut(1), 1, 28), (ReadOut(36), 0, 64),
     ]),
     ("a turn offers what waits as far as there is room", &[
-        (Input(100), 0, 0), (Take(10), 0, 10), (Write(IER, 1), 1, 10), (Input(1), 0, 0), (Take(1), 0, 1),
-        (Input(0), 1, 0), (Take(64), 1, 38),
+        (Input(100), 0, 0), (ReadOut(10), 0, 10), (Write(IER, 1), 1, 10), (Input(1), 0, 0), (ReadOut(1), 0, 1),
+        (Input(0), 1, 0), (ReadOut(64), 1, 38),
     ]),
     ("a full FIFO is no refusal", &[
-        (Write(IER, 1), 0, 64), (Input(64), 1, 0), (Input(1), 0, 0), (Input(1), 0, 0), (Take(64), 1, 62),
+        (Write(IER, 1), 0, 64), (Input(64), 1, 0), (Input(1), 0, 0), (Input(1), 0, 0), (ReadOut(64), 1, 62),
     ]),
     ("input that came in loopback follows at its end", &[
         (Write(IER, 1), 0, 64), (Write(MCR, 0x18), 0, 64), (Input(2), 0, 64), (Write(MCR, 0x08), 1, 62),
@@ -89,7 +89,7 @@ const SCRIPTS: [Script; 9] = [
     ]),
     ("a refused write is made up for, whatever is taken before, and bytes that are left are not forgotten over it", &[
         (Write(IER, 3), 1, 64), (Input(100), 1, 0), (Read(IIR, 0xC6), 0, 0), (Refuse(1), 0, 0),
-        (Write(DATA, b'A'), 0, 0), (Write(SCR, 0), 0, 0), (Take(64), 1, 28), (Input(0), 2, 28),
+        (Write(DATA, b'A'), 0, 0), (Write(SCR, 0), 0, 0), (ReadOut(64), 1, 28), (Input(0), 2, 28),
         (Read(IIR, 0xC6), 0, 28), (Refuse(3), 0, 28), (Write(DATA, b'B'), 0, 28), (Input(0), 0, 28),
         (Read(IIR, 0xC6), 0, 28),
     ]),
@@ -103,7 +103,9 @@ fn a_guest_is_interrupted_for_each_byte_that_waits_and_for_nothing_else() {
             match *step {
                 Input(count) => machine.input(&vec![b'x'; count]),
                 Read(offset, value) => assert_eq!(machine.read(offset), value, "{name}, step {number}"),
-                Take(count) => (0..count).for_each(|_| assert_eq!(machine.read(DATA), b'x', "{name}, step {number}")),
+                ReadOut(count) => {
+                    (0..count).for_each(|_| assert_eq!(machine.read(DATA), b'x', "{name}, step {number}"))
+                }
                 Write(offset, value) => machine.write(offset, value).unwrap(),
                 Refuse(count) => machine.port.interrupt_evt().refusals.set(count),
             }

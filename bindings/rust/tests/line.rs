@@ -38,12 +38,12 @@ impl Machine {
         self.set_line(value)
     }
 
-    /// What the guest receives of a paste if it takes at most `most` bytes for each look at IIR.
+    /// What the guest receives of a paste if it reads out at most `most` bytes for each look at IIR.
     fn received(&mut self, paste: &[u8], most: usize) -> Vec<u8> {
         let (mut offered, mut received) = (0, Vec::new());
         while offered < paste.len() {
-            let taken = self.port.enqueue_raw_bytes(&paste[offered..]);
-            offered += self.set_line(taken).unwrap();
+            let accepted = self.port.enqueue_raw_bytes(&paste[offered..]);
+            offered += self.set_line(accepted).unwrap();
             while self.line {
                 while self.read(2) & 0x01 == 0 {
                     for _ in 0..most {

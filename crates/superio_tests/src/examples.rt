@@ -7,7 +7,7 @@ use std::test::Fail;
 use superio_examples::echo::{echo, over_serial};
 use superio_examples::many_calls::{Access, make_all, make_by_run};
 use superio_examples::triggers::InterruptLine;
-use vm_superio::run::{Call, MachineReply};
+use vm_superio::run::{Call, Reply};
 use vm_superio::serial::NoEvents;
 use vm_superio::{Serial, Trigger};
 
@@ -79,8 +79,8 @@ fn a_run_of_calls_gives_their_replies(rt: HostRuntime) -> Result<(), Fail> {
     ]?;
     let done = make_by_run(alloc, &mut serial, calls)?;
     assert!(rt; done.len() == 4);
-    assert!(rt; matches!(done[2].reply, MachineReply::Byte(0xC4)));
-    assert!(rt; matches!(done[3].reply, MachineReply::Byte(b'a')));
+    assert!(rt; matches!(done[2].reply, Reply::Byte(0xC4)));
+    assert!(rt; matches!(done[3].reply, Reply::Byte(b'a')));
     assert!(rt; serial.interrupt_evt().waiting() == 1);
     Ok(())
 }

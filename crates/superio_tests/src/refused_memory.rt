@@ -7,13 +7,17 @@ use std::test::Fail;
 use superio_script::{
     Board, Counts, Line, LineFault, LineRefused, Output, ScriptFault, drain, run_script,
 };
-use vm_superio::run::{Call, Reply, run};
+use vm_superio::run::{Call, Done, Reply, run};
 use vm_superio::serial::{Error, NoEvents, Refused, SerialEvents};
 use vm_superio::{Serial, SerialState};
 
 type TestSerial = Serial<Line, Counts, Output>;
 
 type SerialCall = Call<Line, Counts, Output>;
+
+type SerialReply = Reply<Line, Counts, Output>;
+
+type SerialDone = Done<Line, Counts, Output>;
 
 // ---- objects that differ from fresh ones, and ports
 
@@ -157,44 +161,52 @@ fn calls(alloc: Global) -> Result<Vec<SerialCall>, AllocError> {
     ]?)
 }
 
-#[test]
-fn a_run_makes_no_call_or_records_a_refused_restore(rt: HostRuntime) -> Result<(), Fail> {
-    let alloc = rt.alloc();
-    let fresh = SerialState::default(alloc);
-    let mut serial = port(alloc, &fresh)?;
+/// Runs the calls again if memory was refused before they began. They then changed nothing.
+fn run_calls(alloc: Global, serial: &mut TestSerial) -> Result<Vec<SerialDone>, Fail> {
     let first = match calls(alloc) {
         Ok(calls) => calls,
         Err(AllocError) => calls(alloc)?,
     };
-    let done = match run(alloc, &mut serial, first) {
-        Ok(done) => done,
-        Err(AllocError) => {
-            assert!(rt; serial.state(alloc)? == fresh);
-            assert!(rt; serial.interrupt_evt().calls() == 0);
-            run(alloc, &mut serial, calls(alloc)?)?
-        }
-    };
-    assert!(rt; done.len() == 6);
-    assert!(rt; matches!(done[0].reply, Reply::Wrote(Ok(()))));
-    assert!(rt; matches!(done[1].reply, Reply::Enqueued(Ok(1))));
-    assert!(rt; matches!(done[2].reply, Reply::Byte(0xC4)));
-    assert!(rt; matches!(done[4].reply, Reply::Byte(b'a')));
-    assert!(rt; matches!(done[5].reply, Reply::Byte(0x60)));
-    match &done[3].reply {
-        Reply::Restored(old) => {
-            assert!(rt; old.fifo_capacity() == 63 && old.interrupt_evt().calls() == 1);
-            assert!(rt; serial.interrupt_evt().mask() == 8);
-        }
-        Reply::NotRestored(refused) => {
-            assert!(rt; is_as_passed(refused));
-            assert!(rt; serial.interrupt_evt().mask() == 0);
-            assert!(rt; serial.interrupt_evt().calls() == 1);
-            let again = run(alloc, &mut serial, calls(alloc)?)?;
-            assert!(rt; again.len() == 6);
-            assert!(rt; matches!(again[3].reply, Reply::Restored(_)));
-        }
-        _ => return Err(Fail::from("no restore")),
+    if let Ok(done) = run(alloc, serial, first) {
+        return Ok(done);
     }
+    if serial.interrupt_evt().calls() != 0 || serial.state(alloc)? != SerialState::default(alloc) {
+        return Err(Fail::from("a run without memory made a call"));
+    }
+    Ok(run(alloc, serial, calls(alloc)?)?)
+}
+
+/// Whether all but the restore returned what they do while there is memory.
+fn is_run(done: &[SerialDone]) -> bool {
+    done.len() == 6
+        && matches!(done[0].reply, Reply::Wrote(Ok(())))
+        && matches!(done[1].reply, Reply::Enqueued(Ok(1)))
+        && matches!(done[2].reply, Reply::Byte(0xC4))
+        && matches!(done[4].reply, Reply::Byte(b'a'))
+        && matches!(done[5].reply, Reply::Byte(0x60))
+}
+
+/// Whether the port is the new one if the restore succeeded, and else the old one, which can be restored later.
+fn is_restored_or_stays(alloc: Global, serial: &mut TestSerial, restore: &SerialReply) -> Result<bool, Fail> {
+    match restore {
+        Reply::Restored(old) => Ok(old.fifo_capacity() == 63
+            && old.interrupt_evt().calls() == 1
+            && serial.interrupt_evt().mask() == 8),
+        Reply::NotRestored(refused) => {
+            let stays = serial.interrupt_evt().mask() == 0 && serial.interrupt_evt().calls() == 1;
+            let again = run(alloc, serial, calls(alloc)?)?;
+            Ok(is_as_passed(refused) && stays && matches!(again[3].reply, Reply::Restored(_)))
+        }
+        _ => Ok(false),
+    }
+}
+
+#[test]
+fn a_run_makes_no_call_or_records_a_refused_restore(rt: HostRuntime) -> Result<(), Fail> {
+    let mut serial = port(rt.alloc(), &SerialState::default(rt.alloc()))?;
+    let done = run_calls(rt.alloc(), &mut serial)?;
+    assert!(rt; is_run(&done));
+    assert!(rt; is_restored_or_stays(rt.alloc(), &mut serial, &done[3].reply)?);
     Ok(())
 }
 

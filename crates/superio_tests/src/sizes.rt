@@ -7,8 +7,8 @@ use std::test::Fail;
 use superio_examples::first_claims::{
     read_back, refused_keeps_bytes, restored_reads_same, sent_is_appended,
 };
-use superio_examples::monitor::{Event, Monitor};
-use superio_examples::queues::{Input, Output};
+use superio_examples::monitor::{MachineEvent, Monitor};
+use superio_examples::queues::{InputQueue, OutputQueue};
 use superio_examples::saved_monitor::{move_monitor, save_monitor};
 use vm_superio::run::{Call, run};
 use vm_superio::serial::Uart;
@@ -17,23 +17,35 @@ use vm_superio::{Serial, SerialState};
 /// Sizes about the FIFO's, and above.
 const SIZES: [usize; 6] = [0, 1, 63, 64, 65, 1_000];
 
+/// The state of a port that holds so many bytes.
+fn state_of(alloc: Global, held: usize) -> Result<SerialState, AllocError> {
+    let mut state = SerialState::default(alloc);
+    state.in_buffer = b"x".repeat(alloc, held)?;
+    Ok(state)
+}
+
+/// Whether the state goes to bytes and back, and to a port without I/O and back.
+fn is_converted(alloc: Global, state: &SerialState) -> Result<bool, Fail> {
+    let read = SerialState::from_bytes(alloc, state.to_bytes()?.as_bytes())?;
+    let back = SerialState::from_uart(alloc, &state.to_uart()?)?;
+    Ok(read == *state && back == *state)
+}
+
+/// Whether the state goes to a port and back.
+fn is_restored(alloc: Global, state: &SerialState, object: Object<'_>) -> Result<bool, Fail> {
+    let made = Serial::from_state(alloc, state, object, object, object).map_err(|_| AllocError)?;
+    Ok(made.state(alloc)? == state.clone(alloc)?)
+}
+
 #[test]
 fn states_of_each_size_are_made(rt: HostRuntime) -> Result<(), Fail> {
-    let alloc = rt.alloc();
     let log = Log::new();
-    let object = Object(&log);
     for held in 0..=64usize {
-        let mut state = SerialState::default(alloc);
-        state.in_buffer = b"x".repeat(alloc, held)?;
-        let form = state.to_bytes().unwrap();
-        assert!(rt; SerialState::from_bytes(alloc, form.as_bytes())? == state);
-        assert!(rt; SerialState::from_uart(alloc, &state.to_uart().unwrap())? == state);
-        let made = Serial::from_state(alloc, &state, object, object, object).map_err(
-            |_| AllocError,
-        )?;
-        assert!(rt; made.state(alloc)? == state.clone(alloc)?);
+        let state = state_of(rt.alloc(), held)?;
+        assert!(rt; is_converted(rt.alloc(), &state)?, "{held}");
+        assert!(rt; is_restored(rt.alloc(), &state, Object(&log))?, "{held}");
     }
-    assert!(rt; Serial::with_events(alloc, object, object, object).is_ok());
+    assert!(rt; port_over(rt.alloc(), Object(&log)).is_ok());
     Ok(())
 }
 
@@ -72,26 +84,54 @@ fn lists_of_each_size_are_taken(rt: HostRuntime) -> Result<(), Fail> {
     Ok(())
 }
 
+/// Whether a queue of this input takes all of it, and is made again with it.
+fn is_input_of(alloc: Global, bytes: &[u8]) -> Result<bool, Fail> {
+    let mut input = InputQueue::new(alloc, bytes.len())?;
+    let is_full = input.push(bytes) == bytes.len() && input.room() == 0;
+    input.feed(&mut Uart::new());
+    let restored = InputQueue::restored(alloc, bytes, 0)?;
+    Ok(is_full && input.limit() == bytes.len() && restored.waiting(alloc)?.as_slice() == bytes)
+}
+
+/// Whether a queue of this output takes all of it and drops what follows, and is made again with it.
+fn is_output_of(alloc: Global, bytes: &[u8]) -> Result<bool, Fail> {
+    let mut output = OutputQueue::new(alloc, bytes.len())?;
+    let is_full = output.write(bytes).ok() == Some(bytes.len()) && output.write(b"abc").ok() == Some(0);
+    let restored = OutputQueue::restored(alloc, bytes, 0, 0)?;
+    Ok(is_full
+        && output.dropped() == 3
+        && output.waiting(alloc)?.as_slice() == bytes
+        && restored.limit() == bytes.len())
+}
+
 #[test]
-fn queues_and_monitors_of_each_size_are_made(rt: HostRuntime) -> Result<(), Fail> {
-    let alloc = rt.alloc();
+fn queues_of_each_size_are_made(rt: HostRuntime) -> Result<(), Fail> {
     for size in SIZES {
-        let bytes = b"x".repeat(alloc, size)?;
-        let mut input = Input::new(alloc, size)?;
-        assert!(rt; input.push(&bytes) == size && input.room() == 0 && input.limit() == size);
-        input.feed(&mut Uart::new());
-        assert!(rt; Input::restored(alloc, &bytes, 0)?.waiting(alloc)? == bytes);
-        let mut output = Output::new(alloc, size)?;
-        assert!(rt;
-            output.write(&bytes).ok() == Some(size) && output.write(b"abc").ok() == Some(0)
-        );
-        assert!(rt; output.waiting(alloc)? == bytes && output.dropped() == 3);
-        assert!(rt; Output::restored(alloc, &bytes, 0, 0)?.limit() == size);
-        let mut monitor = Monitor::new(alloc, size, size)?;
-        let events = vec![in alloc; Event::Typed(b'x'); size]?;
-        assert!(rt; monitor.run(alloc, &events)?.len() == size);
-        let saved = save_monitor(alloc, &monitor)?;
-        assert!(rt; save_monitor(alloc, &move_monitor(alloc, &monitor)?)? == saved);
+        let bytes = b"x".repeat(rt.alloc(), size)?;
+        assert!(rt; is_input_of(rt.alloc(), &bytes)?, "{size}");
+        assert!(rt; is_output_of(rt.alloc(), &bytes)?, "{size}");
+    }
+    Ok(())
+}
+
+/// How many replies a monitor gives to so many typed bytes.
+fn replies_to(alloc: Global, monitor: &mut Monitor, size: usize) -> Result<usize, Fail> {
+    let events = vec![in alloc; MachineEvent::Typed(b'x'); size]?;
+    Ok(monitor.run(alloc, &events)?.len())
+}
+
+/// Whether a monitor that moves is saved as before.
+fn is_same_moved(alloc: Global, monitor: &Monitor) -> Result<bool, Fail> {
+    let moved = move_monitor(alloc, monitor)?;
+    Ok(save_monitor(alloc, &moved)? == save_monitor(alloc, monitor)?)
+}
+
+#[test]
+fn monitors_of_each_size_are_made(rt: HostRuntime) -> Result<(), Fail> {
+    for size in SIZES {
+        let mut monitor = Monitor::new(rt.alloc(), size, size)?;
+        assert!(rt; replies_to(rt.alloc(), &mut monitor, size)? == size);
+        assert!(rt; is_same_moved(rt.alloc(), &monitor)?, "{size}");
     }
     Ok(())
 }

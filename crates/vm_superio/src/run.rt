@@ -130,7 +130,7 @@ impl<T: Trigger, EV: SerialEvents, W: Write> Serial<T, EV, W> {
                 )
             }
             Call::Write(offset, value) => {
-                let made = self.recorded_write(offset, value);
+                let made = self.write_for_run(offset, value);
                 record(
                     Act::Write(offset, value),
                     made.asked,
@@ -139,7 +139,7 @@ impl<T: Trigger, EV: SerialEvents, W: Write> Serial<T, EV, W> {
                 )
             }
             Call::Enqueue(bytes) => {
-                let made = self.recorded_enqueue(&bytes);
+                let made = self.enqueue_for_run(&bytes);
                 record(
                     Act::Enqueue(bytes),
                     made.asked,
@@ -148,7 +148,7 @@ impl<T: Trigger, EV: SerialEvents, W: Write> Serial<T, EV, W> {
                 )
             }
             Call::CharacterTimeout => {
-                let made = self.recorded_timeout();
+                let made = self.timeout_for_run();
                 record(
                     Act::CharacterTimeout,
                     made.asked,

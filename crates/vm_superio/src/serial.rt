@@ -5,16 +5,16 @@ ghost use Rattle.vm_superio.specs.Saved.{state_of};
 ghost use Rattle.vm_superio.specs.Serial.{Coherent, fresh_state, irq_level, conditions_due};
 ghost use Rattle.vm_superio.specs.Serial.Step.{RefusesRestore};
 
+mod effects;
 mod errors;
 mod events;
-mod recorded;
 pub mod encoding;
 
 use crate::Trigger;
 use crate::fifo::Fifo;
 pub use errors::{Error, Refused};
 pub use events::{NoEvents, SerialEvents};
-use recorded::{call_again, report_read, restored};
+use effects::{Recorded, call_again, call_trigger, report_read, restored, send_where_due};
 pub use encoding::SerialState;
 use std::alloc::{AllocError, Global};
 use std::io::Write;
@@ -22,6 +22,7 @@ use std::marker::Model;
 use superio_core::fifo::{FIFO_SIZE, RxFifo};
 use superio_core::serial::registers::Registers;
 pub use superio_core::serial::registers::{Condition, Register};
+use superio_core::serial::Sent;
 pub use superio_core::serial::{EnqueueEffects, ReadEffects, ArrayFifo, Uart, WriteEffects};
 
 /// A 16550 serial port, reduced to what a guest's driver uses: its registers, a receive FIFO of 64 bytes that is always
@@ -82,50 +83,9 @@ impl<T: Trigger, EV: SerialEvents, W: Write> Serial<T, EV, W> {
     ghost use Rattle.std.specs.Borrow.{Lends, sem};
     ghost use Rattle.vm_superio.specs.contracts.serial.Serial.{the_row};
     ghost use Rattle.std.specs.Io.KnownBytes.{Appends};
-    ghost use Rattle.vm_superio.specs.Serial.{Other, Read, SameSettings, RdaCoversHeldBytes, Write, acknowledged_at, enqueued_bytes, is_dlab, decode_in, sends_byte, sent_by, turned_on_count};
-    ghost use Rattle.vm_superio.specs.Serial.Step.{EnqueueFate, IsSerialEnqueue, IsSerialRead, IsSerialRetry, IsSerialTimeout, IsSerialWrite, SameElsewhere, TimeoutFate, WriteFate, pending_count, transmitter, with_events, with_trigger, with_writer};
-
-    /// Makes a serial port as `new` does, but reports events to `serial_evts`. Calls neither the trigger nor the events
-    /// object.
-    ///
-    /// # Errors
-    ///
-    /// As for `new`.
-    #[tactic(auto, using(superio_core::proofs::Lemmas::Serial::fresh_coherent))]
-    pub fn with_events(
-        alloc: Global,
-        trigger: T,
-        serial_evts: EV,
-        out: W,
-    ) -> Result<Self, Refused<T, EV, W>>
-        ensures state { IfOk result (λ serial. serial.state ≡ fresh_state) }
-        ensures trigger { IfOk result (λ serial. serial.trigger ≡ trigger) }
-        ensures events { IfOk result (λ serial. serial.events ≡ serial_evts) }
-        ensures out { IfOk result (λ serial. serial.out ≡ out) }
-        ensures coherent { IfOk result (λ serial. Coherent serial.state) }
-
-        // If memory was refused: the objects.
-        ensures only_memory { IfErr result (λ refused. refused.error ≡ Error.Memory) }
-        ensures trigger_back { IfErr result (λ refused. refused.trigger ≡ trigger) }
-        ensures events_back { IfErr result (λ refused. refused.events ≡ serial_evts) }
-        ensures out_back { IfErr result (λ refused. refused.out ≡ out) }
-    {
-        let Ok(in_buffer) = Fifo::new(alloc) else {
-            return Err(Refused {
-                error: Error::Memory,
-                trigger,
-                events: serial_evts,
-                out,
-            });
-        };
-        Ok(Serial {
-            registers: Registers::new(),
-            in_buffer,
-            interrupt_evt: trigger,
-            events: serial_evts,
-            out,
-        })
-    }
+    ghost use Rattle.vm_superio.specs.Serial.{CharacterTimeout, Enqueue, Other, RdaCoversHeldBytes, Read, SameSettings, Write, acknowledged_at, decode_in, enqueue_response, enqueued_bytes, is_dlab, refusal_in_result, sends_byte, sent_by, timeout_response, turned_on_count, write_response};
+    ghost use Rattle.vm_superio.specs.Links.Writer.{serial_links};
+    ghost use Rattle.vm_superio.specs.Serial.Step.{EnqueueFate, IsSerialEnqueue, IsSerialRead, IsSerialRetry, IsSerialStep, IsSerialTimeout, IsSerialWrite, SameElsewhere, TimeoutFate, WriteFate, pending_count, transmitter, with_events, with_trigger, with_writer};
 
     /// Makes a serial port from a saved state, taken unchanged, and new objects. Calls the trigger once for each
     /// condition that is both pending and enabled, so that the interrupts that the guest has not taken reach the new
@@ -172,6 +132,48 @@ impl<T: Trigger, EV: SerialEvents, W: Write> Serial<T, EV, W> {
                 out,
             }),
         }
+    }
+
+    /// Makes a serial port as `new` does, but reports events to `serial_evts`. Calls neither the trigger nor the events
+    /// object.
+    ///
+    /// # Errors
+    ///
+    /// As for `new`.
+    #[tactic(auto, using(superio_core::proofs::Lemmas::Serial::fresh_coherent))]
+    pub fn with_events(
+        alloc: Global,
+        trigger: T,
+        serial_evts: EV,
+        out: W,
+    ) -> Result<Self, Refused<T, EV, W>>
+        ensures state { IfOk result (λ serial. serial.state ≡ fresh_state) }
+        ensures trigger { IfOk result (λ serial. serial.trigger ≡ trigger) }
+        ensures events { IfOk result (λ serial. serial.events ≡ serial_evts) }
+        ensures out { IfOk result (λ serial. serial.out ≡ out) }
+        ensures coherent { IfOk result (λ serial. Coherent serial.state) }
+
+        // If memory was refused: the objects.
+        ensures only_memory { IfErr result (λ refused. refused.error ≡ Error.Memory) }
+        ensures trigger_back { IfErr result (λ refused. refused.trigger ≡ trigger) }
+        ensures events_back { IfErr result (λ refused. refused.events ≡ serial_evts) }
+        ensures out_back { IfErr result (λ refused. refused.out ≡ out) }
+    {
+        let Ok(in_buffer) = Fifo::new(alloc) else {
+            return Err(Refused {
+                error: Error::Memory,
+                trigger,
+                events: serial_evts,
+                out,
+            });
+        };
+        Ok(Serial {
+            registers: Registers::new(),
+            in_buffer,
+            interrupt_evt: trigger,
+            events: serial_evts,
+            out,
+        })
     }
 
     /// A snapshot; `from_state` recreates the port.
@@ -283,7 +285,29 @@ impl<T: Trigger, EV: SerialEvents, W: Write> Serial<T, EV, W> {
             ≡ pending_count self.old.state + turned_on_count self.old.state self.new.state }
         ensures coherent { Coherent self.old.state → Coherent self.new.state }
     {
-        self.recorded_write(offset, value).reply
+        self.write_for_run(offset, value).reply
+    }
+
+    /// Writes, for a run: with the trigger's answers and the outcome of the byte.
+    pub(crate) fn write_for_run(
+        &mut self,
+        offset: u8,
+        value: u8,
+    ) -> Recorded<Result<(), Error<T::E>>>
+        ensures { IsSerialStep (serial_links T.link EV.link W.contents) (Write offset value) result.asked result.sent
+            (write_response result.reply) (refusal_in_result result.reply) self.old self.new }
+    {
+        let register = self.registers.decode(offset);
+        let effects = self.registers.write(&mut self.in_buffer, register, value);
+        let (sent, fault) = send_where_due(&mut self.events, &mut self.out, effects.sends, value);
+        let (asked, refusal) = call_trigger(&mut self.interrupt_evt, effects.interrupts);
+        self.registers.cancel_thre(effects.interrupts, asked);
+        let reply = match (refusal, fault) {
+            (Some(refusal), _) => Err(Error::Trigger(refusal)),
+            (None, Some(fault)) => Err(Error::IOError(fault)),
+            (None, None) => Ok(()),
+        };
+        Recorded { reply, asked, sent }
     }
 
     /// Whether a write at `offset` sends its byte, as a THR write outside loopback does. Changes nothing: an event loop
@@ -401,7 +425,26 @@ impl<T: Trigger, EV: SerialEvents, W: Write> Serial<T, EV, W> {
         ensures out { self.new.out ≡ self.old.out }
         ensures coherent { Coherent self.old.state → Coherent self.new.state }
     {
-        self.recorded_enqueue(input).reply
+        self.enqueue_for_run(input).reply
+    }
+
+    /// Enqueues, for a run: with the trigger's answers.
+    pub(crate) fn enqueue_for_run(&mut self, input: &[u8]) -> Recorded<Result<usize, Error<T::E>>>
+        ensures { IsSerialStep (serial_links T.link EV.link W.contents) (Enqueue input.now) result.asked result.sent
+            (enqueue_response result.reply) (refusal_in_result result.reply) self.old self.new }
+    {
+        let effects = self.registers.enqueue(&mut self.in_buffer, input);
+        let (asked, refusal) = call_trigger(&mut self.interrupt_evt, effects.interrupts);
+        let reply = match refusal {
+            Some(refusal) => Err(Error::Trigger(refusal)),
+            None if effects.fifo_full => Err(Error::FullFifo),
+            None => Ok(effects.accepted),
+        };
+        Recorded {
+            reply,
+            asked,
+            sent: Sent::Nothing,
+        }
     }
 
     /// Tells the port that the time of a few characters has passed without a read or a new byte: it raises RDA again if
@@ -425,6 +468,24 @@ impl<T: Trigger, EV: SerialEvents, W: Write> Serial<T, EV, W> {
         ensures out { self.new.out ≡ self.old.out }
         ensures coherent { Coherent self.old.state → Coherent self.new.state }
     {
-        self.recorded_timeout().reply
+        self.timeout_for_run().reply
+    }
+
+    /// Makes a character timeout, for a run: with the trigger's answers.
+    pub(crate) fn timeout_for_run(&mut self) -> Recorded<Result<(), Error<T::E>>>
+        ensures no_byte { result.sent ≡ Sent.Nothing }
+        ensures step { IsSerialStep (serial_links T.link EV.link W.contents) CharacterTimeout result.asked result.sent
+            (timeout_response result.reply) (refusal_in_result result.reply) self.old self.new }
+    {
+        let due = self.registers.character_timeout(&self.in_buffer);
+        let (asked, refusal) = call_trigger(&mut self.interrupt_evt, due);
+        Recorded {
+            reply: match refusal {
+                Some(refusal) => Err(Error::Trigger(refusal)),
+                None => Ok(()),
+            },
+            asked,
+            sent: Sent::Nothing,
+        }
     }
 }

@@ -12,14 +12,13 @@
 #[path = "../../../rust/src/core/mod.rs"]
 mod devices;
 
-use devices::rtc_pl031::saved_form::SAVED_SIZE;
-use devices::rtc_pl031::{Clock, RtcState};
-use devices::saved::Error;
-use devices::serial::saved_form::SAVED_MAX;
-use devices::serial::{EnqueueEffects, ReadEffects, SerialPort, WriteEffects};
+use devices::rtc_pl031::encoding::SAVED_SIZE;
+use devices::rtc_pl031::{Pl031, RtcState};
+use devices::saved::SavedStateError;
+use devices::serial::{EnqueueEffects, ReadEffects, Uart, WriteEffects};
 
 /// Changes with every change to a struct or to the meaning of a call.
-const ABI: u32 = 3;
+const ABI: u32 = 4;
 
 /// What a due alarm returns if it never is.
 const NEVER: u64 = u64::MAX;
@@ -59,15 +58,15 @@ unsafe fn bytes_at<'a>(bytes: *const u8, count: usize) -> &'a [u8] {
 }
 
 /// The number of an error in the header's `enum superio_saved_state_error`.
-fn load_status(error: Error) -> u32 {
+fn load_status(error: SavedStateError) -> u32 {
     match error {
-        Error::TooShort => 1,
-        Error::NotASavedState => 2,
-        Error::OtherDevice => 3,
-        Error::UnknownVersion(_) => 4,
-        Error::WrongLength => 5,
-        Error::TooManyBytes => 6,
-        Error::InvalidArmed => 7,
+        SavedStateError::TooShort => 1,
+        SavedStateError::NotASavedState => 2,
+        SavedStateError::OtherDevice => 3,
+        SavedStateError::UnknownVersion(_) => 4,
+        SavedStateError::WrongLength => 5,
+        SavedStateError::TooManyBytes => 6,
+        SavedStateError::InvalidArmed => 7,
     }
 }
 
@@ -76,7 +75,7 @@ fn load_status(error: Error) -> u32 {
 /// # Safety
 ///
 /// A `T` can be written at `place`. It need not hold one.
-unsafe fn store<T>(place: *mut T, loaded: Result<T, Error>) -> u32 {
+unsafe fn store<T>(place: *mut T, loaded: Result<T, SavedStateError>) -> u32 {
     match loaded {
         Ok(device) => {
             // SAFETY: as the function requires. What the place held is not dropped: a device owns nothing.
@@ -88,42 +87,42 @@ unsafe fn store<T>(place: *mut T, loaded: Result<T, Error>) -> u32 {
 }
 
 #[no_mangle]
-pub extern "C" fn superio_rtc_new() -> Clock {
-    Clock::new()
+pub extern "C" fn superio_rtc_new() -> Pl031 {
+    Pl031::new()
 }
 
 #[no_mangle]
-pub extern "C" fn superio_rtc_read(clock: &mut Clock, offset: u16, now: u64) -> RtcReadEffects {
+pub extern "C" fn superio_rtc_read(clock: &mut Pl031, offset: u16, now: u64) -> RtcReadEffects {
     let value = clock.read(offset, now);
     RtcReadEffects { value: value.unwrap_or(0), invalid_read: value.is_none() }
 }
 
 #[no_mangle]
-pub extern "C" fn superio_rtc_write(clock: &mut Clock, offset: u16, value: u32, now: u64) -> RtcWriteEffects {
+pub extern "C" fn superio_rtc_write(clock: &mut Pl031, offset: u16, value: u32, now: u64) -> RtcWriteEffects {
     let is_taken = clock.write(offset, value, now);
     RtcWriteEffects { invalid_write: !is_taken }
 }
 
 #[no_mangle]
-pub extern "C" fn superio_rtc_interrupt_line(clock: &Clock) -> bool {
+pub extern "C" fn superio_rtc_interrupt_line(clock: &Pl031) -> bool {
     clock.interrupt_line()
 }
 
 #[no_mangle]
-pub extern "C" fn superio_rtc_alarm_due(clock: &Clock, now: u64) -> u64 {
+pub extern "C" fn superio_rtc_alarm_due(clock: &Pl031, now: u64) -> u64 {
     clock.alarm_due(now).unwrap_or(NEVER)
 }
 
 /// # Safety
 ///
-/// [`SAVED_MAX`] bytes outside the port can be written at `bytes`. They need not be set.
+/// 81 bytes outside the port can be written at `bytes`. They need not be set.
 #[no_mangle]
-pub unsafe extern "C" fn superio_serial_save(port: &SerialPort, bytes: *mut u8) -> usize {
-    let mut form = [0; SAVED_MAX];
-    let count = port.to_bytes(&mut form);
-    // SAFETY: `count` is at most the size of `form` and of the room at `bytes`.
-    unsafe { bytes.copy_from_nonoverlapping(form.as_ptr(), count) };
-    count
+pub unsafe extern "C" fn superio_serial_save(port: &Uart, bytes: *mut u8) -> usize {
+    let encoding = port.to_bytes();
+    let saved = encoding.as_bytes();
+    // SAFETY: a saved port has at most 81 bytes, for which there is room at `bytes`.
+    unsafe { bytes.copy_from_nonoverlapping(saved.as_ptr(), saved.len()) };
+    saved.len()
 }
 
 /// # Safety
@@ -131,19 +130,19 @@ pub unsafe extern "C" fn superio_serial_save(port: &SerialPort, bytes: *mut u8) 
 /// A port can be written at `port`, which need not hold one. `count` bytes outside the port can be read at `bytes`,
 /// which may be null if `count` is 0.
 #[no_mangle]
-pub unsafe extern "C" fn superio_serial_load(port: *mut SerialPort, bytes: *const u8, count: usize) -> u32 {
+pub unsafe extern "C" fn superio_serial_load(port: *mut Uart, bytes: *const u8, count: usize) -> u32 {
     // SAFETY: as the function requires of both.
-    unsafe { store(port, SerialPort::from_bytes(bytes_at(bytes, count))) }
+    unsafe { store(port, Uart::from_bytes(bytes_at(bytes, count))) }
 }
 
 /// # Safety
 ///
 /// [`SAVED_SIZE`] bytes outside the clock can be written at `bytes`. They need not be set.
 #[no_mangle]
-pub unsafe extern "C" fn superio_rtc_save(clock: &Clock, bytes: *mut u8) {
-    let form = clock.state().to_bytes();
-    // SAFETY: the form has as many bytes as there is room for at `bytes`.
-    unsafe { bytes.copy_from_nonoverlapping(form.as_ptr(), SAVED_SIZE) };
+pub unsafe extern "C" fn superio_rtc_save(clock: &Pl031, bytes: *mut u8) {
+    let saved = clock.state().to_bytes();
+    // SAFETY: it has as many bytes as there is room for at `bytes`.
+    unsafe { bytes.copy_from_nonoverlapping(saved.as_ptr(), SAVED_SIZE) };
 }
 
 /// # Safety
@@ -151,23 +150,23 @@ pub unsafe extern "C" fn superio_rtc_save(clock: &Clock, bytes: *mut u8) {
 /// A clock can be written at `clock`, which need not hold one. `count` bytes outside the clock can be read at `bytes`,
 /// which may be null if `count` is 0.
 #[no_mangle]
-pub unsafe extern "C" fn superio_rtc_load(clock: *mut Clock, bytes: *const u8, count: usize) -> u32 {
+pub unsafe extern "C" fn superio_rtc_load(clock: *mut Pl031, bytes: *const u8, count: usize) -> u32 {
     // SAFETY: as the function requires of both.
-    unsafe { store(clock, RtcState::from_bytes(bytes_at(bytes, count)).map(|state| Clock::from_state(&state))) }
+    unsafe { store(clock, RtcState::from_bytes(bytes_at(bytes, count)).map(|state| Pl031::from_state(&state))) }
 }
 
 #[no_mangle]
-pub extern "C" fn superio_serial_new() -> SerialPort {
-    SerialPort::new()
+pub extern "C" fn superio_serial_new() -> Uart {
+    Uart::new()
 }
 
 #[no_mangle]
-pub extern "C" fn superio_serial_read(port: &mut SerialPort, offset: u8) -> ReadEffects {
+pub extern "C" fn superio_serial_read(port: &mut Uart, offset: u8) -> ReadEffects {
     port.read(offset)
 }
 
 #[no_mangle]
-pub extern "C" fn superio_serial_write(port: &mut SerialPort, offset: u8, value: u8) -> WriteEffects {
+pub extern "C" fn superio_serial_write(port: &mut Uart, offset: u8, value: u8) -> WriteEffects {
     port.write(offset, value)
 }
 
@@ -176,7 +175,7 @@ pub extern "C" fn superio_serial_write(port: &mut SerialPort, offset: u8, value:
 /// `count` bytes outside the port can be read at `bytes`, which may be null if `count` is 0.
 #[no_mangle]
 pub unsafe extern "C" fn superio_serial_enqueue(
-    port: &mut SerialPort,
+    port: &mut Uart,
     bytes: *const u8,
     count: usize,
 ) -> EnqueueEffects {
@@ -185,27 +184,27 @@ pub unsafe extern "C" fn superio_serial_enqueue(
 }
 
 #[no_mangle]
-pub extern "C" fn superio_serial_character_timeout(port: &mut SerialPort) -> u8 {
+pub extern "C" fn superio_serial_character_timeout(port: &mut Uart) -> u8 {
     port.character_timeout()
 }
 
 #[no_mangle]
-pub extern "C" fn superio_serial_fifo_capacity(port: &SerialPort) -> usize {
+pub extern "C" fn superio_serial_fifo_capacity(port: &Uart) -> usize {
     port.fifo_capacity()
 }
 
 #[no_mangle]
-pub extern "C" fn superio_serial_interrupts_due(port: &SerialPort) -> u8 {
+pub extern "C" fn superio_serial_interrupts_due(port: &Uart) -> u8 {
     port.interrupts_due()
 }
 
 #[no_mangle]
-pub extern "C" fn superio_serial_interrupt_line(port: &SerialPort) -> bool {
+pub extern "C" fn superio_serial_interrupt_line(port: &Uart) -> bool {
     port.interrupt_line()
 }
 
 #[no_mangle]
-pub extern "C" fn superio_serial_is_coherent(port: &SerialPort) -> bool {
+pub extern "C" fn superio_serial_is_coherent(port: &Uart) -> bool {
     port.is_coherent()
 }
 

@@ -1,9 +1,8 @@
 //! The saved state of a serial port.
+use crate::sansio::fifo::{ArrayFifo, RxFifo, FIFO_SIZE};
+use crate::sansio::serial::Registers;
+use crate::sansio::Uart;
 use crate::saved::SavedStateError;
-use crate::values::fifo::{ReceiveFifo, FIFO_SIZE};
-use crate::values::serial::saved_form::SAVED_MAX;
-use crate::values::serial::{Registers, RxRing};
-use crate::values::SerialPort;
 
 /// A struct with the registers of another one, in which they have the same names.
 macro_rules! with_registers {
@@ -73,7 +72,7 @@ pub struct SerialState {
 
 impl Default for SerialState {
     fn default() -> Self {
-        SerialState::of(&SerialPort::new())
+        SerialState::of(&Uart::new())
     }
 }
 
@@ -86,29 +85,27 @@ impl SerialState {
         self.port().map_or(false, |port| port.is_coherent())
     }
 
-    /// The saved form: at most 81 bytes, the same on every machine. A state has exactly one.
+    /// The encoding: at most 81 bytes, the same on every machine. A state has exactly one.
     ///
     /// # Errors
     ///
     /// [`SavedStateError::TooManyBytes`] if `in_buffer` has more than 64 bytes.
     pub fn to_bytes(&self) -> Result<Vec<u8>, SavedStateError> {
         let port = self.port().ok_or(SavedStateError::TooManyBytes)?;
-        let mut form = [0; SAVED_MAX];
-        let length = port.to_bytes(&mut form);
-        Ok(form[..length].to_vec())
+        Ok(port.to_bytes().as_bytes().to_vec())
     }
 
-    /// The state of a saved form. It may be incoherent.
+    /// The state of an encoding. It may be incoherent.
     ///
     /// # Errors
     ///
     /// The first check of [`SavedStateError`] that the bytes fail.
     pub fn from_bytes(bytes: &[u8]) -> Result<SerialState, SavedStateError> {
-        SerialPort::from_bytes(bytes).map(|port| SerialState::of(&port))
+        Uart::from_bytes(bytes).map(|port| SerialState::of(&port))
     }
 
     #[inline]
-    pub(crate) fn of(port: &SerialPort) -> SerialState {
+    pub(crate) fn of(port: &Uart) -> SerialState {
         let (registers, held) = (port.registers, &port.in_buffer);
         let oldest = usize::from(held.head);
         let places = (oldest..oldest + held.len()).map(|place| place % FIFO_SIZE);
@@ -117,12 +114,12 @@ impl SerialState {
 
     /// The port of this state, or `None` if it has more bytes than a port can hold.
     #[inline]
-    pub(crate) fn port(&self) -> Option<SerialPort> {
+    pub(crate) fn port(&self) -> Option<Uart> {
         let count = self.in_buffer.len();
         // The count is at most FIFO_SIZE.
-        let mut in_buffer = RxRing { head: 0, len: count as u8, bytes: [0; FIFO_SIZE] };
+        let mut in_buffer = ArrayFifo { head: 0, len: count as u8, bytes: [0; FIFO_SIZE] };
         in_buffer.bytes.get_mut(..count)?.copy_from_slice(&self.in_buffer);
         let registers = with_registers!(self => Registers {});
-        Some(SerialPort { registers, in_buffer })
+        Some(Uart { registers, in_buffer })
     }
 }

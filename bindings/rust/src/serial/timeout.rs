@@ -18,7 +18,7 @@ use crate::Trigger;
 ///
 /// # Example
 ///
-/// The guest's handler takes one byte at each interrupt, as Xen's console does.
+/// The guest's handler reads out one byte at each interrupt, as Xen's console does.
 ///
 /// ```
 /// use std::cell::Cell;

@@ -11,7 +11,7 @@ use Rattle.vm_superio.proofs.serial.Serial.character_timeout.Goals as goal
 
 pub returns-clause-step : goal.returns-clause-step
 returns-clause-step g c =
-    let call = c.recorded_timeout in
+    let call = c.timeout_for_run in
     let links = serial_links g.T.Trigger.link g.EV.SerialEvents.link g.W.Write.contents in
     let made = subst (λ sent. IsSerialStep links CharacterTimeout call.result.asked sent (timeout_response call.result.reply)
     (refusal_in_result call.result.reply) c.args.self.now call.new.self) call.ensures.no_byte call.ensures.step in
@@ -19,32 +19,32 @@ returns-clause-step g c =
 
 pub returns-clause-pending : goal.returns-clause-pending
 returns-clause-pending g c =
-    let call = c.recorded_timeout in
+    let call = c.timeout_for_run in
     subst RdaCoversHeldBytes (sym call.ensures.step.state) (shows_held_bytes c.args.self.now.state call.result.asked)
 
 pub returns-clause-fate : goal.returns-clause-fate
-returns-clause-fate g c = timeout_fate c.recorded_timeout.result.reply c.recorded_timeout.ensures.step
+returns-clause-fate g c = timeout_fate c.timeout_for_run.result.reply c.timeout_for_run.ensures.step
 
 pub returns-clause-quiet : goal.returns-clause-quiet
 returns-clause-quiet g c =
-    let made = c.recorded_timeout.ensures.step in
+    let made = c.timeout_for_run.ensures.step in
     λ off. quiet made g.met.T.Trigger.empty (ap (λ (s : State). s.interrupt_enable) made.state ∙ off)
 
 pub returns-clause-events : goal.returns-clause-events
-returns-clause-events g c = sym ((g.met.EV.SerialEvents.empty _ _).0 c.recorded_timeout.ensures.step.events)
+returns-clause-events g c = sym ((g.met.EV.SerialEvents.empty _ _).0 c.timeout_for_run.ensures.step.events)
 
 pub returns-clause-out : goal.returns-clause-out
-returns-clause-out g c = silent c.recorded_timeout.ensures.step refl
+returns-clause-out g c = silent c.timeout_for_run.ensures.step refl
 
 pub returns-clause-transmitter : goal.returns-clause-transmitter
 returns-clause-transmitter g c =
-    let call = c.recorded_timeout in
+    let call = c.timeout_for_run in
     rw call.ensures.step.state (transmitter-kept c.args.self.now.state CharacterTimeout call.result.asked)
 
 pub returns-clause-keeps_pending : goal.returns-clause-keeps_pending
 returns-clause-keeps_pending g c =
-    let call = c.recorded_timeout in
+    let call = c.timeout_for_run in
     rw call.ensures.step.state (pending-kept c.args.self.now.state CharacterTimeout call.result.asked refl)
 
 pub returns-clause-coherent : goal.returns-clause-coherent
-returns-clause-coherent g c = keeps_coherent c.recorded_timeout.ensures.step
+returns-clause-coherent g c = keeps_coherent c.timeout_for_run.ensures.step

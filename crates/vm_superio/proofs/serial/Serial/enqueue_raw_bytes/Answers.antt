@@ -9,36 +9,36 @@ use Rattle.vm_superio.proofs.serial.Serial.enqueue_raw_bytes.Goals as goal
 
 pub returns-clause-step : goal.returns-clause-step
 returns-clause-step g c =
-    let call = c.recorded_enqueue in
+    let call = c.enqueue_for_run in
     record { asked = call.result.asked; sent = call.result.sent; step = call.ensures; calls = length-answers_of-step call.ensures }
 
 pub returns-clause-held : goal.returns-clause-held
 returns-clause-held g c =
     let old = c.args.self.now.state in
-    ap (λ (s : State). s.in_buffer) c.recorded_enqueue.ensures.state ∙ received_bytes (enqueued_bytes old c.args.input.now) old
+    ap (λ (s : State). s.in_buffer) c.enqueue_for_run.ensures.state ∙ received_bytes (enqueued_bytes old c.args.input.now) old
 
 pub returns-clause-settings : goal.returns-clause-settings
 returns-clause-settings g c =
     let old = c.args.self.now.state in
-    rw c.recorded_enqueue.ensures.state (settings_kept (enqueued_bytes old c.args.input.now) old)
+    rw c.enqueue_for_run.ensures.state (settings_kept (enqueued_bytes old c.args.input.now) old)
 
 pub returns-clause-fate : goal.returns-clause-fate
-returns-clause-fate g c = enqueue_fate c.recorded_enqueue.result.reply c.recorded_enqueue.ensures
+returns-clause-fate g c = enqueue_fate c.enqueue_for_run.result.reply c.enqueue_for_run.ensures
 
 pub returns-clause-quiet : goal.returns-clause-quiet
 returns-clause-quiet g c =
     let old = c.args.self.now.state in
-    let made = c.recorded_enqueue.ensures in
+    let made = c.enqueue_for_run.ensures in
     let enable = ap (λ (s : State). s.interrupt_enable) (made.state ∙ settings_kept (enqueued_bytes old c.args.input.now) old) in
     λ off. quiet made g.met.T.Trigger.empty (enable ∙ off)
 
 pub returns-clause-transmitter : goal.returns-clause-transmitter
 returns-clause-transmitter g c =
-    rw c.recorded_enqueue.ensures.state (transmitter-kept c.args.self.now.state (Enqueue c.args.input.now) c.recorded_enqueue.result.asked)
+    rw c.enqueue_for_run.ensures.state (transmitter-kept c.args.self.now.state (Enqueue c.args.input.now) c.enqueue_for_run.result.asked)
 
 pub returns-clause-keeps_pending : goal.returns-clause-keeps_pending
 returns-clause-keeps_pending g c =
-    rw c.recorded_enqueue.ensures.state (pending-enqueued c.args.self.now.state c.args.input.now c.recorded_enqueue.result.asked)
+    rw c.enqueue_for_run.ensures.state (pending-enqueued c.args.self.now.state c.args.input.now c.enqueue_for_run.result.asked)
 
 pub returns-clause-coherent : goal.returns-clause-coherent
-returns-clause-coherent g c = keeps_coherent c.recorded_enqueue.ensures
+returns-clause-coherent g c = keeps_coherent c.enqueue_for_run.ensures

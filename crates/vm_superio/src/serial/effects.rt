@@ -1,5 +1,4 @@
-//! The calls of a serial port that make trigger calls, with their records: each takes a step of the registers and
-//! carries out its effects.
+//! What a serial port's calls do to its objects: each carries out the effects of a step.
 ghost use Rattle.std.specs.Prelude.{◌≡◌, ◌≤◌, ℕ, List, Result, [], ◌∷◌, length, if◌then◌else◌, is_some, IsTrue, IfOk, IfErr, OnOk};
 ghost use Rattle.vm_superio.specs.Links.{answers_of, all_ok, StopsAtRefusal};
 ghost use Rattle.vm_superio.specs.Links.Writer.{serial_links, WriterLink};
@@ -7,7 +6,6 @@ ghost use Rattle.vm_superio.specs.Serial.{outcome_of, bytes_sent, state_with, co
 ghost use Rattle.vm_superio.specs.Saved.{state_of};
 ghost use Rattle.vm_superio.specs.Serial.Step.{RefusesRestore};
 
-use super::Serial;
 use super::errors::Error;
 use super::events::SerialEvents;
 use super::encoding::SerialState;
@@ -20,75 +18,12 @@ use superio_core::fifo::{FIFO_SIZE, RxFifo};
 use superio_core::serial::registers::Registers;
 use superio_core::serial::{Asked, ReadEffects, Sent};
 
-/// A reply, with the trigger's answers and the outcome of the byte.
+/// What a call returns, with what a run records of it: the trigger's answers and the outcome of the byte.
 #[derive(Drop)]
 pub(crate) struct Recorded<R> {
     pub(crate) reply: R,
     pub(crate) asked: Asked,
     pub(crate) sent: Sent,
-}
-
-impl<T: Trigger, EV: SerialEvents, W: Write> Serial<T, EV, W> {
-    ghost use Rattle.vm_superio.specs.Serial.Step.{IsSerialStep};
-
-    /// `write`, with the trigger's answers and the outcome of its byte.
-    pub(crate) fn recorded_write(
-        &mut self,
-        offset: u8,
-        value: u8,
-    ) -> Recorded<Result<(), Error<T::E>>>
-        ensures { IsSerialStep (serial_links T.link EV.link W.contents) (Write offset value) result.asked result.sent
-            (write_response result.reply) (refusal_in_result result.reply) self.old self.new }
-    {
-        let register = self.registers.decode(offset);
-        let effects = self.registers.write(&mut self.in_buffer, register, value);
-        let (sent, fault) = send_where_due(&mut self.events, &mut self.out, effects.sends, value);
-        let (asked, refusal) = call_trigger(&mut self.interrupt_evt, effects.interrupts);
-        self.registers.cancel_thre(effects.interrupts, asked);
-        let reply = match (refusal, fault) {
-            (Some(refusal), _) => Err(Error::Trigger(refusal)),
-            (None, Some(fault)) => Err(Error::IOError(fault)),
-            (None, None) => Ok(()),
-        };
-        Recorded { reply, asked, sent }
-    }
-
-    /// `enqueue_raw_bytes`, with the trigger's answers.
-    pub(crate) fn recorded_enqueue(&mut self, input: &[u8]) -> Recorded<Result<usize, Error<T::E>>>
-        ensures { IsSerialStep (serial_links T.link EV.link W.contents) (Enqueue input.now) result.asked result.sent
-            (enqueue_response result.reply) (refusal_in_result result.reply) self.old self.new }
-    {
-        let effects = self.registers.enqueue(&mut self.in_buffer, input);
-        let (asked, refusal) = call_trigger(&mut self.interrupt_evt, effects.interrupts);
-        let reply = match refusal {
-            Some(refusal) => Err(Error::Trigger(refusal)),
-            None if effects.fifo_full => Err(Error::FullFifo),
-            None => Ok(effects.accepted),
-        };
-        Recorded {
-            reply,
-            asked,
-            sent: Sent::Nothing,
-        }
-    }
-
-    /// `character_timeout`, with the trigger's answers.
-    pub(crate) fn recorded_timeout(&mut self) -> Recorded<Result<(), Error<T::E>>>
-        ensures no_byte { result.sent ≡ Sent.Nothing }
-        ensures step { IsSerialStep (serial_links T.link EV.link W.contents) CharacterTimeout result.asked result.sent
-            (timeout_response result.reply) (refusal_in_result result.reply) self.old self.new }
-    {
-        let due = self.registers.character_timeout(&self.in_buffer);
-        let (asked, refusal) = call_trigger(&mut self.interrupt_evt, due);
-        Recorded {
-            reply: match refusal {
-                Some(refusal) => Err(Error::Trigger(refusal)),
-                None => Ok(()),
-            },
-            asked,
-            sent: Sent::Nothing,
-        }
-    }
 }
 
 /// The registers and bytes of a saved state, after calling the trigger for it.
@@ -127,7 +62,7 @@ pub(super) fn call_again<T: Trigger>(registers: &Registers, trigger: &mut T) -> 
 }
 
 /// Calls the trigger `due` times, up to the first refusal. Returns its answers and the refusal.
-fn call_trigger<T: Trigger>(trigger: &mut T, due: u8) -> (Asked, Option<T::E>)
+pub(super) fn call_trigger<T: Trigger>(trigger: &mut T, due: u8) -> (Asked, Option<T::E>)
     requires { due ≤ 2 }
     ensures asked { IsTrue (answers_all due result.0) }
     ensures refused { is_some result.1 ≡ ends_in_refusal result.0 }
@@ -162,7 +97,7 @@ pub(super) fn report_read<EV: SerialEvents>(events: &mut EV, effects: ReadEffect
 }
 
 /// Sends the byte if due, and reports its outcome. Returns that and the writer's fault.
-fn send_where_due<EV: SerialEvents, W: Write>(
+pub(super) fn send_where_due<EV: SerialEvents, W: Write>(
     events: &mut EV,
     out: &mut W,
     sends: bool,

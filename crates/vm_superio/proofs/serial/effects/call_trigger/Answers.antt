@@ -1,5 +1,5 @@
 -- Two calls of the trigger in a row are linked by the list of both answers.
-use Rattle.vm_superio.proofs.serial.recorded.call_trigger.Goals as goal
+use Rattle.vm_superio.proofs.serial.effects.call_trigger.Goals as goal
 
 pub returns-in-Err-trigger-clause-calls : goal.returns-in-Err-trigger-clause-calls
 returns-in-Err-trigger-clause-calls g c =

@@ -2,7 +2,7 @@
 use Rattle.std.proofs.Common.{rules, refl, ap, ◌∙◌}
 use Rattle.vm_superio.specs.Serial.{state_with, write_step}
 use Rattle.superio_core.proofs.Lemmas.Serial.FirstRefused.{write_step-settled}
-use Rattle.vm_superio.proofs.serial.Serial.recorded_write.Goals as goal
+use Rattle.vm_superio.proofs.serial.Serial.write_for_run.Goals as goal
 
 pub returns : goal.returns
 returns g c =
