@@ -1,5 +1,5 @@
-//! The worked cases of each device through its public calls: the serial port, runs of calls, the clock, the controller and
-//! saved states, and the signatures of the calls.
+//! The worked cases of each device through its public calls: the serial port, runs of calls, the clock, the controller
+//! and saved states, and the signatures of the calls.
 #![tactic(auto)]
 
 #[cfg(test)]

@@ -84,7 +84,7 @@ fn call_of<W>(
     })
 }
 
-/// Runs the calls of these rows, of which one may be a restore over a spare writer.
+/// Runs the calls of these rows, one of which may be a restore with another writer.
 fn records<W: io::Write + Drop>(
     alloc: Global,
     port: &mut TestSerial<W>,

@@ -1,4 +1,4 @@
-//! The byte forms of saved states, with bytes by docs/SAVED-STATES.md, and each reason why bytes are refused.
+//! The byte encodings of saved states, with bytes by docs/SAVED-STATES.md, and each reason why bytes are refused.
 use crate::serial_objects::{Fields, IER, SCR, fresh};
 use std::test::Fail;
 use vm_superio::saved::{LoadError, SavedStateError};

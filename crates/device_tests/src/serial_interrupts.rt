@@ -109,7 +109,7 @@ fn gives_back_each(alloc: Global, port: &mut TestSerial<Narrow>) -> bool {
     true
 }
 
-/// Whether reads give each byte below 64, while LSR shows that one is there.
+/// Whether LSR shows data ready before each of 64 reads, and these give the bytes 0 to 63.
 fn gives_sixty_four(port: &mut TestSerial<Narrow>) -> bool {
     for byte in 0..=0x3F {
         if port.read(LSR) != 0x61 || port.read(RBR) != byte {

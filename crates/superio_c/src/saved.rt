@@ -29,18 +29,18 @@ fn load_status(error: SavedStateError) -> u32
     }
 }
 
-/// Writes the port's saved form to the start of `bytes`, and returns its length. The other bytes do not change.
+/// Writes the port's encoding to the start of `bytes`, and returns its length. The other bytes do not change.
 #[unsafe(no_mangle)]
 pub extern "C" fn superio_serial_save(port: &Uart, bytes: &mut [u8; SAVED_MAX]) -> usize
     ensures count { result ≡ length (serial_encoding (state_of_uart port.now)) }
     ensures at_most_81 { result ≤ 81 }
-    ensures form { take result bytes.new ≡ serial_encoding (state_of_uart port.now) }
+    ensures encoding { take result bytes.new ≡ serial_encoding (state_of_uart port.now) }
     ensures rest_unchanged { drop result bytes.new ≡ drop result bytes.old }
 {
-    let form = port.to_bytes();
-    let form = form.as_bytes();
-    bytes[..form.len()].copy_from_slice(form);
-    form.len()
+    let encoding = port.to_bytes();
+    let encoding = encoding.as_bytes();
+    bytes[..encoding.len()].copy_from_slice(encoding);
+    encoding.len()
 }
 
 /// Loads a saved port and returns 0. If the bytes are invalid, nothing changes, and the result says which check failed.
@@ -62,7 +62,7 @@ pub extern "C" fn superio_serial_load(port: &mut Uart, bytes: &[u8]) -> u32
     }
 }
 
-/// Writes the clock's saved form.
+/// Writes the clock's encoding.
 #[unsafe(no_mangle)]
 pub extern "C" fn superio_rtc_save(clock: &Pl031, bytes: &mut [u8; SAVED_SIZE])
     ensures { bytes.new ≡ clock_encoding (state_of_clock clock.now) }

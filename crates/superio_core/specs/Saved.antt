@@ -1,4 +1,4 @@
--- A saved state as bytes: its form, the checks that other bytes fail, and the laws that join the two.
+-- A saved state as bytes: its encoding, the checks that other bytes fail, and the laws that join the two.
 use Rattle.std.specs.Prelude.{ℕ, Bool, if◌then◌else◌, List, [], ◌∷◌, ◌++◌, length, ◌==◌, not, ◌+◌, nat_le, nat_lt, drop, slice_index, Option, Some, None, codes, ◌≡◌, ◌<◌, ◌≤◌, ◌^◌, FitsSigned}
 use Rattle.std.specs.Int.{w16, w32, w64, to_le_bytes, cast_unsigned, cast_signed, from_le_bytes}
 use Rattle.std.specs.Option.{option_or}
@@ -19,7 +19,7 @@ serial_kind = 1
 abbrev pub clock_kind : ℕ
 clock_kind = 2
 
--- the version of this form
+-- the version of this encoding
 abbrev pub version : ℕ
 version = 1
 
@@ -28,8 +28,8 @@ abbrev pub header : (kind length : ℕ) → List ℕ
 header kind length = magic ++ kind ∷ version ∷ to_le_bytes w16 length
 
 -- the header, and then what the device keeps
-abbrev pub form : (kind : ℕ) (contents : List ℕ) → List ℕ
-form kind contents = header kind (length contents) ++ contents
+abbrev pub encoding : (kind : ℕ) (contents : List ℕ) → List ℕ
+encoding kind contents = header kind (length contents) ++ contents
 
 -- ---- the serial port
 
@@ -38,7 +38,7 @@ abbrev pub serial_contents : (state : State) → List ℕ
 serial_contents state = register_bytes state ++ state.in_buffer
 
 abbrev pub serial_encoding : (state : State) → List ℕ
-serial_encoding state = form serial_kind (serial_contents state)
+serial_encoding state = encoding serial_kind (serial_contents state)
 
 -- ---- the clock
 
@@ -53,7 +53,7 @@ clock_contents state =
     ++ to_le_bytes w64 (cast_unsigned w64 state.offset) ++ flag state.armed ∷ []
 
 abbrev pub clock_encoding : (state : RtcState) → List ℕ
-clock_encoding state = form clock_kind (clock_contents state)
+clock_encoding state = encoding clock_kind (clock_contents state)
 
 -- the numbers of a saved clock, at their places
 abbrev pub numbers_in : (bytes : List ℕ) → RtcState
@@ -68,7 +68,7 @@ numbers_in bytes = record {
 
 -- ---- the checks of bytes that are read as a saved state, in order: the first that fails is the error
 
--- there is a header; it has the magic, the kind of this device and the version of this form; and its length
+-- there is a header; it has the magic, the kind of this device and the version of this encoding; and its length
 -- is that of what follows
 abbrev pub header_fault : (kind : ℕ) (bytes : List ℕ) → Option SavedStateError
 header_fault kind (m0 ∷ m1 ∷ m2 ∷ m3 ∷ its_kind ∷ its_version ∷ low ∷ high ∷ contents) =
@@ -108,7 +108,7 @@ saved_state_error_text WrongLength = Some (codes "A saved state of the wrong len
 saved_state_error_text TooManyBytes = Some (codes "More than 64 received bytes")
 saved_state_error_text InvalidArmed = Some (codes "An alarm that is neither set nor clear")
 
--- ---- the laws of the byte form: a form passes each check, and no two states share one
+-- ---- the laws of the encoding: an encoding passes each check, and no two states share one
 
 -- the numbers that the fields of a clock can have
 pub record IsClock (state : RtcState) : Type 0 where
@@ -118,14 +118,15 @@ pub record IsClock (state : RtcState) : Type 0 where
   pub ris : state.ris < 2 ^ 32
   pub offset : FitsSigned w64 state.offset
 
--- the form of a port that holds at most 64 bytes passes each check, whatever its registers hold. So does a clock's form
+-- the encoding of a port that holds at most 64 bytes passes each check, whatever its registers hold. So does that of a
+-- clock
 abbrev pub SerialEncodingLaw : Type 0
 SerialEncodingLaw = (state : State) → length state.in_buffer ≤ 64 → serial_fault (serial_encoding state) ≡ None
 
 abbrev pub ClockEncodingLaw : Type 0
 ClockEncodingLaw = (state : RtcState) → clock_fault (clock_encoding state) ≡ None
 
--- states that have the same form are one state
+-- states that have the same encoding are one state
 abbrev pub OneSerialStateLaw : Type 0
 OneSerialStateLaw = (a b : State) → serial_encoding a ≡ serial_encoding b → a ≡ b
 

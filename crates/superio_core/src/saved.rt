@@ -1,16 +1,16 @@
 //! A saved state as bytes: its header, and why bytes are refused.
 //!
-//! The form is the same on every machine. A state has at most one form, and no two states share one.
+//! The encoding is the same on every machine. A state has at most one encoding, and no two states share one.
 ghost use Rattle.std.specs.Prelude.{◌≡◌, IfOk};
 ghost use Rattle.std.specs.Result.{result_err};
-ghost use Rattle.superio_core.specs.Saved.{form, header, header_fault};
+ghost use Rattle.superio_core.specs.Saved.{encoding, header, header_fault};
 
 mod error_text;
 
 /// The first bytes of a saved state.
 const MAGIC: [u8; 4] = *b"SIOS";
 
-/// The version of the form.
+/// The version of the encoding.
 const VERSION: u8 = 1;
 
 /// The length of the header.
@@ -32,7 +32,7 @@ pub enum SavedStateError {
     NotASavedState,
     /// The state belongs to another device.
     OtherDevice,
-    /// The form has this version, which is not 1.
+    /// The encoding has this version, which is not 1.
     UnknownVersion(u8),
     /// The length in the header is not that of the rest, or no state of the device has it.
     WrongLength,
@@ -55,10 +55,10 @@ pub(crate) fn header(kind: u8, length: u16) -> [u8; 8]
 ///
 /// # Errors
 ///
-/// The first header check that fails: [`SavedStateError::TooShort`], [`SavedStateError::NotASavedState`], [`SavedStateError::OtherDevice`],
-/// [`SavedStateError::UnknownVersion`] or [`SavedStateError::WrongLength`].
+/// The first header check that fails: [`SavedStateError::TooShort`], [`SavedStateError::NotASavedState`],
+/// [`SavedStateError::OtherDevice`], [`SavedStateError::UnknownVersion`] or [`SavedStateError::WrongLength`].
 pub(crate) fn decode_header(kind: u8, bytes: &[u8]) -> Result<&[u8], SavedStateError>
-    ensures form { IfOk result (λ contents. bytes.now ≡ form kind contents.now) }
+    ensures encoding { IfOk result (λ contents. bytes.now ≡ encoding kind contents.now) }
     ensures fault { result_err result ≡ header_fault kind bytes.now }
 {
     match bytes {

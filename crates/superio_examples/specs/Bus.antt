@@ -41,7 +41,8 @@ module _ {T E EV W R F : Type 0} (trigger : Link T (TriggerAnswer E)) (events : 
   -- a byte is read: by the serial port, or without a change
   abbrev pub ReadsAt : (offset : Option ℕ) (port byte : ℕ) (old new : Bus T EV W R E F) → Type 0
   ReadsAt (Some offset) port byte old new =
-      IsSerialRead trigger events contents offset byte old.serial new.serial × (new ≡ record old { serial = new.serial })
+      IsSerialRead trigger events contents offset byte old.serial new.serial
+      × (new ≡ record old { serial = new.serial })
   ReadsAt None port byte old new = (byte ≡ other_byte old.keyboard port) × (new ≡ old)
 
   abbrev pub ReadsByte : (port byte : ℕ) (old new : Bus T EV W R E F) → Type 0

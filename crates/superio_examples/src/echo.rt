@@ -1,8 +1,8 @@
 //! A console that echoes: a guest's driver that sends back what it receives, and its monitor.
 //!
-//! The driver enables received data alone, and its handler takes at most a given number of bytes at each interrupt, so it
-//! may leave some. It sends each byte at once, since LSR always shows an empty transmitter. The monitor gives it input in
-//! pieces, and runs it only while an interrupt is due.
+//! The driver enables received data alone, and its handler takes at most a given number of bytes at each interrupt, so
+//! it may leave some. It sends each byte at once, since LSR always shows an empty transmitter. The monitor gives it
+//! input in pieces, and runs it only while an interrupt is due.
 #![tactic(auto, unfolding(superio_core::specs::Bits::has_bits, superio_core::specs::Bits::only_bits, superio_core::specs::Bits::with_bits, superio_core::specs::Bits::without_bits))]
 
 ghost use Rattle.std.specs.Prelude.{◌≡◌, ◌++◌, ◌<◌, length, min, take, true, false, [], IfOk, if◌then◌else◌};

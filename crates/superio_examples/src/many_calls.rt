@@ -1,8 +1,8 @@
 //! Claims about a list of calls, in two ways.
 //!
-//! **A loop of your own** meets the clauses of the calls that it makes: its invariant says what each of them keeps. A law
-//! over traces does not help there, since your loop records no trace. **`run`** makes a list of calls and records each,
-//! and its contract says what all of them show together, by the history.
+//! **A loop of your own** meets the clauses of the calls that it makes: its invariant says what each of them keeps. A
+//! law over traces does not help there, since your loop records no trace. **`run`** makes a list of calls and records
+//! each, and its contract says what all of them show together, by the history.
 ghost use Rattle.std.specs.Prelude.{◌≡◌, ◌+◌, ◌≤◌, ◌++◌, [], IfOk};
 ghost use Rattle.vm_superio.specs.Claims.{Coherent, held, pending_count, transmitter};
 ghost use Rattle.vm_superio.specs.Claims.{answers_in_records, acknowledged_in as acknowledged_by_calls};
@@ -57,8 +57,8 @@ fn make_one<EV: SerialEvents, W: Write>(serial: &mut Serial<InterruptLine, EV, W
     }
 }
 
-/// Makes the calls by `run`. What a guest reads of the FIFO, then what is held, is what was held, then what came in. The
-/// trigger is called at most twice, and once for each condition that a read acknowledges; restores do not count.
+/// Makes the calls by `run`. What a guest reads of the FIFO, then what is held, is what was held, then what came in.
+/// The trigger is called at most twice, and once for each condition that a read acknowledges; restores do not count.
 pub fn make_by_run<T: Trigger + Drop, EV: SerialEvents + Drop, W: Write + Drop>(
     alloc: Global,
     serial: &mut Serial<T, EV, W>,

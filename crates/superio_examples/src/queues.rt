@@ -118,9 +118,9 @@ pub(crate) fn shows_ready(enable: u8) -> bool
 /// The bytes that wait for the monitor's sink, oldest first, in a ring. Their number is limited, and `new` allocates
 /// the memory for this limit. A byte that finds no room is dropped, and counted.
 ///
-/// A monitor passes each byte that the guest sends to [`OutputQueue::push`]. An `OutputQueue` may also be a port's own writer.
-/// Then the guest's write returns an I/O error of the kind `WriteZero` for a byte that is dropped, which the monitor
-/// can log, and no contract says what the output holds after an I/O error.
+/// A monitor passes each byte that the guest sends to [`OutputQueue::push`]. An `OutputQueue` may also be a port's own
+/// writer. Then the guest's write returns an I/O error of the kind `WriteZero` for a byte that is dropped, which the
+/// monitor can log, and no contract says what the output holds after an I/O error.
 #[derive(Drop)]
 pub struct OutputQueue {
     ring: HeapCircularBuffer<u8>,

@@ -1,6 +1,6 @@
 //! Triggers: the usual one, a file descriptor that the host's kernel watches, such as an eventfd that is the irqfd of
-//! an interrupt line; one that counts its calls, for a monitor that injects interrupts itself; and one that has room for
-//! some interrupts and refuses the others, with a link of its own.
+//! an interrupt line; one that counts its calls, for a monitor that injects interrupts itself; and one that has room
+//! for some interrupts and refuses the others, with a link of its own.
 ghost use Rattle.std.specs.Prelude.{◌≡◌, ◌<◌, ◌≤◌, ◌-◌, ◌==◌, not, [], ◌∷◌, OnOk, OnErr};
 ghost use Rattle.std.specs.Io.KnownBytes.{Appends};
 ghost use Rattle.vm_superio.specs.Links.ForAnyObject.{FoldsCalls, FoldsCalls-nil, FoldsCalls-append};

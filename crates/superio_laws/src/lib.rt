@@ -1,4 +1,5 @@
-//! The laws of the devices, over the definitions of `superio_core`. Each function does nothing: its contract is the law.
+//! The laws of the devices, over the definitions of `superio_core`. Each function does nothing: its contract is the
+//! law.
 //!
 //! A step states what one call does to a state, as a device would. The history keeps no state: it searches the start
 //! and the trace of the calls so far for the last write, the bytes not yet taken, and any condition raised and not
@@ -137,10 +138,10 @@ pub fn interrupt_driver()
     ensures taken { ReadOutAfterPassesLaw }
 {}
 
-/// From any start, an IER write that enables THRE, and each THR write outside loopback while IER enables it, raise THRE,
-/// and call the trigger once if it was not pending. The exception is an IER write whose call for RDA is refused. Then
-/// RDA is pending, and a retry calls the trigger for it, as for each condition that is pending and enabled. What is
-/// pending after a read of IIR has had its trigger call since.
+/// From any start, an IER write that enables THRE, and each THR write outside loopback while IER enables it, raise
+/// THRE, and call the trigger once if it was not pending. The exception is an IER write whose call for RDA is refused.
+/// Then RDA is pending, and a retry calls the trigger for it, as for each condition that is pending and enabled. What
+/// is pending after a read of IIR has had its trigger call since.
 pub fn transmitter_interrupt()
     ensures ier_write { IerWriteAsksLaw }
     ensures thr_write { ThrWriteAsksLaw }
@@ -150,19 +151,19 @@ pub fn transmitter_interrupt()
 {}
 
 /// From any start, for any driver of a console. At each interrupt it takes at least one held byte. Either it reads IIR
-/// until nothing is pending and sends at least one byte between two reads, as Linux and Xen do, or it sends at least one
-/// after its last read of IIR, unless it has none left or flow control stops it. It sends by THR writes outside loopback
-/// while IER enables THRE, its bytes in their order. It gets bytes while it has none, or goes on after a stop, only at
-/// such a THR write, or at an IER write that enables THRE and whose call for RDA is not refused. The monitor makes a
-/// character timeout after each read of IIR that shows nothing pending, and in each turn of its event loop.
+/// until nothing is pending and sends at least one byte between two reads, as Linux and Xen do, or it sends at least
+/// one after its last read of IIR, unless it has none left or flow control stops it. It sends by THR writes outside
+/// loopback while IER enables THRE, its bytes in their order. It gets bytes while it has none, or goes on after a stop,
+/// only at such a THR write, or at an IER write that enables THRE and whose call for RDA is not refused. The monitor
+/// makes a character timeout after each read of IIR that shows nothing pending, and in each turn of its event loop.
 ///
 /// Then after each run the interrupt is asked for as long as bytes are held and IER enables RDA, or bytes are left to
 /// send and it is not stopped. Of the bytes held before some runs, the first are taken, in order, as many as there were
 /// runs; of those left to send, as many are sent as there were runs without a stop. So a byte with i before it in its
 /// direction is through within i + 1 such runs, whatever arrives, and whatever the driver is given, meanwhile.
 ///
-/// A driver that has bytes left and ends its run with a read of IIR that shows THRE is not asked again, neither here nor
-/// by a 16550A.
+/// A driver that has bytes left and ends its run with a read of IIR that shows THRE is not asked again, neither here
+/// nor by a 16550A.
 pub fn console_driver()
     ensures asked_to_take { InterruptToReadLaw }
     ensures asked_to_send { InterruptToSendLaw }
@@ -170,10 +171,10 @@ pub fn console_driver()
     ensures sent { SentInPassesLaw }
 {}
 
-/// From any start, for a handler of Linux's shape: it reads IIR until nothing is pending, and after each read sends, and
-/// takes bytes until none is left or it has taken as many as a limit. Its runs are those of [`console_driver`]. Where it
-/// reads that nothing is pending, it has sent all its bytes, unless it is stopped. If IER enables RDA there, it has also
-/// taken all, unless its last turn came to the limit: the others wait for the character timeout.
+/// From any start, for a handler of Linux's shape: it reads IIR until nothing is pending, and after each read sends,
+/// and takes bytes until none is left or it has taken as many as a limit. Its runs are those of [`console_driver`].
+/// Where it reads that nothing is pending, it has sent all its bytes, unless it is stopped. If IER enables RDA there,
+/// it has also taken all, unless its last turn came to the limit: the others wait for the character timeout.
 pub fn console_handler()
     ensures run { HandlerRunLaw }
     ensures ends { HandlerEndsLaw }
@@ -215,10 +216,10 @@ pub fn replies_are_read_out()
     ensures held { ReadThenHeldLaw }
 {}
 
-/// From any start, if calls respond as the history says, and only a driver that polls reads data: the bytes that it got,
-/// then those held, are those held at the start, then those accepted. If LSR does not show data ready in the end, it got
-/// all of these bytes. A driver polls if it reads RBR only after a read of LSR has shown data ready since its previous
-/// RBR read. Other calls in between do not matter.
+/// From any start, if calls respond as the history says, and only a driver that polls reads data: the bytes that it
+/// got, then those held, are those held at the start, then those accepted. If LSR does not show data ready in the end,
+/// it got all of these bytes. A driver polls if it reads RBR only after a read of LSR has shown data ready since its
+/// previous RBR read. Other calls in between do not matter.
 #[tactic(auto, using(crate::proofs::Lemmas::Serial::Laws::Reads::polling_driver_laws))]
 pub fn polling_driver()
     ensures bytes { PollingDriverLaw }

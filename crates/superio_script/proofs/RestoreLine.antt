@@ -5,7 +5,7 @@ use Rattle.std.proofs.lemmas.Slice.Eq.{bytes_eq-Decides}
 use Rattle.std.proofs.lemmas.Option.{option_and_then_some}
 use Rattle.std.specs.Int.{Width, w8}
 use Rattle.superio_script.specs.Fields.{prepend_to_first, pieces_of, fields_of, number, bytes, end, first_number, first_bytes, later_fields}
-use Rattle.superio_script.specs.Command.{by_form, serial_forms, clock_forms, controller_forms, command_of_name, command_of_fields, command_of, SerialCommand, ClockCommand, ControllerCommand, Serial, Clock, Controller}
+use Rattle.superio_script.specs.Command.{by_syntax, serial_syntaxes, clock_syntaxes, controller_syntaxes, command_of_name, command_of_fields, command_of, SerialCommand, ClockCommand, ControllerCommand, Serial, Clock, Controller}
 use Rattle.superio_script.specs.declared.command.SerialCommand.TheVariants as line
 
 -- ---- a line of one field
@@ -34,7 +34,7 @@ one-field (x ∷ xs) field one = by_test (x == 32) (fields_of xs) (one-field xs)
         let first : x ∷ piece ≡ field = cc in
         ap (λ xs. x ∷ xs) (rest piece (ap (λ pieces. piece ∷ pieces) none)) ∙ first
 
--- ---- the form
+-- ---- the syntax
 
 -- fields that give one command give no other
 module _ {A : Type 0} (other : A) where
@@ -54,9 +54,9 @@ module _ {A : Type 0} (other : A) where
       option_and_then_some (λ value. next value (later_fields fields)) (first_bytes fields) other is
       (λ value _ e. never value (later_fields fields) e)
 
-restore-form : (name : List ℕ) (fields : List (List ℕ)) → by_form serial_forms name fields ≡ Some line.Restore
+restore-syntax : (name : List ℕ) (fields : List (List ℕ)) → by_syntax serial_syntaxes name fields ≡ Some line.Restore
     → IsTrue (bytes_eq name (codes "ss")) × (end line.Restore fields ≡ Some line.Restore)
-restore-form name fields is = grind (
+restore-syntax name fields is = grind (
   arith,
   number-other line.Restore w8 (λ offset. end (line.Read offset)) (λ offset. end-other line.Restore (line.Read offset) (λ e. cc)) fields,
   number-other line.Restore w8 (λ offset. number w8 (λ value. end (line.Write offset value)))
@@ -84,8 +84,8 @@ restore-name : (name : List ℕ) (fields : List (List ℕ)) → command_of_name 
 restore-name [] fields is = absurd cc
 restore-name (letter ∷ letters) fields is =
     let name = letter ∷ letters in
-    let (named, alone) = restore-form name fields
-    (by_letter letter (by_form serial_forms name fields) (by_form clock_forms name fields) (by_form controller_forms name fields) is) in
+    let (named, alone) = restore-syntax name fields
+    (by_letter letter (by_syntax serial_syntaxes name fields) (by_syntax clock_syntaxes name fields) (by_syntax controller_syntaxes name fields) is) in
     ap (λ name. name ∷ fields) ((bytes_eq-Decides name (codes "ss")).0 named) ∙ ap (λ fields. codes "ss" ∷ fields) (ended fields alone)
 
 pub restore_line-is_ss : (text : List ℕ) → command_of text ≡ Some (Serial line.Restore) → text ≡ codes "ss"

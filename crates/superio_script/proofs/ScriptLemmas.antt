@@ -16,7 +16,7 @@ use Rattle.superio_script.specs.Command.{command_of, Command, Serial, Clock, Con
 use Rattle.superio_script.specs.SerialScript.{Outcome, outcomes_of, all_short, trace_after_line, prints_after_loss}
 use Rattle.superio_script.specs.ClockScript.{clock_after, access_of_line, clock_replies}
 use Rattle.superio_script.specs.Board.{Devices, IsAfter, IsFresh, IsLineStep}
-use Rattle.superio_script.specs.Script.{has_form, until_bad, good_commands, first_bad_line, serial_lines, clock_lines, controller_lines, controller_replies, replies_in_order, text_from, text_of, PrintsLines, StopsWithoutMemory}
+use Rattle.superio_script.specs.Script.{has_syntax, until_bad, good_commands, first_bad_line, serial_lines, clock_lines, controller_lines, controller_replies, replies_in_order, text_from, text_of, PrintsLines, StopsWithoutMemory}
 use Rattle.superio_script.proofs.SerialScriptLemmas.{outcomes_taken, printed_taken, first-replies, outcomes-after_line}
 
 -- ---- a line of the board
@@ -28,7 +28,7 @@ pub record Leads (mask : ℕ) (trace : Trace) (accesses : List Access) (line rep
   pub next_accesses : List Access
   pub serial : IsAfter mask next new.serial
   pub clock : new.clock.state ≡ clock_after next_accesses
-  pub good : IsTrue (has_form line)
+  pub good : IsTrue (has_syntax line)
   pub outcomes : List Outcome
   pub added : outcomes_of next ≡ outcomes_of trace ++ outcomes
   pub printed : List (List ℕ)
@@ -109,7 +109,7 @@ module _ (mask : ℕ) (trace : Trace) (accesses : List Access) (line reply : Lis
 pub record HasCarriedOut (mask : ℕ) (start : Option (List ℕ)) (all rest : List (List ℕ)) (before : Option (List ℕ)) (board : Devices) : Type 0 where
   pub earlier : List (List ℕ)
   pub split : all ≡ earlier ++ rest
-  pub all_good : IsTrue (list_all has_form earlier)
+  pub all_good : IsTrue (list_all has_syntax earlier)
   pub first_bad : (number : ℕ) (lines : List (List ℕ)) → first_bad_line number (earlier ++ lines) ≡ first_bad_line (number + length earlier) lines
   pub trace : Trace
   pub accesses : List Access
@@ -140,11 +140,11 @@ HasCarriedOut-at_start {mask} start all fresh = record {
   text = λ lines more more_printed. refl;
 }
 
-pub all_good-append : (earlier : List (List ℕ)) (line : List ℕ) → IsTrue (list_all has_form earlier) → IsTrue (has_form line) →
-    IsTrue (list_all has_form (earlier ++ line ∷ []))
+pub all_good-append : (earlier : List (List ℕ)) (line : List ℕ) → IsTrue (list_all has_syntax earlier) → IsTrue (has_syntax line) →
+    IsTrue (list_all has_syntax (earlier ++ line ∷ []))
 all_good-append [] line good one = both_true one refl
 all_good-append (first ∷ earlier) line good one =
-    let parts = and_parts (has_form first) (list_all has_form earlier) good in
+    let parts = and_parts (has_syntax first) (list_all has_syntax earlier) good in
     both_true parts.0 (all_good-append earlier line parts.1 one)
 
 module _ {mask : ℕ} {start before : Option (List ℕ)} {all rest : List (List ℕ)} {board : Devices} (carried : HasCarriedOut mask start all rest before board) where
@@ -221,7 +221,7 @@ module _ {mask : ℕ} {start before : Option (List ℕ)} {all rest : List (List 
             text = text-after;
           }
 
-    -- the next line has no form
+    -- the next line has no syntax
     pub first_bad_line-here : (number : ℕ) → command_of line ≡ None → first_bad_line number all ≡ Some (number + length carried.earlier)
     first_bad_line-here number none =
         ap (first_bad_line number) split-here ∙ carried.first_bad number (line ∷ more)

@@ -1,4 +1,4 @@
--- The lines of a script and the fields of a line, by the kinds that the forms have.
+-- The lines of a script and the fields of a line, by the kinds that the syntaxes have.
 use Rattle.std.specs.Prelude.{ℕ, List, [], ◌∷◌, if◌then◌else◌, ◌==◌, None, Some, Option, ◌/◌, ◌&&◌, nat_le, length, option_map, option_and_then}
 use Rattle.std.specs.Borrow.{Bor}
 use Rattle.std.specs.Result.{result_ok}
@@ -31,7 +31,7 @@ abbrev pub remaining_fields : (rest : Option (Bor (List ℕ))) → List (List �
 remaining_fields None = []
 remaining_fields (Some rest) = fields_of rest.now
 
--- ---- the fields of a line, by the kinds that the forms have
+-- ---- the fields of a line, by the kinds that the syntaxes have
 
 -- ---- one field
 
@@ -69,7 +69,7 @@ abbrev pub no_field : (fields : List (List ℕ)) → Option (Unit {0})
 no_field [] = Some tt
 no_field (field ∷ fields) = None
 
--- ---- the fields of a form, read one after another
+-- ---- the fields of a syntax, read one after another
 
 -- a number of this width, and the fields after it
 abbrev pub number : {A : Type 0} (width : Width) (next : (value : ℕ) → List (List ℕ) → Option A)

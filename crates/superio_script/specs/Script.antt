@@ -18,7 +18,7 @@ pub record Body : Type 0 where
   pub first : ℕ
   pub lines : List (List ℕ)
 
--- a first line of the form `refuse` gives the mask, and is not carried out. Without one the mask is 0
+-- a first line of the syntax `refuse` gives the mask, and is not carried out. Without one the mask is 0
 abbrev pub body_from : (refused : Option ℕ) (line : List ℕ) (lines : List (List ℕ)) → Body
 body_from (Some mask) line lines = record { mask = mask; first = 2; lines = lines }
 body_from None line lines = record { mask = 0; first = 1; lines = line ∷ lines }
@@ -30,24 +30,24 @@ body_of_lines (line ∷ lines) = body_from (mask_of line) line lines
 abbrev pub body_of : (script : List ℕ) → Body
 body_of script = body_of_lines (lines_of script)
 
--- the command of a line that has a form, in front of the others. A line that has none ends them
+-- the command of a line that has a syntax, in front of the others. A line that has none ends them
 abbrev pub until_bad : (command : Option Command) (commands : List Command) → List Command
 until_bad None commands = []
 until_bad (Some command) commands = command ∷ commands
 
--- the commands of the good lines, which are those before the first line that has no form
+-- the commands of the good lines, which are those before the first line that has no syntax
 abbrev pub good_commands : (lines : List (List ℕ)) → List Command
 good_commands [] = []
 good_commands (line ∷ lines) = until_bad (command_of line) (good_commands lines)
 
--- a line has a form
-abbrev pub has_form : (line : List ℕ) → Bool
-has_form line = is_some (command_of line)
+-- a line has a syntax
+abbrev pub has_syntax : (line : List ℕ) → Bool
+has_syntax line = is_some (command_of line)
 
--- the number of the first line that has no form, given the number of the first of these lines
+-- the number of the first line that has no syntax, given the number of the first of these lines
 abbrev pub first_bad_line : (number : ℕ) (lines : List (List ℕ)) → Option ℕ
 first_bad_line number [] = None
-first_bad_line number (line ∷ lines) = if has_form line then first_bad_line (number + 1) lines else Some number
+first_bad_line number (line ∷ lines) = if has_syntax line then first_bad_line (number + 1) lines else Some number
 
 -- ---- each device's own lines
 
@@ -127,7 +127,7 @@ pub record StopsWithoutMemory (mask : ℕ) (lines : List (List ℕ)) (before aft
   pub earlier : List (List ℕ)
   pub later : List (List ℕ)
   pub split : lines ≡ earlier ++ codes "ss" ∷ later
-  pub all_good : IsTrue (list_all has_form earlier)
+  pub all_good : IsTrue (list_all has_syntax earlier)
   pub text : PrintsLines mask earlier before after
 
 -- the same of a run of this script

@@ -1,7 +1,7 @@
-//! The forms of a line.
+//! The syntax of a line.
 ghost use Rattle.std.specs.Prelude.{◌≡◌};
 ghost use Rattle.superio_script.specs.Fields.{remaining_fields};
-ghost use Rattle.superio_script.specs.Command.{by_form, serial_forms, clock_forms, controller_forms, command_of_name, command_of, mask_of};
+ghost use Rattle.superio_script.specs.Command.{by_syntax, serial_syntaxes, clock_syntaxes, controller_syntaxes, command_of_name, command_of, mask_of};
 
 use crate::fields::{FieldBytes, Fields};
 
@@ -64,9 +64,10 @@ pub(crate) enum ControllerCommand {
     Write { offset: u8, value: u8 },
 }
 
-/// The forms of the serial port's lines, a row each: the name, what it asks for, and the kinds of its fields in order.
+/// The syntaxes of the serial port's lines, a row each: the name, what it asks for, and the kinds of its fields in
+/// order.
 fn serial_encoding(name: &[u8], fields: &mut Fields) -> Option<SerialCommand>
-    ensures { result ≡ by_form serial_forms name.now (remaining_fields fields.old.rest) }
+    ensures { result ≡ by_syntax serial_syntaxes name.now (remaining_fields fields.old.rest) }
 {
     let command = match name {
         b"sr" => SerialCommand::Read {
@@ -90,9 +91,9 @@ fn serial_encoding(name: &[u8], fields: &mut Fields) -> Option<SerialCommand>
     fields.end(command)
 }
 
-/// The forms of the clock's lines.
+/// The syntaxes of the clock's lines.
 fn clock_encoding(name: &[u8], fields: &mut Fields) -> Option<ClockCommand>
-    ensures { result ≡ by_form clock_forms name.now (remaining_fields fields.old.rest) }
+    ensures { result ≡ by_syntax clock_syntaxes name.now (remaining_fields fields.old.rest) }
 {
     let command = match name {
         b"cr" => ClockCommand::Read {
@@ -109,9 +110,9 @@ fn clock_encoding(name: &[u8], fields: &mut Fields) -> Option<ClockCommand>
     fields.end(command)
 }
 
-/// The forms of the controller's lines.
-fn controller_form(name: &[u8], fields: &mut Fields) -> Option<ControllerCommand>
-    ensures { result ≡ by_form controller_forms name.now (remaining_fields fields.old.rest) }
+/// The syntaxes of the controller's lines.
+fn controller_syntax(name: &[u8], fields: &mut Fields) -> Option<ControllerCommand>
+    ensures { result ≡ by_syntax controller_syntaxes name.now (remaining_fields fields.old.rest) }
 {
     let command = match name {
         b"kr" => ControllerCommand::Read {
@@ -133,12 +134,12 @@ fn command_of_name(name: &[u8], fields: &mut Fields) -> Option<Command>
     Some(match name.first()? {
         b's' => Command::Serial(serial_encoding(name, fields)?),
         b'c' => Command::Clock(clock_encoding(name, fields)?),
-        b'k' => Command::Controller(controller_form(name, fields)?),
+        b'k' => Command::Controller(controller_syntax(name, fields)?),
         _ => return None,
     })
 }
 
-/// What a line asks for, or `None` if it has no form.
+/// What a line asks for, or `None` if it has no syntax.
 pub(crate) fn parse(line: &[u8]) -> Option<Command>
     ensures { result ≡ command_of line.now }
 {
@@ -147,7 +148,7 @@ pub(crate) fn parse(line: &[u8]) -> Option<Command>
     command_of_name(name, &mut fields)
 }
 
-/// The mask of a line `refuse MMMMMMMMMMMMMMMM`, given without its LF, or `None` if the line is not of this form.
+/// The mask of a line `refuse MMMMMMMMMMMMMMMM`, given without its LF, or `None` if the line is not of this syntax.
 pub(crate) fn refused_mask(line: &[u8]) -> Option<u64>
     ensures { result ≡ mask_of line.now }
 {

@@ -15,8 +15,8 @@ use vm_superio::{I8042Device, Rtc, Serial};
 
 /// The devices that a script drives: a serial port, a clock and an i8042 controller.
 ///
-/// In contracts a board is what the history says after a trace of the serial port's calls and restores, and after a list
-/// of the clock's accesses, both since the board was new. [`Board::line`] states what a line adds to them.
+/// In contracts a board is what the history says after a trace of the serial port's calls and restores, and after a
+/// list of the clock's accesses, both since the board was new. [`Board::line`] states what a line adds to them.
 #[derive(Drop)]
 pub struct Board {
     serial: BoardSerial,
@@ -59,8 +59,8 @@ impl Board {
     ///
     /// # Errors
     ///
-    /// Returns [`LineFault::Bad`] if the line has no form or is `refuse`. Returns [`LineFault::Memory`] if memory is
-    /// refused for the line `ss`. The board is unchanged after both.
+    /// Returns [`LineFault::Bad`] if the line has no known syntax or is `refuse`. Returns [`LineFault::Memory`] if
+    /// memory is refused for the line `ss`. The board is unchanged after both.
     #[tactic(auto, using(crate::proofs::RestoreLine::restore_line))]
     pub fn line(&mut self, alloc: Global, line: &[u8]) -> Result<ReplyText, LineFault>
         ensures bad { IsErrOf result LineFault.Bad ↔ (command_of line.now ≡ None) }

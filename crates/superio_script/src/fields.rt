@@ -65,7 +65,7 @@ impl<'a> Lines<'a> {
     }
 }
 
-// ---- the fields of a line, by the kinds that the forms have
+// ---- the fields of a line, by the kinds that a syntax has
 
 /// The bytes of a field, or none without a field. In contracts they are a list.
 #[derive(Drop)]
@@ -159,7 +159,7 @@ impl<'a> Fields<'a> {
         Some(field)
     }
 
-    // Each of these takes the next field, if it is of its kind. After `None` the line has no form.
+    // Each of these takes the next field, if it is of its kind. After `None` the line has no known syntax.
 
     /// So many bytes, of two digits each.
     fn array<const N: usize>(&mut self) -> Option<[u8; N]>

@@ -64,7 +64,7 @@ pub(crate) fn reply_count(count: u64) -> ReplyText
 /// Why a line was not executed.
 #[derive(Clone, Copy, Debug, PartialEq, Eq)]
 pub enum LineFault {
-    /// The line has no form. `refuse` is a form only of a script's first line.
+    /// The line has no known syntax. `refuse` is known only as a script's first line.
     Bad,
     /// The allocator refused memory for the line `ss`.
     Memory,
@@ -73,7 +73,7 @@ pub enum LineFault {
 /// Why a run of a script ended early.
 #[derive(Clone, Copy, Debug, PartialEq, Eq)]
 pub enum ScriptFault {
-    /// The line with this number, counted from 1, is the first that has no form.
+    /// The line with this number, counted from 1, is the first without a known syntax.
     Bad(usize),
     /// The reader or the writer failed.
     Io,

@@ -54,7 +54,8 @@ fn is_refused(mask: u64, number: u64) -> bool {
     number < 64 && mask >> number & 1 == 1
 }
 
-/// What a line of this mask answered to so many calls, the first of this number. `None` if no access calls it like this.
+/// What a line of this mask answered to so many calls, the first of this number. `None` if no access calls it like
+/// this.
 fn answers(mask: u64, first: u64, count: u64) -> Option<Asked> {
     let second = first.saturating_add(1);
     match (count, is_refused(mask, first), is_refused(mask, second)) {

@@ -136,7 +136,8 @@ pub struct Log {
     /// The number of the trigger call to refuse, from 1. 0: no call.
     pub refused: Cell<u64>,
     pub writing: Cell<Writing>,
-    /// The last eight calls of a serial port, a letter each: `T`rigger, `W`rite, `F`lush, `o`ut, `l`ost, `e`mpty, `r`ead.
+    /// The last eight calls of a serial port, a letter each: `T`rigger, `W`rite, `F`lush, `o`ut, `l`ost, `e`mpty,
+    /// `r`ead.
     pub order: Cell<u64>,
 }
 

@@ -186,6 +186,14 @@ fn is_run(done: &[SerialDone]) -> bool {
         && matches!(done[5].reply, Reply::Byte(0x60))
 }
 
+/// Whether this is the record of a restore that succeeded.
+fn is_new(record: Option<&SerialDone>) -> bool {
+    match record {
+        Some(record) => matches!(record.reply, Reply::Restored(_)),
+        None => false,
+    }
+}
+
 /// Whether the port is the new one if the restore succeeded, and else the old one, which can be restored later.
 fn is_restored_or_stays(alloc: Global, serial: &mut TestSerial, restore: &SerialReply) -> Result<bool, Fail> {
     match restore {
@@ -195,7 +203,7 @@ fn is_restored_or_stays(alloc: Global, serial: &mut TestSerial, restore: &Serial
         Reply::NotRestored(refused) => {
             let stays = serial.interrupt_evt().mask() == 0 && serial.interrupt_evt().calls() == 1;
             let again = run(alloc, serial, calls(alloc)?)?;
-            Ok(is_as_passed(refused) && stays && matches!(again[3].reply, Reply::Restored(_)))
+            Ok(is_as_passed(refused) && stays && is_new(again.get(3)))
         }
         _ => Ok(false),
     }
@@ -206,7 +214,12 @@ fn a_run_makes_no_call_or_records_a_refused_restore(rt: HostRuntime) -> Result<(
     let mut serial = port(rt.alloc(), &SerialState::default(rt.alloc()))?;
     let done = run_calls(rt.alloc(), &mut serial)?;
     assert!(rt; is_run(&done));
-    assert!(rt; is_restored_or_stays(rt.alloc(), &mut serial, &done[3].reply)?);
+    match done.get(3) {
+        Some(record) => {
+            assert!(rt; is_restored_or_stays(rt.alloc(), &mut serial, &record.reply)?);
+        }
+        None => return Err(Fail::from("no restore")),
+    }
     Ok(())
 }
 

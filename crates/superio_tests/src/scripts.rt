@@ -406,8 +406,8 @@ fn faults_have_a_status_and_a_text(rt: HostRuntime) -> Result<(), Fail> {
 
 // ---- streams
 
-/// Gives a script, at most four bytes a read. Its read of this number, from 1, fails with a fault of this kind, or gives
-/// no byte.
+/// Gives a script, at most four bytes a read. Its read of this number, from 1, fails with a fault of this kind, or
+/// gives no byte.
 #[derive(Drop)]
 struct Reader<'a> {
     rest: &'a [u8],

@@ -32,9 +32,9 @@ abbrev pub load_error_text : (error : LoadError) → Option (List ℕ)
 load_error_text (Invalid fault) = check.saved_state_error_text fault
 load_error_text Memory = Some (codes "Out of memory")
 
--- ---- the version in a saved state: each form has that of its writer, and a reader refuses every other
+-- ---- the version in a saved state: each encoding has that of its writer, and a reader refuses every other
 
--- the version is at place 5 of each form
+-- the version is at place 5 of each encoding
 abbrev pub SerialVersionLaw : Type 0
 SerialVersionLaw = (state : State) → slice_index (serial_encoding state) 5 ≡ version
 

@@ -46,7 +46,8 @@ refusal_in_result (Err error) = refusal_in_error error
 
 -- given what the trigger's refusal prints. The text of a writer's fault is not known
 abbrev pub serial_error_text : {E : Type 0} → (E → Option (List ℕ)) → Error E → Option (List ℕ)
-serial_error_text output (Trigger cause) = option_map (λ text. codes "Failed to trigger interrupt: " ++ text) (output cause)
+serial_error_text output (Trigger cause) =
+    option_map (λ text. codes "Failed to trigger interrupt: " ++ text) (output cause)
 serial_error_text output (IOError cause) = None
 serial_error_text output FullFifo = Some (codes "No space left in FIFO")
 serial_error_text output Memory = Some (codes "Out of memory")

@@ -1,4 +1,4 @@
--- Lemmas on the byte form of a saved state. Other crates' proofs use the public ones too.
+-- Lemmas on the encoding of a saved state. Other crates' proofs use the public ones too.
 use Rattle.std.proofs.Common.{◌≡◌, ℕ, ◌<◌, ◌^◌, Bool, true, false, ap, sym, ◌∙◌, arith, refl, List, drop, ◌==◌, Some, None, IfOk, Result, Ok, Err, ℤ, pos, negsuc, FitsSigned, length, [], ◌∷◌, take, ◌++◌, replicate}
 use Rattle.std.specs.Result.{result_err}
 use Rattle.std.specs.Int.{w64, to_le_bytes, from_le_bytes, cast_unsigned, cast_signed}
@@ -26,9 +26,9 @@ offset-bits (negsuc n) fits = omega arith
 offset-back : (offset : ℤ) (n : ℕ) → n ≡ cast_unsigned w64 offset → n < 2 ^ 64 → cast_signed w64 (from_le_bytes w64 (to_le_bytes w64 n)) ≡ cast_signed w64 (cast_unsigned w64 offset)
 offset-back offset n e h = ap (cast_signed w64) (from_le_bytes-to_le_bytes_8 n h ∙ e)
 
--- they are those of the state that has this form
-pub numbers_in-form : (state : RtcState) → IsClock state → numbers_in (clock_encoding state) ≡ state
-numbers_in-form state fits =
+-- they are those of the state that has this encoding
+pub numbers_in-encoding : (state : RtcState) → IsClock state → numbers_in (clock_encoding state) ≡ state
+numbers_in-encoding state fits =
     of-same _ _ _ _ _ _ _ _ _ _ _ _
     (from_le_bytes-to_le_bytes_4 state.lr fits.lr)
     (from_le_bytes-to_le_bytes_4 state.mr fits.mr)
@@ -39,36 +39,36 @@ numbers_in-form state fits =
 
 pub one_clock_state : OneClockStateLaw
 one_clock_state a b a_fits b_fits same =
-    sym (numbers_in-form a a_fits) ∙ ap numbers_in same ∙ numbers_in-form b b_fits
+    sym (numbers_in-encoding a a_fits) ∙ ap numbers_in same ∙ numbers_in-encoding b b_fits
 
 pub one_serial_state : OneSerialStateLaw
 one_serial_state a b same = ap (λ (bytes : List ℕ). state_of_bytes (drop 8 bytes)) same
 
-pub serial_form_has_no_fault : SerialEncodingLaw
-serial_form_has_no_fault state few = grind arith
+pub serial_encoding_has_no_fault : SerialEncodingLaw
+serial_encoding_has_no_fault state few = grind arith
 
-clock_form_has_no_fault-by : (set : Bool) (state : RtcState) → state.armed ≡ set → clock_fault (clock_encoding state) ≡ None
-clock_form_has_no_fault-by true state is = rw is refl
-clock_form_has_no_fault-by false state is = rw is refl
+clock_encoding_has_no_fault-by : (set : Bool) (state : RtcState) → state.armed ≡ set → clock_fault (clock_encoding state) ≡ None
+clock_encoding_has_no_fault-by true state is = rw is refl
+clock_encoding_has_no_fault-by false state is = rw is refl
 
-pub clock_form_has_no_fault : ClockEncodingLaw
-clock_form_has_no_fault state = clock_form_has_no_fault-by state.armed state refl
+pub clock_encoding_has_no_fault : ClockEncodingLaw
+clock_encoding_has_no_fault state = clock_encoding_has_no_fault-by state.armed state refl
 
--- what is read of the form of a state is this state
+-- what is read of the encoding of a state is this state
 pub clock_encoding_read : (bytes : List ℕ) (result : Result RtcState SavedStateError) → IfOk result IsClock →
     IfOk result (λ state. bytes ≡ clock_encoding state) → result_err result ≡ clock_fault bytes →
     (state : RtcState) → IsClock state → bytes ≡ clock_encoding state → result ≡ Ok state
-clock_encoding_read bytes (Ok found) numbers form fault state fits is = ap Ok (one_clock_state found state numbers fits (sym form ∙ is))
-clock_encoding_read bytes (Err error) numbers form fault state fits is =
-    let none : Some error ≡ None = fault ∙ ap clock_fault is ∙ clock_form_has_no_fault state in cc
+clock_encoding_read bytes (Ok found) numbers encoding fault state fits is = ap Ok (one_clock_state found state numbers fits (sym encoding ∙ is))
+clock_encoding_read bytes (Err error) numbers encoding fault state fits is =
+    let none : Some error ≡ None = fault ∙ ap clock_fault is ∙ clock_encoding_has_no_fault state in cc
 
 -- ---- what the laws rest on
 
 pub ruleset one_state_of_an_encoding_laws = (one_serial_state, one_clock_state)
 
-pub ruleset encodings_are_read_laws = (serial_form_has_no_fault, clock_form_has_no_fault)
+pub ruleset encodings_are_read_laws = (serial_encoding_has_no_fault, clock_encoding_has_no_fault)
 
--- ---- worked examples of the byte form: those of docs/SAVED-STATES.md, and one for each check
+-- ---- worked examples of the encoding: those of docs/SAVED-STATES.md, and one for each check
 
 -- two bytes are held, and received data is pending
 abbrev two_held : State
@@ -80,21 +80,21 @@ two_held = record fresh_state {
   in_buffer = 0x61 ∷ 0x62 ∷ [];
 }
 
-two_held_form : serial_encoding two_held ≡
+two_held_encoding : serial_encoding two_held ≡
     0x53 ∷ 0x49 ∷ 0x4F ∷ 0x53 ∷ 0x01 ∷ 0x01 ∷ 0x0B ∷ 0x00
     ∷ 0x0C ∷ 0x00 ∷ 0x01 ∷ 0x04 ∷ 0x03 ∷ 0x61 ∷ 0x08 ∷ 0xB0 ∷ 0x5A
     ∷ 0x61 ∷ 0x62 ∷ []
-two_held_form = refl
+two_held_encoding = refl
 
 -- guest time is an hour behind, and an alarm is set
 abbrev hour_behind : RtcState
 hour_behind = record { lr = 0x65920080; offset = negsuc 3599; mr = 0x659200BC; imsc = 1; ris = 0; armed = true }
 
-hour_behind_form : clock_encoding hour_behind ≡
+hour_behind_encoding : clock_encoding hour_behind ≡
     0x53 ∷ 0x49 ∷ 0x4F ∷ 0x53 ∷ 0x02 ∷ 0x01 ∷ 0x19 ∷ 0x00
     ∷ 0x80 ∷ 0x00 ∷ 0x92 ∷ 0x65 ∷ 0xBC ∷ 0x00 ∷ 0x92 ∷ 0x65 ∷ 0x01 ∷ 0x00 ∷ 0x00 ∷ 0x00 ∷ 0x00 ∷ 0x00 ∷ 0x00 ∷ 0x00
     ∷ 0xF0 ∷ 0xF1 ∷ 0xFF ∷ 0xFF ∷ 0xFF ∷ 0xFF ∷ 0xFF ∷ 0xFF ∷ 0x01 ∷ []
-hour_behind_form = refl
+hour_behind_encoding = refl
 
 -- ---- the checks, in order
 
@@ -130,8 +130,8 @@ full_port : serial_fault (0x53 ∷ 0x49 ∷ 0x4F ∷ 0x53 ∷ 0x01 ∷ 0x01 ∷ 
 full_port = refl
 
 -- the law speaks of full ports too
-full_form : SerialEncodingLaw → (state : State) → length state.in_buffer ≡ 64 → serial_fault (serial_encoding state) ≡ None
-full_form law state full = law state (omega (arith, full))
+full_encoding : SerialEncodingLaw → (state : State) → length state.in_buffer ≡ 64 → serial_fault (serial_encoding state) ≡ None
+full_encoding law state full = law state (omega (arith, full))
 
 one_more_byte : serial_fault (0x53 ∷ 0x49 ∷ 0x4F ∷ 0x53 ∷ 0x01 ∷ 0x01 ∷ 0x4A ∷ 0x00 ∷ replicate 74 0) ≡ Some TooManyBytes
 one_more_byte = refl

@@ -1,4 +1,4 @@
-//! The state of a clock, as vm-superio names its fields, and its byte form.
+//! The state of a clock, as vm-superio names its fields, and its encoding.
 ghost use Rattle.std.specs.Prelude.{◌≡◌, ◌≤◌, ◌+◌, ◌++◌, false, not, is_some, length, IfOk, IfSome};
 ghost use Rattle.std.specs.Result.{result_err};
 ghost use Rattle.std.specs.Int.{w32, w64, to_le_bytes, cast_unsigned};
@@ -6,7 +6,7 @@ ghost use Rattle.superio_core.specs.Saved.{clock_fault, IsClock};
 
 use super::super::saved::{CLOCK_KIND, SavedStateError, decode_header, header};
 
-/// The size of a clock's byte form: the header and 25 bytes.
+/// The size of a clock's encoding: the header and 25 bytes.
 pub const SAVED_SIZE: usize = 33;
 
 /// The number of bytes after the header.
@@ -94,10 +94,11 @@ impl RtcState {
     ///
     /// # Errors
     ///
-    /// Returns the first check that fails, in the order of [`SavedStateError`]: any case but [`SavedStateError::TooManyBytes`].
+    /// Returns the first check that fails, in the order of [`SavedStateError`]: any case but
+    /// [`SavedStateError::TooManyBytes`].
     #[tactic(auto, using(crate::proofs::Lemmas::Saved::clock_encoding_read))]
     pub fn from_bytes(bytes: &[u8]) -> Result<RtcState, SavedStateError>
-        ensures form { IfOk result (λ state. bytes.now ≡ clock_encoding state) }
+        ensures encoding { IfOk result (λ state. bytes.now ≡ clock_encoding state) }
         ensures read { (state : RtcState) → IsClock state → bytes.now ≡ clock_encoding state → result ≡ Ok state }
         ensures fault { result_err result ≡ clock_fault bytes.now }
     {
@@ -106,7 +107,7 @@ impl RtcState {
 
     /// As `from_bytes`.
     fn parse(bytes: &[u8]) -> Result<RtcState, SavedStateError>
-        ensures form { IfOk result (λ state. bytes.now ≡ clock_encoding state) }
+        ensures encoding { IfOk result (λ state. bytes.now ≡ clock_encoding state) }
         ensures numbers { IfOk result IsClock }
         ensures fault { result_err result ≡ clock_fault bytes.now }
     {

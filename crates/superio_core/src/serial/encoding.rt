@@ -1,4 +1,4 @@
-//! The byte form of a serial port's state.
+//! The encoding of a serial port's state.
 ghost use Rattle.std.specs.Prelude.{◌≡◌, ◌≤◌, length, List, ℕ, ◌++◌, take, drop, IfOk};
 ghost use Rattle.std.specs.Result.{result_err, IsOkAnd};
 ghost use Rattle.superio_core.specs.Serial.{state_with, State, state_of_uart, ring_contents};
@@ -11,10 +11,10 @@ use super::super::saved::{SavedStateError, HEADER_SIZE, SERIAL_KIND, decode_head
 use super::Uart;
 use super::registers::{REGISTER_COUNT, Registers};
 
-/// The size of a form without received bytes: the header and the registers.
+/// The size of an encoding without received bytes: the header and the registers.
 const SAVED_MIN: usize = HEADER_SIZE + REGISTER_COUNT;
 
-/// The maximum size of a port's byte form: the header, the registers and 64 received bytes.
+/// The maximum size of a port's encoding: the header, the registers and 64 received bytes.
 pub const SAVED_MAX: usize = SAVED_MIN + FIFO_SIZE;
 
 /// The bytes of a saved port. Contracts see a list of at most 81 bytes.
@@ -27,9 +27,9 @@ pub struct SerialEncoding {
 impl Model for SerialEncoding {
     ghost Value = { List ℕ };
 
-    ghost view = { λ form. take form.count form.bytes };
+    ghost view = { λ encoding. take encoding.count encoding.bytes };
 
-    ghost invariant = { λ form. form.count ≤ 81 };
+    ghost invariant = { λ encoding. encoding.count ≤ 81 };
 }
 
 impl SerialEncoding {
@@ -42,12 +42,12 @@ impl SerialEncoding {
 }
 
 impl Uart {
-    /// The port as bytes; `from_bytes` reads them back. Any struct has a form: a port never holds more than 64 bytes.
-    /// The form has no byte that the guest has read.
+    /// The port as bytes; `from_bytes` reads them back. Any struct has an encoding: a port never holds more than 64
+    /// bytes. The encoding has no byte that the guest has read.
     ///
     /// It is a header of eight bytes, the registers in the order of the fields, and the received bytes, oldest first.
     pub fn to_bytes(&self) -> SerialEncoding
-        ensures form { result ≡ serial_encoding (state_of_uart self.now) }
+        ensures encoding { result ≡ serial_encoding (state_of_uart self.now) }
         ensures at_most_81 { length result ≤ 81 }
     {
         let (held, count) = fifo_to_array(self.in_buffer);
@@ -61,9 +61,10 @@ impl Uart {
     ///
     /// # Errors
     ///
-    /// Returns the first check that fails, in the order of [`SavedStateError`]: any case but [`SavedStateError::InvalidArmed`].
+    /// Returns the first check that fails, in the order of [`SavedStateError`]: any case but
+    /// [`SavedStateError::InvalidArmed`].
     pub fn from_bytes(bytes: &[u8]) -> Result<Uart, SavedStateError>
-        ensures form { IfOk result (λ port. bytes.now ≡ serial_encoding (state_of_uart port)) }
+        ensures encoding { IfOk result (λ port. bytes.now ≡ serial_encoding (state_of_uart port)) }
         ensures at_most_64 { IfOk result (λ port. port.in_buffer.len ≤ 64) }
         ensures read { (state : State) → length state.in_buffer ≤ 64 → bytes.now ≡ serial_encoding state →
             IsOkAnd result (λ port. state_of_uart port ≡ state) }
@@ -94,20 +95,20 @@ fn fifo_to_array(mut held: ArrayFifo) -> ([u8; FIFO_SIZE], usize)
 }
 
 impl Registers {
-    /// Writes the form of a port with these registers and received bytes to the start of `form`, and returns its
+    /// Writes the encoding of a port with these registers and received bytes to the start of an array, and returns its
     /// length. The other bytes do not change.
-    fn encode_serial(&self, held: &[u8], form: &mut [u8; SAVED_MAX]) -> usize
+    fn encode_serial(&self, held: &[u8], encoding: &mut [u8; SAVED_MAX]) -> usize
         requires { length held.now ≤ 64 }
         ensures count { result ≡ length (serial_encoding (state_with self.now held.now)) }
-        ensures form { form.new ≡ serial_encoding (state_with self.now held.now) ++ drop result form.old }
+        ensures encoding { encoding.new ≡ serial_encoding (state_with self.now held.now) ++ drop result encoding.old }
     {
-        let (start, rest) = form.split_at_mut(SAVED_MIN);
+        let (start, rest) = encoding.split_at_mut(SAVED_MIN);
         start.copy_from_slice(&self.encode_prefix(held.len()));
         rest[..held.len()].copy_from_slice(held);
         SAVED_MIN + held.len()
     }
 
-    /// The start of the form of a port with these registers and `held` received bytes.
+    /// The start of the encoding of a port with these registers and `held` received bytes.
     fn encode_prefix(&self, held: usize) -> [u8; SAVED_MIN]
         requires { held ≤ 64 }
         ensures { (in_buffer : List ℕ) → length in_buffer ≡ held →
@@ -139,13 +140,13 @@ impl Registers {
     }
 }
 
-/// The registers and the received bytes of a port's form.
+/// The registers and the received bytes of a port's encoding.
 ///
 /// # Errors
 ///
 /// As for [`Uart::from_bytes`].
 fn decode_serial(bytes: &[u8]) -> Result<(Registers, &[u8]), SavedStateError>
-    ensures form { IfOk result (λ found. bytes.now ≡ serial_encoding (state_with found.0 found.1.now)) }
+    ensures encoding { IfOk result (λ found. bytes.now ≡ serial_encoding (state_with found.0 found.1.now)) }
     ensures at_most_64 { IfOk result (λ found. length found.1.now ≤ 64) }
     ensures fault { result_err result ≡ serial_fault bytes.now }
 {

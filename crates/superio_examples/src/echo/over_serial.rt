@@ -200,8 +200,8 @@ fn echo_input<EV: SerialEvents, W: Write>(
 }
 
 /// A guest opens a new port, and echoes the input, which comes in pieces of at most these sizes and then as there is
-/// room. Its handler takes at most `bound` bytes at each interrupt. Returns the writer, which took exactly the input, in
-/// order.
+/// room. Its handler takes at most `bound` bytes at each interrupt. Returns the writer, which took exactly the input,
+/// in order.
 ///
 /// # Errors
 ///

@@ -30,7 +30,8 @@ state_of_history start trace = record (with_last_writes start trace) {
 
 -- what a guest reads at an offset
 abbrev pub guest_read : (start : State) (trace : Trace) (offset : ℕ) → ℕ
-guest_read start trace offset = register_read (register_at (dlab_after start trace) offset) (state_of_history start trace)
+guest_read start trace offset =
+    register_read (register_at (dlab_after start trace) offset) (state_of_history start trace)
 
 -- an enqueue responds 0 in loopback or for no bytes; otherwise that the FIFO is full, if 64 are held; otherwise the
 -- trigger's refusal; otherwise how many bytes it accepted
@@ -68,7 +69,8 @@ byte_read _ held reply = []
 abbrev pub bytes_read : (start : State) (trace : Trace) (calls : List (TraceEntry × Response)) → List ℕ
 bytes_read start trace [] = []
 bytes_read start trace (call ∷ later) =
-    byte_read (decode_at start trace call.0.op) (held_bytes start trace) call.1 ++ bytes_read start (call.0 ∷ trace) later
+    byte_read (decode_at start trace call.0.op) (held_bytes start trace) call.1
+    ++ bytes_read start (call.0 ∷ trace) later
 
 -- the output of the newest entries, those before `trace` in the list: the values of their THR writes, in order
 abbrev pub output : (start : State) (trace newest : Trace) → List ℕ

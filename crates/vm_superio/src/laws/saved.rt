@@ -11,27 +11,27 @@ use std::alloc::Global;
 use superio_core::rtc_pl031::encoding::SAVED_SIZE;
 use superio_core::serial::Uart;
 
-/// A written form passes every check when read.
+/// A written encoding passes every check when read.
 #[tactic(auto, using(superio_core::proofs::Lemmas::Saved::encodings_are_read_laws))]
 pub fn encodings_are_read()
     ensures serial { SerialEncodingLaw }
     ensures clock { ClockEncodingLaw }
 {}
 
-/// No two states share a form.
+/// No two states share an encoding.
 #[tactic(auto, using(superio_core::proofs::Lemmas::Saved::one_state_of_an_encoding_laws))]
 pub fn one_state_of_an_encoding()
     ensures serial { OneSerialStateLaw }
     ensures clock { OneClockStateLaw }
 {}
 
-/// Each form has the version of its writer at the same place.
+/// Each encoding has the version of its writer at the same place.
 pub fn version_of_an_encoding()
     ensures serial { SerialVersionLaw }
     ensures clock { ClockVersionLaw }
 {}
 
-/// A form of another version, older or newer, is refused for its version and for nothing else.
+/// An encoding of another version, older or newer, is refused for its version and for nothing else.
 pub fn other_versions_are_refused()
     ensures serial { OtherSerialVersionLaw }
     ensures clock { OtherClockVersionLaw }

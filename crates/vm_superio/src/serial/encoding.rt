@@ -1,4 +1,4 @@
-//! The state of a serial port, and its byte form.
+//! The state of a serial port, and its encoding.
 ghost use Rattle.std.specs.Prelude.{◌≡◌, ◌↔◌, ◌≤◌, ℕ, length, IfOk, IfErr, IsOk, IfSome, IsTrue, MatchResult};
 ghost use Rattle.vm_superio.specs.Saved.{state_of};
 ghost use Rattle.superio_core.specs.Serial.{State, fresh_state, Coherent};
@@ -157,9 +157,9 @@ impl SerialState {
     ///
     /// # Errors
     ///
-    /// Returns [`SavedStateError::TooManyBytes`] if the state has more than 64 received bytes, and so no form.
+    /// Returns [`SavedStateError::TooManyBytes`] if the state has more than 64 received bytes, and so no encoding.
     pub fn to_bytes(&self) -> Result<SerialEncoding, SavedStateError>
-        ensures form { IfOk result (λ form. form ≡ serial_encoding (state_of self.now)) }
+        ensures encoding { IfOk result (λ encoding. encoding ≡ serial_encoding (state_of self.now)) }
         ensures at_most_64 { IsOk result ↔ (length self.now.in_buffer.items ≤ 64) }
         ensures too_many { IfErr result (λ error. error ≡ SavedStateError.TooManyBytes) }
     {
@@ -171,10 +171,10 @@ impl SerialState {
     ///
     /// # Errors
     ///
-    /// Returns the first check that fails, in the order of [`SavedStateError`]: any case but [`SavedStateError::InvalidArmed`]. Then
-    /// returns [`LoadError::Memory`] if allocating the received bytes fails.
+    /// Returns the first check that fails, in the order of [`SavedStateError`]: any case but
+    /// [`SavedStateError::InvalidArmed`]. Then returns [`LoadError::Memory`] if allocating the received bytes fails.
     pub fn from_bytes(alloc: Global, bytes: &[u8]) -> Result<SerialState, LoadError>
-        ensures form { IfOk result (λ state. bytes.now ≡ serial_encoding (state_of state)) }
+        ensures encoding { IfOk result (λ state. bytes.now ≡ serial_encoding (state_of state)) }
         ensures read { (state : State) → length state.in_buffer ≤ 64 → bytes.now ≡ serial_encoding state →
             MatchResult result (λ saved. state_of saved ≡ state) (λ error. error ≡ LoadError.Memory) }
         ensures at_most_64 { IfOk result (λ state. length state.in_buffer.items ≤ 64) }

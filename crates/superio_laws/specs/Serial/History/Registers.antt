@@ -47,7 +47,8 @@ divisor_high start trace =
 abbrev pub ier_after : (start : State) (trace : Trace) → ℕ
 ier_after start trace =
     option_map_or (λ value. only_bits value ier_bits)
-    (last_found (λ before op. if dlab_after start before then None else value_written_at 1 op) trace) start.interrupt_enable
+    (last_found (λ before op. if dlab_after start before then None else value_written_at 1 op) trace)
+    start.interrupt_enable
 
 -- the start with each register at its last effective write. MSR keeps its byte, and IIR and LSR have rules of their own
 abbrev pub with_last_writes : (start : State) (trace : Trace) → State

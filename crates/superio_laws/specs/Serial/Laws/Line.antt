@@ -25,7 +25,8 @@ TimeoutCallsLaw = (start : State) (trace : Trace) (asked : Asked)
 
 -- the same for every timeout of a fitting trace, with the answers that it records
 abbrev pub RdaFollowsTimeoutsLaw : Type 0
-RdaFollowsTimeoutsLaw = (start : State) (trace : Trace) → IsTrue (is_fitting start trace) → RdaFollowsTimeouts start trace
+RdaFollowsTimeoutsLaw =
+    (start : State) (trace : Trace) → IsTrue (is_fitting start trace) → RdaFollowsTimeouts start trace
 
 -- ---- a driver that is run by interrupts, whatever else it does: no byte waits for ever
 

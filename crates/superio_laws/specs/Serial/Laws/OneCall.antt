@@ -51,7 +51,9 @@ RbrDataReadyLaw = (s : State) → is_dlab s.line_control ≡ false
 -- `Ok` means that the writer took the byte: its contents, if they are known, grew by it
 pub record SendsByte (s new : State) (value : ℕ) (response : Response) (sent : Sent) : Type 0 where
   pub outcome : IsTrue (is_sent sent)
-  pub state : new ≡ record s { interrupt_identification = iir_after_raise Thre s.interrupt_enable s.interrupt_identification }
+  pub state : new ≡ record s {
+    interrupt_identification = iir_after_raise Thre s.interrupt_enable s.interrupt_identification;
+  }
   pub taken : WriteOk ≡ response → sent ≡ Sent.Out
 
 abbrev pub ThrWriteLaw : Type 0

@@ -78,7 +78,8 @@ module _ {T E EV W : Type 0} where
 
     -- the first segment of a run begins with the port as it is
     abbrev pub segments_of :
-        (start : SerialView T EV W) (calls : List (Call T EV W)) (records : List (Done T EV W E)) (end : SerialView T EV W)
+        (start : SerialView T EV W) (calls : List (Call T EV W)) (records : List (Done T EV W E))
+        (end : SerialView T EV W)
         → List (Segment T E EV W)
     segments_of start calls records end = record {
       before = [];

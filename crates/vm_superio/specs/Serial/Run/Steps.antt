@@ -34,11 +34,13 @@ module _ {T E EV W : Type 0} (links : SerialLinks T E EV W) where
 
   -- there is one record for each call, in order, and each call begins with the port that the one before left
   abbrev pub IsRun :
-      (old : SerialView T EV W) (calls : List (Call T EV W)) (records : List (Done T EV W E)) (end : SerialView T EV W) → Type 0
+      (old : SerialView T EV W) (calls : List (Call T EV W)) (records : List (Done T EV W E))
+      (end : SerialView T EV W) → Type 0
   IsRun old [] [] end = end ≡ old
   IsRun old (call ∷ calls) (done ∷ later) end =
       (done.act ≡ act_of call)
-      × ((next : SerialView T EV W) × IsCallStep call done.asked done.sent done.reply old next × IsRun next calls later end)
+      × ((next : SerialView T EV W)
+      × IsCallStep call done.asked done.sent done.reply old next × IsRun next calls later end)
   IsRun old [] (done ∷ later) end = ⊥
   IsRun old (call ∷ calls) [] end = ⊥
 
