@@ -35,6 +35,7 @@ pub struct Uart {
 
 impl Uart {
     /// A fresh port: divisor 12, 8 bits a character, OUT2 set, and nothing enabled, pending or held.
+    #[tactic(auto, using(crate::proofs::Lemmas::Serial::fresh_coherent))]
     pub fn new() -> Uart
         ensures state { state_of_uart result ≡ fresh_state }
         ensures coherent { CoherentUart result }
@@ -57,6 +58,7 @@ impl Uart {
 
     /// Writes `value` at `offset`, as a guest does. Then send the byte if it goes out, and ask for the interrupts.
     /// Neither a lost byte nor a refusal changes the port.
+    #[tactic(auto, using(crate::proofs::Lemmas::Serial::Coherence::write_coherent))]
     #[inline(always)]
     pub fn write(&mut self, offset: u8, value: u8) -> WriteEffects
         ensures step { IsUartWrite offset value result (state_of_uart self.old) (state_of_uart self.new) }
@@ -78,6 +80,7 @@ impl Uart {
 
     /// Receives as many bytes for the guest as fit, first ones first. In loopback it accepts no bytes. The port keeps
     /// the bytes even if the interrupt is then refused.
+    #[tactic(auto, using(crate::proofs::Lemmas::Serial::Coherence::enqueue_coherent))]
     #[inline(always)]
     pub fn enqueue_raw_bytes(&mut self, input: &[u8]) -> EnqueueEffects
         ensures step { IsUartEnqueue input.now result (state_of_uart self.old) (state_of_uart self.new) }

@@ -2,12 +2,12 @@
 // These are the lines that the prover checks, without their contracts. Change them there.
 //! A saved state as bytes: its header, and why bytes are refused.
 //!
-//! The form is the same on every machine. A state has at most one form, and no two states share one.
+//! The encoding is the same on every machine. A state has at most one encoding, and no two states share one.
 
 /// The first bytes of a saved state.
 const MAGIC: [u8; 4] = *b"SIOS";
 
-/// The version of the form.
+/// The version of the encoding.
 const VERSION: u8 = 1;
 
 /// The length of the header.
@@ -29,7 +29,7 @@ pub enum SavedStateError {
     NotASavedState,
     /// The state belongs to another device.
     OtherDevice,
-    /// The form has this version, which is not 1.
+    /// The encoding has this version, which is not 1.
     UnknownVersion(u8),
     /// The length in the header is not that of the rest, or no state of the device has it.
     WrongLength,
@@ -50,8 +50,8 @@ pub(crate) fn header(kind: u8, length: u16) -> [u8; 8] {
 ///
 /// # Errors
 ///
-/// The first header check that fails: [`SavedStateError::TooShort`], [`SavedStateError::NotASavedState`], [`SavedStateError::OtherDevice`],
-/// [`SavedStateError::UnknownVersion`] or [`SavedStateError::WrongLength`].
+/// The first header check that fails: [`SavedStateError::TooShort`], [`SavedStateError::NotASavedState`],
+/// [`SavedStateError::OtherDevice`], [`SavedStateError::UnknownVersion`] or [`SavedStateError::WrongLength`].
 pub(crate) fn decode_header(kind: u8, bytes: &[u8]) -> Result<&[u8], SavedStateError> {
     match bytes {
         [

@@ -1,10 +1,10 @@
 // Made by the command tools/erase from crates/superio_core/src/rtc_pl031/encoding.rt.
 // These are the lines that the prover checks, without their contracts. Change them there.
-//! The state of a clock, as vm-superio names its fields, and its byte form.
+//! The state of a clock, as vm-superio names its fields, and its encoding.
 
 use super::super::saved::{CLOCK_KIND, SavedStateError, decode_header, header};
 
-/// The size of a clock's byte form: the header and 25 bytes.
+/// The size of a clock's encoding: the header and 25 bytes.
 pub const SAVED_SIZE: usize = 33;
 
 /// The number of bytes after the header.
@@ -79,8 +79,9 @@ impl RtcState {
     ///
     /// # Errors
     ///
-    /// Returns the first check that fails, in the order of [`SavedStateError`]: any case but [`SavedStateError::TooManyBytes`].
-    // Clauses in crates/superio_core/src/rtc_pl031/encoding.rt: form, read, fault.
+    /// Returns the first check that fails, in the order of [`SavedStateError`]: any case but
+    /// [`SavedStateError::TooManyBytes`].
+    // Clauses in crates/superio_core/src/rtc_pl031/encoding.rt: encoding, read, fault.
     pub fn from_bytes(bytes: &[u8]) -> Result<RtcState, SavedStateError> {
         Self::parse(bytes)
     }

@@ -1,16 +1,16 @@
 // Made by the command tools/erase from crates/superio_core/src/serial/encoding.rt.
 // These are the lines that the prover checks, without their contracts. Change them there.
-//! The byte form of a serial port's state.
+//! The encoding of a serial port's state.
 
 use super::super::fifo::{FIFO_SIZE, RxFifo, ArrayFifo};
 use super::super::saved::{SavedStateError, HEADER_SIZE, SERIAL_KIND, decode_header, header};
 use super::Uart;
 use super::registers::{REGISTER_COUNT, Registers};
 
-/// The size of a form without received bytes: the header and the registers.
+/// The size of an encoding without received bytes: the header and the registers.
 const SAVED_MIN: usize = HEADER_SIZE + REGISTER_COUNT;
 
-/// The maximum size of a port's byte form: the header, the registers and 64 received bytes.
+/// The maximum size of a port's encoding: the header, the registers and 64 received bytes.
 pub const SAVED_MAX: usize = SAVED_MIN + FIFO_SIZE;
 
 /// The bytes of a saved port. Contracts see a list of at most 81 bytes.
@@ -28,11 +28,11 @@ impl SerialEncoding {
 }
 
 impl Uart {
-    /// The port as bytes; `from_bytes` reads them back. Any struct has a form: a port never holds more than 64 bytes.
-    /// The form has no byte that the guest has read.
+    /// The port as bytes; `from_bytes` reads them back. Any struct has an encoding: a port never holds more than 64
+    /// bytes. The encoding has no byte that the guest has read.
     ///
     /// It is a header of eight bytes, the registers in the order of the fields, and the received bytes, oldest first.
-    // Clauses in crates/superio_core/src/serial/encoding.rt: form, at_most_81.
+    // Clauses in crates/superio_core/src/serial/encoding.rt: encoding, at_most_81.
     pub fn to_bytes(&self) -> SerialEncoding {
         let (held, count) = fifo_to_array(self.in_buffer);
         let mut bytes = [0; SAVED_MAX];
@@ -45,8 +45,9 @@ impl Uart {
     ///
     /// # Errors
     ///
-    /// Returns the first check that fails, in the order of [`SavedStateError`]: any case but [`SavedStateError::InvalidArmed`].
-    // Clauses in crates/superio_core/src/serial/encoding.rt: form, at_most_64, read, fault.
+    /// Returns the first check that fails, in the order of [`SavedStateError`]: any case but
+    /// [`SavedStateError::InvalidArmed`].
+    // Clauses in crates/superio_core/src/serial/encoding.rt: encoding, at_most_64, read, fault.
     pub fn from_bytes(bytes: &[u8]) -> Result<Uart, SavedStateError> {
         let (registers, held) = decode_serial(bytes)?;
         let mut in_buffer = ArrayFifo::new();
@@ -70,16 +71,16 @@ fn fifo_to_array(mut held: ArrayFifo) -> ([u8; FIFO_SIZE], usize) {
 }
 
 impl Registers {
-    /// Writes the form of a port with these registers and received bytes to the start of `form`, and returns its
+    /// Writes the encoding of a port with these registers and received bytes to the start of an array, and returns its
     /// length. The other bytes do not change.
-    fn encode_serial(&self, held: &[u8], form: &mut [u8; SAVED_MAX]) -> usize {
-        let (start, rest) = form.split_at_mut(SAVED_MIN);
+    fn encode_serial(&self, held: &[u8], encoding: &mut [u8; SAVED_MAX]) -> usize {
+        let (start, rest) = encoding.split_at_mut(SAVED_MIN);
         start.copy_from_slice(&self.encode_prefix(held.len()));
         rest[..held.len()].copy_from_slice(held);
         SAVED_MIN + held.len()
     }
 
-    /// The start of the form of a port with these registers and `held` received bytes.
+    /// The start of the encoding of a port with these registers and `held` received bytes.
     fn encode_prefix(&self, held: usize) -> [u8; SAVED_MIN] {
         let [m0, m1, m2, m3, kind, version, low, high] = header(
             SERIAL_KIND,
@@ -107,7 +108,7 @@ impl Registers {
     }
 }
 
-/// The registers and the received bytes of a port's form.
+/// The registers and the received bytes of a port's encoding.
 ///
 /// # Errors
 ///

@@ -1,6 +1,6 @@
 -- A step keeps a coherent state coherent.
 use Rattle.std.proofs.Common.{◌≡◌, ℕ, ◌+◌, ◌≤◌, Bool, true, false, not, ◌==◌, ◌&&◌, ◌||◌, List, [], ◌∷◌, ◌++◌, length, drop, refl, ap, sym, ◌∙◌, subst, length-append, length-take, length-drop, arith, if◌then◌else◌, IsTrue}
-use Rattle.superio_core.specs.Serial.Operations.{Asked, Op, Enqueue, is_refused_at_once, DecodedOp, RbrRead, IirRead, IerWrite, ThrWrite, RxInput, Timeout, Other}
+use Rattle.superio_core.specs.Serial.Operations.{Asked, Op, Write, Enqueue, is_refused_at_once, DecodedOp, RbrRead, IirRead, IerWrite, ThrWrite, RxInput, Timeout, Other}
 use Rattle.superio_core.specs.declared.serial.Asked.TheVariants.{Nothing}
 use Rattle.superio_core.specs.Serial.{State, not_empty, Coherent}
 use Rattle.superio_core.specs.Serial.RegisterMap.{Thre, Rda, identification_of, is_loopback}
@@ -141,3 +141,11 @@ pub receive-coherent :
 receive-coherent s bytes outside before =
     subst (λ loopback. Coherent (receive_bytes (if loopback then [] else bytes_that_fit s.in_buffer bytes) s)) outside
     (coherence_law s (Enqueue bytes) Nothing before)
+
+-- ---- a write and an enqueue, in the form in which the search applies them
+
+pub write_coherent : (s : State) (offset value : ℕ) → Coherent s → Coherent (step s (Write offset value) Nothing)
+write_coherent s offset value before = coherence_law s (Write offset value) Nothing before
+
+pub enqueue_coherent : (s : State) (bytes : List ℕ) → Coherent s → Coherent (step s (Enqueue bytes) Nothing)
+enqueue_coherent s bytes before = coherence_law s (Enqueue bytes) Nothing before
