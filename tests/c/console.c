@@ -1,3 +1,4 @@
+/* SPDX-License-Identifier: Apache-2.0 OR BSD-3-Clause */
 /*
  * Guests that receive and send at once, over the C library and a monitor that follows superio.h. In each exchange all
  * bytes have to arrive, in order and in both directions, and no timer may be needed: once everything has come, only a

@@ -1,3 +1,4 @@
+/* SPDX-License-Identifier: Apache-2.0 OR BSD-3-Clause */
 /*
  * Drives the monitor of examples/c by the lines of demo.txt, which come on standard input, in place of its `main`.
  * Prints them, and beside each what the monitor prints for it.

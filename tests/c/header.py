@@ -1,3 +1,4 @@
+# SPDX-License-Identifier: Apache-2.0 OR BSD-3-Clause
 """The C interface as a table: the structs, the functions and the constants that bindings/c/superio.h declares."""
 import re
 from typing import Dict, List, NamedTuple, Union

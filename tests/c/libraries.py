@@ -1,3 +1,4 @@
+# SPDX-License-Identifier: Apache-2.0 OR BSD-3-Clause
 """The files of the C library: where they are, and the digests by which others compare them."""
 import hashlib
 import re

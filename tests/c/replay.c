@@ -1,3 +1,4 @@
+/* SPDX-License-Identifier: Apache-2.0 OR BSD-3-Clause */
 /*
  * Makes the calls of tests/data/calls and of own.txt, which come on standard input, over the C library, as C and as
  * C++, and compares what each did. The trigger, the writer and the events object, which the library leaves to its

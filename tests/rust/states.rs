@@ -1,3 +1,4 @@
+// SPDX-License-Identifier: Apache-2.0 OR BSD-3-Clause
 //! Tests that states go through serde's formats as those of the Rust crate vm-superio 0.8.2 do.
 #![cfg(test)]
 

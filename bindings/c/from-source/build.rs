@@ -1,3 +1,4 @@
+// SPDX-License-Identifier: Apache-2.0 OR BSD-3-Clause
 //! Gives the shared library the name under which programs look for it: it ends with the number of the binary interface.
 fn main() {
     println!("cargo:rerun-if-changed=build.rs");

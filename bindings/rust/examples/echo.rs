@@ -1,3 +1,4 @@
+// SPDX-License-Identifier: Apache-2.0 OR BSD-3-Clause
 //! A guest's driver that sends back what you type, in capitals: `echo hello | cargo run --example echo` prints HELLO.
 //!
 //! Each line of standard input reaches the port as a terminal's input would. The driver below is the guest. It is

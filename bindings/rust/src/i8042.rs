@@ -1,3 +1,4 @@
+// SPDX-License-Identifier: Apache-2.0 OR BSD-3-Clause
 //! An i8042 keyboard controller, reduced to CPU reset.
 use crate::sansio::is_reset_command;
 use crate::Trigger;

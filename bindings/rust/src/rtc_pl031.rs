@@ -1,3 +1,4 @@
+// SPDX-License-Identifier: Apache-2.0 OR BSD-3-Clause
 //! A PL031 real-time clock, which counts seconds.
 //!
 //! # The alarm

@@ -1,3 +1,4 @@
+// SPDX-License-Identifier: Apache-2.0 OR BSD-3-Clause
 //! A serial port with the registers of a 16550.
 use std::error::Error as StdError;
 use std::fmt;

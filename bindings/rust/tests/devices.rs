@@ -1,3 +1,4 @@
+// SPDX-License-Identifier: Apache-2.0 OR BSD-3-Clause
 //! What a monitor in Rust alone sees of the devices: their writers and objects, the host's time, long input, texts,
 //! conversions and what threads may do. What any monitor sees is in the lines of tests/data/calls and
 //! tests/c/shared.txt of the repository.

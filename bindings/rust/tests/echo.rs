@@ -1,3 +1,4 @@
+// SPDX-License-Identifier: Apache-2.0 OR BSD-3-Clause
 //! What a monitor owes its guest, by scripted accesses of the one in examples/echo.rs. Each step says how often it
 //! interrupts the guest, and how much room the FIFO has after it.
 use std::cell::Cell;

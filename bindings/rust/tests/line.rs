@@ -1,3 +1,4 @@
+// SPDX-License-Identifier: Apache-2.0 OR BSD-3-Clause
 //! The interrupt line as a level, under a model of an interrupt controller that takes levels.
 use std::convert::Infallible;
 use std::io::{self, Sink};

@@ -1,21 +1,12 @@
-//! The functions of `bindings/c/superio.h`, which describes them, for any target that rustc knows.
-//!
-//! `cargo build --release` makes `libsuperio_c.a` and a shared library. They need a C library's `memcpy`, `memmove` and
-//! `memset`, and nothing else: no allocator, no operating system. The devices are the erased sources of `superio_core`,
-//! and this crate alone has `unsafe` code: the memory that C passes.
+// SPDX-License-Identifier: Apache-2.0 OR BSD-3-Clause
+#![doc = include_str!("../README.md")]
 #![no_std]
 #![deny(unsafe_op_in_unsafe_fn)]
 
-#[rustfmt::skip] // as the proved source
-#[allow(clippy::all)]
-#[allow(dead_code, unused_imports)] // what the functions of the header do not need
-#[path = "../../../rust/src/core/mod.rs"]
-mod devices;
-
-use devices::rtc_pl031::encoding::SAVED_SIZE;
-use devices::rtc_pl031::{Pl031, RtcState};
-use devices::saved::SavedStateError;
-use devices::serial::{EnqueueEffects, ReadEffects, Uart, WriteEffects};
+use superio::rtc_pl031::encoding::SAVED_SIZE;
+use superio::saved::SavedStateError;
+use superio::serial::{EnqueueEffects, ReadEffects, WriteEffects};
+use superio::{is_reset_command, Pl031, RtcState, Uart};
 
 /// Changes with every change to a struct or to the meaning of a call.
 const ABI: u32 = 4;
@@ -137,7 +128,7 @@ pub unsafe extern "C" fn superio_serial_load(port: *mut Uart, bytes: *const u8, 
 
 /// # Safety
 ///
-/// [`SAVED_SIZE`] bytes outside the clock can be written at `bytes`. They need not be set.
+/// 33 bytes outside the clock can be written at `bytes`. They need not be set.
 #[no_mangle]
 pub unsafe extern "C" fn superio_rtc_save(clock: &Pl031, bytes: *mut u8) {
     let saved = clock.state().to_bytes();
@@ -174,11 +165,7 @@ pub extern "C" fn superio_serial_write(port: &mut Uart, offset: u8, value: u8) -
 ///
 /// `count` bytes outside the port can be read at `bytes`, which may be null if `count` is 0.
 #[no_mangle]
-pub unsafe extern "C" fn superio_serial_enqueue(
-    port: &mut Uart,
-    bytes: *const u8,
-    count: usize,
-) -> EnqueueEffects {
+pub unsafe extern "C" fn superio_serial_enqueue(port: &mut Uart, bytes: *const u8, count: usize) -> EnqueueEffects {
     // SAFETY: as the function requires, and `port` is borrowed alone: nobody writes the bytes during the call.
     port.enqueue_raw_bytes(unsafe { bytes_at(bytes, count) })
 }
@@ -220,7 +207,7 @@ pub extern "C" fn superio_i8042_read(_offset: u8) -> u8 {
 
 #[no_mangle]
 pub extern "C" fn superio_i8042_write(offset: u8, value: u8) -> I8042WriteEffects {
-    I8042WriteEffects { resets: devices::i8042::is_reset_command(offset, value) }
+    I8042WriteEffects { resets: is_reset_command(offset, value) }
 }
 
 /// No call reaches this: it is proved that none panics. A library without an operating system has to have it.

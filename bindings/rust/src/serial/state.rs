@@ -1,3 +1,4 @@
+// SPDX-License-Identifier: Apache-2.0 OR BSD-3-Clause
 //! The saved state of a serial port.
 use crate::sansio::fifo::{ArrayFifo, RxFifo, FIFO_SIZE};
 use crate::sansio::serial::Registers;

@@ -1,3 +1,4 @@
+// SPDX-License-Identifier: Apache-2.0 OR BSD-3-Clause
 //! The character timeout, which vm-superio 0.8.2 does not have.
 use std::io::Write;
 

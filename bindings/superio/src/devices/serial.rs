@@ -1,6 +1,7 @@
+// SPDX-License-Identifier: Apache-2.0 OR BSD-3-Clause
 // Made by the command tools/erase from crates/superio_core/src/serial.rt.
 // These are the lines that the prover checks, without their contracts. Change them there.
-//! A serial port with the registers of a 16550, as a value.
+//! A serial port with the registers of a 16550, without I/O.
 //!
 //! A call changes the port and returns what is left to do: a byte to send, interrupts to raise, or events to report.
 //! The port owns no objects and allocates no memory, so a monitor keeps it where it likes, in any language.
@@ -8,8 +9,8 @@
 //! The steps of its calls are methods of the registers, at the end. They take the received bytes if they use them, and
 //! work with every receive FIFO.
 
-pub mod registers;
 pub mod encoding;
+pub mod registers;
 
 pub use super::fifo::ArrayFifo;
 use super::fifo::{FIFO_SIZE, RxFifo};
@@ -311,12 +312,7 @@ impl Registers {
     /// happens to the byte. The due trigger calls count as taken: `cancel_thre` applies a refusal.
     #[inline(always)]
     // Clauses in crates/superio_core/src/serial.rt: sends, interrupts, at_most_2, state, len_in_range.
-    pub fn write<F: RxFifo>(
-        &mut self,
-        fifo: &mut F,
-        register: Register,
-        value: u8,
-    ) -> WriteEffects {
+    pub fn write<F: RxFifo>(&mut self, fifo: &mut F, register: Register, value: u8) -> WriteEffects {
         let mut sends = false;
         let mut interrupts = 0;
         match register {

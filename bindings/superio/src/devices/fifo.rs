@@ -1,3 +1,4 @@
+// SPDX-License-Identifier: Apache-2.0 OR BSD-3-Clause
 // Made by the command tools/erase from crates/superio_core/src/fifo.rt.
 // These are the lines that the prover checks, without their contracts. Change them there.
 //! What a port needs of its receive FIFO, and a FIFO in the 64 places of an array.

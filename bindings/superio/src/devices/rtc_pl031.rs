@@ -1,17 +1,18 @@
+// SPDX-License-Identifier: Apache-2.0 OR BSD-3-Clause
 // Made by the command tools/erase from crates/superio_core/src/rtc_pl031.rt.
 // These are the lines that the prover checks, without their contracts. Change them there.
-//! A real-time clock with the registers of an ARM PL031, as a value.
+//! A real-time clock with the registers of an ARM PL031, without I/O.
 //!
 //! A call changes the clock and returns what the guest reads, or whether the access is invalid. The clock reads no
 //! clock of the host: each access gets its moment, in seconds since 1970.
 
 mod alarm;
-mod registers;
 pub mod encoding;
+mod registers;
 
 use alarm::{guest_time, seconds_until};
-pub use registers::ClockRegister;
 pub use encoding::RtcState;
+pub use registers::ClockRegister;
 
 /// A clock without an events object. Any values are valid.
 #[repr(C)]

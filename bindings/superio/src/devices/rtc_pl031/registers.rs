@@ -1,3 +1,4 @@
+// SPDX-License-Identifier: Apache-2.0 OR BSD-3-Clause
 // Made by the command tools/erase from crates/superio_core/src/rtc_pl031/registers.rt.
 // These are the lines that the prover checks, without their contracts. Change them there.
 //! The PL031's register map.

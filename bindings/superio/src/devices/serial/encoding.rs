@@ -1,9 +1,10 @@
+// SPDX-License-Identifier: Apache-2.0 OR BSD-3-Clause
 // Made by the command tools/erase from crates/superio_core/src/serial/encoding.rt.
 // These are the lines that the prover checks, without their contracts. Change them there.
 //! The encoding of a serial port's state.
 
-use super::super::fifo::{FIFO_SIZE, RxFifo, ArrayFifo};
-use super::super::saved::{SavedStateError, HEADER_SIZE, SERIAL_KIND, decode_header, header};
+use super::super::fifo::{ArrayFifo, FIFO_SIZE, RxFifo};
+use super::super::saved::{HEADER_SIZE, SERIAL_KIND, SavedStateError, decode_header, header};
 use super::Uart;
 use super::registers::{REGISTER_COUNT, Registers};
 

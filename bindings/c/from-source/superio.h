@@ -1,0 +1,1 @@
+../superio.h
