@@ -1,3 +1,4 @@
+// SPDX-License-Identifier: Apache-2.0 OR BSD-3-Clause
 /** Recorded boots of a Linux kernel, made again call by call. examples/linux-boot/README.md has their format. */
 import { Board, bytesOf, hex, hexOf, parse } from "./board.mjs";
 

@@ -1,6 +1,7 @@
 #!/usr/bin/env python3
+# SPDX-License-Identifier: Apache-2.0 OR BSD-3-Clause
 """Packs the modules of bindings/js and of web, and the recorded boots, into the page docs/try.html, which then needs no
-network.
+network, and those of bindings/js into bindings/js/superio.cjs, which `require` takes.
 
     web/build.py
 
@@ -22,27 +23,49 @@ from tally import takes_no_argument  # noqa: E402
 PACKAGE = ROOT / "bindings" / "js"
 RECORDINGS = ROOT / "examples" / "linux-boot"
 PAGE = ROOT / "docs" / "try.html"
+REQUIRED = PACKAGE / "superio.cjs"
 # In the order in which each finds what it takes from those before it.
-MODULES = [*(PACKAGE / f"{name}.mjs" for name in ("module", "registers", "superio")),
-           *(ROOT / "web" / f"{name}.mjs" for name in ("board", "why", "boot", "page"))]
+OF_PACKAGE = [PACKAGE / f"{name}.mjs" for name in ("module", "registers", "superio")]
+MODULES = [*OF_PACKAGE, *(ROOT / "web" / f"{name}.mjs" for name in ("board", "why", "boot", "page"))]
+# How superio.mjs makes its instance, and how a module does that may not wait.
+WAITING = "const { instance } = await WebAssembly.instantiate(bytesOfModule);"
+AT_ONCE = "const instance = new WebAssembly.Instance(new WebAssembly.Module(bytesOfModule));"
 # What a browser does without: imports and exports of names, comments that have lines of their own, and empty lines.
 LEFT_OUT = re.compile(r"^(?:import [^;]+;|export \{[^}]*\};| *//.*| */\*\*[\s\S]*?\*/)?\n", re.M)
 PACKED = re.compile(r'(<script type="text/plain" id="([\w-]+)">)([^<]*)')
 
 
-def sources():
-    """What is packed, by the name of its element: the boots, and the modules as one script. There each is a block of
-    its own, so that only what it exports is seen; names stay, and an import is of a name before it."""
+def in_one(modules, begin, end):
+    """Modules as one script. There each is a block of its own, with what it begins and ends with, so that only what it
+    exports is seen; names stay, and an import is of a name before it."""
     script = []
-    for module in MODULES:
+    for module in modules:
         text = module.read_text(encoding="utf-8")
         text = LEFT_OUT.sub("", text).replace("export default ", "export const text = ")
         names = ", ".join(re.findall(r"^export (?:async )?(?:const|class|function) (\w+)", text, flags=re.M))
         body = re.sub(r"^export ", "", text, flags=re.M)
-        script.append(f"const {{ {names} }} = await (async () => {{\n{body}return {{ {names} }};\n}})();\n")
+        script.append(f"const {{ {names} }} = {begin}\n{body}return {{ {names} }};\n{end}\n")
+    return "\n".join(script)
+
+
+def sources():
+    """What is packed, by the name of its element: the boots, and the modules."""
     boots = {f"{name}-recording": lzma.decompress((RECORDINGS / f"{name}.recording.xz").read_bytes())
              for name in ("boot", "console")}
-    return {**boots, "modules": "\n".join(script).encode()}
+    return {**boots, "modules": in_one(MODULES, "await (async () => {", "})();").encode()}
+
+
+def required():
+    """The text of superio.cjs, which exports what superio.mjs does."""
+    own = OF_PACKAGE[-1].read_text(encoding="utf-8")
+    names = sorted(re.findall(r"^export (?:class (?=\w)|\{ (?=\w+ \};))(\w+)", own, flags=re.M))
+    script = in_one(OF_PACKAGE, "(() => {", "})();")
+    if WAITING not in script:
+        raise ValueError(f"{OF_PACKAGE[-1]} has no line {WAITING}")
+    return "\n".join(["// SPDX-License-" "Identifier: Apache-2.0 OR BSD-3-Clause",
+                      "// Made by the command web/build.py from module.mjs, registers.mjs and superio.mjs, for `require`.",
+                      '"use strict";', "", script.replace(WAITING, AT_ONCE),
+                      f"module.exports = {{ {', '.join(names)} }};", ""])
 
 
 def packed(source):
@@ -60,3 +83,4 @@ if __name__ == "__main__":
     parts = sources()
     page = PACKED.sub(lambda found: found[1] + packed(parts[found[2]]), PAGE.read_text(encoding="utf-8"))
     PAGE.write_text(page, encoding="utf-8")
+    REQUIRED.write_text(required(), encoding="utf-8")

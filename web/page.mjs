@@ -1,3 +1,4 @@
+// SPDX-License-Identifier: Apache-2.0 OR BSD-3-Clause
 /** The page: what it shows of a board, and which call each control makes. */
 import { CLOCK, DLAB, SERIAL, isThere, serialRegister } from "../bindings/js/registers.mjs";
 import { Board, hex, hexOf, parse, programLines, runScript, syntaxOf } from "./board.mjs";

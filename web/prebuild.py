@@ -1,4 +1,5 @@
 #!/usr/bin/env python3
+# SPDX-License-Identifier: Apache-2.0 OR BSD-3-Clause
 """Builds the WebAssembly module that the repository holds: Cargo's C library, over the erased proved devices.
 
     web/prebuild.py
@@ -12,6 +13,7 @@ import ctypes
 import json
 import shutil
 import sys
+import tempfile
 from pathlib import Path
 
 ROOT = Path(__file__).resolve().parent.parent
@@ -23,15 +25,19 @@ from superio.registers import CLOCK, SERIAL, RtcState  # noqa: E402
 from superio.saved import SAVED_STATE_ERRORS  # noqa: E402
 from tally import run, takes_no_argument  # noqa: E402
 
-TARGET, MODULE, SOURCES = "wasm32-unknown-unknown", "wasm32/superio.wasm", "bindings/c/from-source/src"
+TARGET, MODULE = "wasm32-unknown-unknown", "wasm32/superio.wasm"
+# The functions of the module, and the crate of the devices.
+SOURCES, DEVICES = "bindings/c/from-source/src", "bindings/superio/src"
 EMBEDDED = ROOT / "bindings" / "js" / "module.mjs"
 # The compiler whose bytes the repository holds, the library of its target, and Debian's packages that have them.
 VERSION, LIBRARY = "rustc 1.63.0\n", DEBIAN_RUSTC.parents[1] / "lib" / "rustlib" / TARGET
 PACKAGES = "Debian 12's rustc, libstd-rust-dev-wasm32 and lld"
 # A small stack, and memory for a device and the longest bytes that a call can be passed. The paths in the module are
 # those below the top of the repository, so that its bytes are the same in any folder.
-OPTIONS = """--crate-name superio --crate-type cdylib --edition 2021 -C opt-level=z -C lto=fat -C panic=abort
-    -C codegen-units=1 -C strip=symbols -C link-arg=-zstack-size=16384 -C link-arg=--initial-memory=131072""".split()
+OPTIONS = [*f"--target {TARGET} --edition 2021 -C opt-level=z -C panic=abort -C codegen-units=1".split(),
+           f"--remap-path-prefix={ROOT}=."]
+MODULE_OPTIONS = """--crate-name superio_c --crate-type cdylib -C lto=fat -C strip=symbols
+    -C link-arg=-zstack-size=16384 -C link-arg=--initial-memory=131072""".split()
 # Kinds of numbers, as DataView names them.
 KINDS = {ctypes.c_uint32: "Uint32", ctypes.c_int64: "BigInt64", ctypes.c_uint64: "BigUint64"}
 
@@ -44,7 +50,13 @@ def has_compiler():
 
 def build(place):
     """Builds the module. Gives the compiler's status and what it printed."""
-    return run([DEBIAN_RUSTC, *OPTIONS, "--target", TARGET, "-o", place, f"{SOURCES}/lib.rs"], cwd=ROOT)
+    with tempfile.TemporaryDirectory() as folder:
+        devices = Path(folder) / "libsuperio.rlib"
+        built = run([DEBIAN_RUSTC, *OPTIONS, "--crate-name", "superio", "--crate-type", "rlib", "-o", devices,
+                     f"{DEVICES}/lib.rs"], cwd=ROOT)
+        return built if built.returncode else run(
+            [DEBIAN_RUSTC, *OPTIONS, *MODULE_OPTIONS, "--extern", f"superio={devices}", "-o", place,
+             f"{SOURCES}/lib.rs"], cwd=ROOT)
 
 
 def tables():
@@ -64,7 +76,8 @@ def tables():
 def embedded():
     """The text of module.mjs, which has the module's bytes and the tables."""
     module = base64.b64encode((PREBUILT / MODULE).read_bytes()).decode()
-    lines = [f"// Made by the command web/prebuild.py from prebuilt/{MODULE}, whose bytes these are in base 64,",
+    lines = ["// SPDX-License-" "Identifier: Apache-2.0 OR BSD-3-Clause",
+             f"// Made by the command web/prebuild.py from prebuilt/{MODULE}, whose bytes these are in base 64,",
              "// and from registers.py, library.py and saved.py of bindings/python/superio.",
              f'export default "{module}";']
     for name, value in tables().items():
@@ -76,7 +89,7 @@ def embedded():
 def listed():
     """The module's lines of prebuilt/SHA256SUMS and prebuilt/SOURCES, by the name of the file."""
     return {"SHA256SUMS": sums_of(PREBUILT, [MODULE])[0],
-            "SOURCES": source_line([SOURCES, "bindings/rust/src/core"], ".rs")}
+            "SOURCES": source_line([SOURCES, DEVICES], ".rs")}
 
 
 def main():

@@ -1,3 +1,4 @@
+// SPDX-License-Identifier: Apache-2.0 OR BSD-3-Clause
 /** What a call did and by which rule, in sentences. docs/DEVICES.md has the rules, and a sentence names its part. */
 import { SERIAL, clockRegister, serialRegister } from "../bindings/js/registers.mjs";
 import { LINES, hex } from "./board.mjs";

@@ -1,3 +1,4 @@
+// SPDX-License-Identifier: Apache-2.0 OR BSD-3-Clause
 /** The registers of the serial port and of the clock: names, offsets and bits, as the Python package has them. */
 import { CLOCK_ROWS, SERIAL_ROWS } from "./module.mjs";
 

@@ -1,3 +1,4 @@
+// SPDX-License-Identifier: Apache-2.0 OR BSD-3-Clause
 /**
  * Emulated legacy devices for virtual machine monitors, over proved code. A call returns its effects: what is left for
  * you to do. There are no callbacks. A wrong argument throws a TypeError or a RangeError that names it, and changes

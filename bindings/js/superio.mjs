@@ -1,3 +1,4 @@
+// SPDX-License-Identifier: Apache-2.0 OR BSD-3-Clause
 /**
  * Emulated legacy devices for virtual machine monitors, over proved code: a 16550 serial port (`Serial`), a PL031
  * real-time clock (`Rtc`) and an i8042 reset controller (`I8042`).

@@ -1,3 +1,4 @@
+// SPDX-License-Identifier: Apache-2.0 OR BSD-3-Clause
 /**
  * Tries the page docs/try.html in frames of this one, which tests/page/check opens in a browser, with what is to be
  * tried in the element `tried`. Tells on the console, as JSON, of what kind each thing is, how many, and what is wrong.

@@ -1,9 +1,11 @@
+// SPDX-License-Identifier: Apache-2.0 OR BSD-3-Clause
 /**
  * What the package does by itself: layouts, copies, refused arguments, names, and what superio.d.ts and package.json
  * say of it. tests/js/check makes recorded calls with it too, over the board of the page.
  */
 import assert from "node:assert/strict";
 import { readFileSync, readdirSync } from "node:fs";
+import { createRequire } from "node:module";
 import test from "node:test";
 import { ABI, SAVED_STATE_ERRORS } from "../module.mjs";
 import * as registers from "../registers.mjs";
@@ -232,8 +234,8 @@ test("a register's name reaches that register, or nothing", () => {
 // What superio.d.ts and package.json say.
 
 const read = (name) => readFileSync(new URL(`../${name}`, import.meta.url), "utf8");
-const { exports, files } = JSON.parse(read("package.json"));
-const declarations = read(exports.types).replace(/^ *\/\*\*[^]*?\*\/\n/gm, "");
+const { exports, files, main, types } = JSON.parse(read("package.json"));
+const declarations = read(types).replace(/^ *\/\*\*[^]*?\*\/\n/gm, "");
 
 /** The declared members of a class, each as its kind, its name and its parameters' names. */
 const declared = (body) => Array.from(body.matchAll(/^  (static |readonly )?(\w+)(?:\((.*)\))?(?:: .*)?;$/gm),
@@ -286,7 +288,14 @@ test("package.json names the files that the package has, and those that a releas
   const isOwn = (name) => !["package.json", "tests"].includes(name);
   const there = readdirSync(new URL("..", import.meta.url)).filter(isOwn);
   assert.deepEqual(new Set(files), new Set([...there, "LICENSE", "LICENSES"]));
-  assert.deepEqual(Object.values(exports).filter((name) => !files.includes(name.slice(2))), []);
+  const named = [main, types, ...Object.values(exports).flatMap((one) => Object.values(one))];
+  assert.deepEqual(named.filter((name) => !files.includes(name.slice(2))), []);
+});
+
+test("require gives what import does", () => {
+  const required = createRequire(import.meta.url)("superio");
+  assert.deepEqual(Object.keys(required), Object.keys(superio));
+  assert.deepEqual(Object.values(required).map(membersOf), Object.values(superio).map(membersOf));
 });
 
 test("a module of another binary interface is refused", async () => {

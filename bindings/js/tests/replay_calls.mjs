@@ -1,3 +1,4 @@
+// SPDX-License-Identifier: Apache-2.0 OR BSD-3-Clause
 /**
  * Makes the recorded calls of tests/data/calls, which come on standard input, over the board of the page and so over
  * the JavaScript package, and compares them. The board has the trigger and the events, which the devices leave to their

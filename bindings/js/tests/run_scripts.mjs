@@ -1,3 +1,4 @@
+// SPDX-License-Identifier: Apache-2.0 OR BSD-3-Clause
 /**
  * Runs scripts, which come on standard input as JSON, on the board of the page and so over the JavaScript package. A
  * script has its place, its text, whether the board is to refuse the further lines as the program does, the replies and

@@ -1,3 +1,4 @@
+# SPDX-License-Identifier: Apache-2.0 OR BSD-3-Clause
 """Emulated legacy devices for virtual machine monitors, over a proved library.
 
 Among them are a 16550 serial port (`Serial`) and a PL031 real-time clock (`Rtc`). Each function of the library beneath

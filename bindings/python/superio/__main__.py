@@ -1,3 +1,4 @@
+# SPDX-License-Identifier: Apache-2.0 OR BSD-3-Clause
 """The command line of `python3 -m superio`: the shell, a file of lines, or the viewer of a trace."""
 import argparse
 import os

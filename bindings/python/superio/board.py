@@ -1,3 +1,4 @@
+# SPDX-License-Identifier: Apache-2.0 OR BSD-3-Clause
 """The lines of a script, and the board that they drive: the devices, an interrupt line and an output of 256 bytes.
 
 It replies to each line of a script as the program `superio` does, and knows further lines, which the program refuses.

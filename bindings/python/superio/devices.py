@@ -1,3 +1,4 @@
+# SPDX-License-Identifier: Apache-2.0 OR BSD-3-Clause
 """The devices as Python objects, over the functions of superio.h.
 
 A call returns its effects: what is left for the caller to do. There are no callbacks. An offset is a number, or the

@@ -1,3 +1,4 @@
+# SPDX-License-Identifier: Apache-2.0 OR BSD-3-Clause
 """The shared library of the devices, which is found and checked. Its structs and functions are those of superio.h, as
 superio.abi has them."""
 import ctypes
@@ -84,8 +85,10 @@ def open_library() -> ctypes.PyDLL:
 
     Raises `LibraryError` if there is none, or if the first one found cannot be used.
     """
+    # The folder of the sources alone, and the repository.
+    above = [place for number, place in enumerate(_PACKAGE.parents) if number in (0, 2)]
     places = [_PACKAGE / FILE_NAME, *(place / "prebuilt" / f"{os.uname().machine}-linux" / FILE_NAME
-                                      for place in _PACKAGE.parents[2:3])]
+                                      for place in above)]
     named = os.environ.get(VARIABLE) or next((str(path) for path in places if path.is_file()), "")
     if named:
         return _loaded(named)

@@ -1,3 +1,4 @@
+# SPDX-License-Identifier: Apache-2.0 OR BSD-3-Clause
 """Commands by their names, and lines of them at a prompt, with editing, completion, Ctrl-C and a history. And how a
 file that a command names is written."""
 import atexit

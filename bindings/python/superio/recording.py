@@ -1,3 +1,4 @@
+# SPDX-License-Identifier: Apache-2.0 OR BSD-3-Clause
 """Recorded traces: the calls of a script with their replies, as examples/linux-boot has them, and a picture of them.
 
 A row is a line of a script, with its reply after two spaces or more if it was recorded. A number before the line

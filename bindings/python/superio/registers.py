@@ -1,3 +1,4 @@
+# SPDX-License-Identifier: Apache-2.0 OR BSD-3-Clause
 """The registers of the serial port and of the clock, by names, offsets and bits, the states that they make, and how
 numbers and bytes for them are checked."""
 import reprlib

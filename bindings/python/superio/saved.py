@@ -1,3 +1,4 @@
+# SPDX-License-Identifier: Apache-2.0 OR BSD-3-Clause
 """The states of the devices as saved states, and why bytes are none."""
 from ctypes import byref, c_uint8
 from typing import Any, Callable, Tuple, Type, TypeVar

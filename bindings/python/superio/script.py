@@ -1,3 +1,4 @@
+# SPDX-License-Identifier: Apache-2.0 OR BSD-3-Clause
 """The lines of a script, and the further lines that a board carries out: docs/SCRIPT.md has their syntax.
 
 `BadLine` says which line of a file was not carried out.

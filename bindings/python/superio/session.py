@@ -1,3 +1,4 @@
+# SPDX-License-Identifier: Apache-2.0 OR BSD-3-Clause
 """A session: a board, what a line can make of it, and the lines of its calls."""
 import os
 import shlex

@@ -1,3 +1,4 @@
+# SPDX-License-Identifier: Apache-2.0 OR BSD-3-Clause
 """What a call did, what a board is, and why an interrupt is pending or not, in words."""
 from copy import copy
 from datetime import datetime, timedelta

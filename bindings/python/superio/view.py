@@ -1,3 +1,4 @@
+# SPDX-License-Identifier: Apache-2.0 OR BSD-3-Clause
 """The viewer of a recorded trace: call by call, as a table, or as a picture."""
 import os
 import pydoc

@@ -1,3 +1,4 @@
+# SPDX-License-Identifier: Apache-2.0 OR BSD-3-Clause
 """What people type, as commands of a script: `read LSR` as `sr 05`, `alarm +5` as a write to the clock."""
 import re
 from copy import copy

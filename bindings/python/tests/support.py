@@ -1,3 +1,4 @@
+# SPDX-License-Identifier: Apache-2.0 OR BSD-3-Clause
 """What the tests share."""
 import os
 import subprocess
@@ -7,7 +8,8 @@ import unittest
 from pathlib import Path
 
 PACKAGE = Path(__file__).resolve().parent.parent
-ROOT = PACKAGE.parent.parent
+# The sources of the package alone have what their tests read of the repository.
+ROOT = PACKAGE if (PACKAGE / "prebuilt").is_dir() else PACKAGE.parent.parent
 TIMEOUT = 60
 
 sys.path[:0] = [str(PACKAGE), str(ROOT / "tests" / "checks"), str(ROOT / "tests" / "c")]

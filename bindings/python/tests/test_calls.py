@@ -1,3 +1,4 @@
+# SPDX-License-Identifier: Apache-2.0 OR BSD-3-Clause
 """The recorded calls of tests/data/calls over the package, and those that tests/checks/lines.py makes up."""
 import re
 import unittest

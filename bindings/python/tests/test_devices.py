@@ -1,3 +1,4 @@
+# SPDX-License-Identifier: Apache-2.0 OR BSD-3-Clause
 """The devices: what Python adds to the calls, which tests/checks/calls compares with recordings."""
 import copy
 import dataclasses
@@ -160,6 +161,7 @@ class States(unittest.TestCase):
             for other in (way(error) for way in self.WAYS):
                 self.assertEqual((type(error), str(error), vars(error)), (type(other), str(other), vars(other)))
 
+    @unittest.skipUnless(ERROR_TEXTS.exists(), "the package's sources have no crates")
     def test_errors_of_saved_states_have_the_texts_of_rattle(self):
         """And the names of its cases, in the words of a script."""
         cases = re.findall(r'SavedStateError::(\w+)(?:\(_\))? => write!\(f, "(.*)"\)', ERROR_TEXTS.read_text("utf-8"))

@@ -1,3 +1,4 @@
+# SPDX-License-Identifier: Apache-2.0 OR BSD-3-Clause
 """Scripts and recorded traces: what the package replies, and how traces are searched, listed and drawn."""
 import io
 import lzma

@@ -1,3 +1,4 @@
+# SPDX-License-Identifier: Apache-2.0 OR BSD-3-Clause
 """What people type: the commands that it means, what is said of it, and why it means none. And what documents show."""
 import doctest
 import io
