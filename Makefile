@@ -1,12 +1,24 @@
-# Installs the C library, with any of these variables: make install PREFIX=/usr DESTDIR=tree LIBDIR=lib64
+# SPDX-License-Identifier: Apache-2.0 OR BSD-3-Clause
+#
+# The C library. Plain `make` installs nothing: it says what there is, and what comes next.
+#
+#     make check
+#     make install PREFIX=/usr DESTDIR=tree LIBDIR=lib64
+#     make uninstall, with the same variables
+#
+# TARGET=aarch64-linux takes the libraries of another processor, and LIBRARIES=FOLDER those of a folder.
 PREFIX = /usr/local
 LIBDIR = lib
 TARGET = $(shell uname -m)-linux
-# The folder of a static and a shared library.
-LIBRARIES = prebuilt/$(TARGET)
+# The folder of a static and a shared library: that of TARGET. If prebuilt has none for this machine and TARGET is not
+# given, it is the one in which Cargo builds them.
+BUILT = bindings/c/from-source/target/release
+LIBRARIES = $(if $(filter-out file,$(origin TARGET))$(wildcard prebuilt/$(TARGET)/.),prebuilt/$(TARGET),$(BUILT))
+CARGO = cargo
 
 to = $(DESTDIR)$(PREFIX)
 lib = $(to)/$(LIBDIR)
+licenses = $(to)/share/licenses/superio
 version = $(shell cat VERSION)
 soname = libsuperio.so.$(shell sed -n 's/^.define SUPERIO_ABI //p' bindings/c/superio.h)
 # From the folder of the files for pkg-config to PREFIX, so that the tree may be moved.
@@ -16,19 +28,59 @@ pc = sed -e 's|@up@|$(up)|' -e 's|@version@|$(version)|'
 # A recipe is one script, which ends at the first command that fails.
 .ONESHELL:
 .SHELLFLAGS = -ec
-.PHONY: install installcheck installcheck-rust dist
+.PHONY: all from-source check install uninstall clean installcheck installcheck-rust dist
+
+# Refuses a folder without the libraries, before anything is written. Otherwise $1 is the static one, and $2 the shared.
+define find
+set -- "$(LIBRARIES)/libsuperio_c.a" "$(LIBRARIES)"/libsuperio*.so*
+if [ $$# != 2 ] || [ ! -f "$$1" ] || [ ! -f "$$2" ]; then
+    echo "$(LIBRARIES) does not have one static and one shared library" >&2
+    echo "prebuilt has them for: $(notdir $(wildcard prebuilt/*-linux))" >&2
+    echo "Build them for this machine: make LIBRARIES=$(BUILT)" >&2
+    exit 1
+fi
+endef
+
+all: $(if $(filter $(BUILT),$(LIBRARIES)),from-source)
+	@$(find)
+	echo "Built: $$1 and $$2"
+	echo "Next: make check, and make install, which writes below $(PREFIX) if you give no PREFIX and no DESTDIR"
+
+# Compiles the erased sources.
+from-source:
+	$(CARGO) build --release --offline --manifest-path bindings/c/from-source/Cargo.toml
+
+# Tests the static library with a C compiler.
+check:
+	@$(find)
+	$(MAKE) -C tests/c LIBRARY="$$(realpath --relative-to=tests/c "$$1")"
 
 install:
-	install -d "$(lib)/pkgconfig" "$(to)/include" "$(to)/share/licenses/superio"
+	$(find)
+	install -d "$(lib)/pkgconfig" "$(to)/include" "$(licenses)"
 	install -m 644 bindings/c/superio.h "$(to)/include"
-	install -m 644 $(LIBRARIES)/libsuperio_c.a "$(lib)/libsuperio.a"
-	install -m 755 $(wildcard $(LIBRARIES)/libsuperio*.so*) "$(lib)/$(soname)"
+	install -m 644 "$$1" "$(lib)/libsuperio.a"
+	install -m 755 "$$2" "$(lib)/$(soname)"
 	ln -sf $(soname) "$(lib)/libsuperio.so"
 	$(pc) -e 's|@name@|superio|' -e 's|@flag@|-lsuperio|' bindings/c/superio.pc.in > "$(lib)/pkgconfig/superio.pc"
 	$(pc) -e 's|@name@|superio-static|' -e 's|@flag@|-l:libsuperio.a|' bindings/c/superio.pc.in \
 	    > "$(lib)/pkgconfig/superio-static.pc"
 	chmod 644 "$(lib)/pkgconfig/superio.pc" "$(lib)/pkgconfig/superio-static.pc"
-	install -m 644 LICENSE LICENSES/* "$(to)/share/licenses/superio"
+	install -m 644 LICENSE LICENSES/* "$(licenses)"
+
+# Removes what install wrote, and the folders of licenses and of pkg-config if nothing else is in them.
+uninstall:
+	rm -f "$(to)/include/superio.h" "$(lib)/libsuperio.a" "$(lib)/$(soname)" "$(lib)/libsuperio.so" \
+	    "$(lib)/pkgconfig/superio.pc" "$(lib)/pkgconfig/superio-static.pc"
+	for name in $(notdir $(wildcard LICENSE LICENSES/*)); do rm -f "$(licenses)/$$name"; done
+	for folder in "$(licenses)" "$(to)/share/licenses" "$(lib)/pkgconfig"; do
+	    [ ! -d "$$folder" ] || rmdir --ignore-fail-on-non-empty "$$folder"
+	done
+
+# Removes what all and check write.
+clean:
+	rm -rf bindings/c/from-source/target bindings/c/from-source/Cargo.lock
+	cd out 2> /dev/null && rm -f $(notdir $(basename $(wildcard tests/c/*.c examples/c/*.c))) || true
 
 # Tests that the demo, with either library that pkg-config finds, prints what it should.
 installcheck:
@@ -62,16 +114,21 @@ installcheck-rust:
 # Makes a release of the commit HEAD, from what git has, in the folder DIST: docs/RELEASE.md says what it has. The same
 # commit and the same versions of the tools give the same bytes, in any folder, at any time, for any user.
 DIST = dist
-crate = vm-superio-$(shell sed -n 's/^version = "\(.*\)"/\1/p' bindings/rust/Cargo.toml)
+PYTHON = python3
+crates = superio-$(version)-rust
 dist:
 	@if [ -e "$(DIST)" ]; then echo "$(DIST) is there already"; exit 1; fi
 	if [ "$$(git status --porcelain)" ]; then echo "the checkout is not clean"; git status --porcelain; exit 1; fi
 	if [ ! "$$(git tag --points-at HEAD --list 'v$(version)')" ]; then echo "HEAD has no tag v$(version)"; exit 1; fi
+	if ! grep -qxE '## $(version) - [0-9]{4}-[0-9]{2}-[0-9]{2}' CHANGELOG.md; then
+	    echo "CHANGELOG.md has no date for $(version)"
+	    exit 1
+	fi
 	umask 022
 	export SOURCE_DATE_EPOCH=$$(git log -1 --format=%ct)
 	place=$$(mktemp -d) out="$$place/release" tree="$$place/fimolavand-$(version)"
 	trap 'rm -rf "$$place"' EXIT
-	mkdir "$$out" "$$place/$(crate)"
+	mkdir "$$out" "$$place/$(crates)"
 	pack() {
 	    tar --create --sort=name --format=ustar --owner=root:0 --group=root:0 --mtime=@$$SOURCE_DATE_EPOCH \
 	        --directory="$$place" --file="$$out/$$1.tar" "$$1"
@@ -80,16 +137,18 @@ dist:
 	git -c tar.umask=0022 archive --prefix=fimolavand-$(version)/ HEAD | tar --extract --directory="$$place"
 	pack fimolavand-$(version)
 	cd "$$tree/bindings/python"
-	python3 -c "import build_wheel; build_wheel.build_sdist('$$out')"
+	unset PYTHONDONTWRITEBYTECODE # setuptools warns of it
+	build() {
+	    $(PYTHON) -c "from setuptools import build_meta; build_meta.$$1('$$out')" > /dev/null
+	}
+	build build_sdist
 	for target in $(notdir $(wildcard prebuilt/*-linux)); do
 	    $(MAKE) -s -C "$$tree" install DESTDIR="$$place" PREFIX=/superio-$(version)-$$target TARGET=$$target
 	    pack superio-$(version)-$$target
-	    _PYTHON_HOST_PLATFORM=linux-$${target%-linux} SUPERIO_LIBRARY="$$tree/prebuilt/$$target/$(soname)" \
-	        python3 -c "import build_wheel; build_wheel.build_wheel('$$out')"
+	    _PYTHON_HOST_PLATFORM=linux-$${target%-linux} build build_wheel
 	done
-	cd ../rust
-	cp -r Cargo.toml README.md src tests examples ../../LICENSE ../../LICENSES "$$place/$(crate)"
-	pack $(crate)
+	cp -rL ../rust ../superio "$$place/$(crates)"
+	pack $(crates)
 	cd ../js
 	cp -r ../../LICENSE ../../LICENSES .
 	npm pack --offline --ignore-scripts --silent --cache "$$place/npm" --pack-destination "$$out" > /dev/null
