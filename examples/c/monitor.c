@@ -1,3 +1,4 @@
+/* SPDX-License-Identifier: Apache-2.0 OR BSD-3-Clause */
 /*
  * A monitor in small: a bus, an input loop, a refused interrupt, a clock with an alarm, a migration, and a reset. The
  * "guest" is the calls in main and in handle, and time is what main says.

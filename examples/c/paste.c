@@ -1,3 +1,4 @@
+/* SPDX-License-Identifier: Apache-2.0 OR BSD-3-Clause */
 /*
  * 1,000 bytes of input for a guest. The FIFO holds 64, so the rest waits, and is offered again once a read empties it.
  */

@@ -1,3 +1,4 @@
+/* SPDX-License-Identifier: Apache-2.0 OR BSD-3-Clause */
 /* A guest's first state: a flat image in real mode, or Linux by its 64-bit boot protocol. */
 #include "monitor.h"
 

@@ -1,3 +1,4 @@
+/* SPDX-License-Identifier: Apache-2.0 OR BSD-3-Clause */
 /* The clock, its interrupt line and its alarm. Its moments go on with CLOCK_BOOTTIME, which never goes back, from the
  * time of day at the start. */
 #include "monitor.h"

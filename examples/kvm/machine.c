@@ -1,3 +1,4 @@
+/* SPDX-License-Identifier: Apache-2.0 OR BSD-3-Clause */
 /* The virtual machine: its memory, its vCPU, and the thread that runs it. */
 #include "monitor.h"
 

@@ -1,3 +1,4 @@
+/* SPDX-License-Identifier: Apache-2.0 OR BSD-3-Clause */
 /* The monitor: its start, the user's terminal, the event loop, and the end. */
 #include "monitor.h"
 

@@ -1,3 +1,4 @@
+/* SPDX-License-Identifier: Apache-2.0 OR BSD-3-Clause */
 /*
  * A monitor that runs a PC with the devices of superio.h under KVM. docs/MONITOR.md shows how its files fit together.
  *

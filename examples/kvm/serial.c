@@ -1,3 +1,4 @@
+/* SPDX-License-Identifier: Apache-2.0 OR BSD-3-Clause */
 /* The serial port: its interrupt, its output, and the input that waits for room in its FIFO. IRQ 4 of a PC is triggered
  * by edges: so each interrupt that the port asks for is one edge, which KVM makes of a write to an eventfd. */
 #include "monitor.h"

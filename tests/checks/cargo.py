@@ -1,5 +1,6 @@
-"""Cargo without a network, in copies of bindings/rust and for programs of tools over it, and which of the installed
-toolchains of Rust can build for a target."""
+# SPDX-License-Identifier: Apache-2.0 OR BSD-3-Clause
+"""Cargo without a network, in copies of the crates of bindings/rust and bindings/superio and for programs of tests over
+them, and which of the installed toolchains of Rust can build for a target."""
 import os
 import re
 import shutil
@@ -10,14 +11,17 @@ from typing import NamedTuple
 from tally import run
 
 ROOT = Path(__file__).resolve().parents[2]
-BINDINGS, COMPARISON = ROOT / "bindings" / "rust", ROOT / "tests" / "compare"
+# The drop-in for vm-superio, and the devices without I/O, on which it stands.
+BINDINGS, DEVICES = ROOT / "bindings" / "rust", ROOT / "bindings" / "superio"
+COMPARISON = ROOT / "tests" / "compare"
 # The folder of vm-superio 0.8.2.
 ORIGINAL = Path(os.environ["VM_SUPERIO"]).resolve() if "VM_SUPERIO" in os.environ else None
 # Debian's compiler, beside which another may come first in PATH.
 DEBIAN_RUSTC = Path("/usr/bin/rustc")
 # Most is built once, and nothing is debugged.
 SETTINGS = {"CARGO_INCREMENTAL": "0", "CARGO_PROFILE_DEV_DEBUG": "0", "CARGO_NET_OFFLINE": "true"}
-# A program over bindings/rust or, without the feature, over a vm-superio, which it takes by the line of the README.
+# A program over bindings/rust or, without the feature, over a vm-superio, which it takes by the line of the README. It
+# needs no default feature of it.
 PROGRAM = """
 [lib]
 name = "objects"
@@ -28,7 +32,7 @@ path = "{1}/{0}.rs"
 [features]
 further = []
 [dependencies]
-superio = {{ package = "vm-superio", version = "0.8.2" }}
+superio = {{ package = "vm-superio", version = "0.8.2", default-features = false }}
 [patch.crates-io]
 vm-superio = {{ path = "{2}" }}
 [profile.release]
@@ -75,21 +79,23 @@ def add_crate(folder, code, rest="[features]\nderive = []\n"):
     dependency, which has to be there, to be left out."""
     name, _, version = folder.name.partition("-")
     head = f'[package]\nname = "{name}"\nversion = "{version or "0.1.0"}"\nedition = "2021"\n'
-    (folder / "src").mkdir(parents=True)
+    (folder / "src").mkdir(parents=True, exist_ok=True)
     (folder / "src" / "lib.rs").write_text(code or "", encoding="utf-8")
     (folder / "Cargo.toml").write_text(head + rest, encoding="utf-8")
 
 
 class Cargo:
-    """Runs Cargo offline in the folder of a crate. Other crates are those of a registry, or an empty serde alone."""
+    """Runs Cargo offline in the folder of a crate. Other crates are those of a registry, or an empty serde alone. The
+    settings that say so are written into a folder, or one above."""
 
-    def __init__(self, folder, toolchain=None, registry=None):
+    def __init__(self, folder, toolchain=None, registry=None, settings=None):
         self.folder, self.cargo = folder, toolchain.cargo if toolchain else "cargo"
         self.environment = {**(toolchain.environment() if toolchain else os.environ), **SETTINGS,
                             "CARGO_TARGET_DIR": str(folder / "target")}
-        stand_in = folder / ".cargo" / "serde-1.0.0"
+        place = (settings or folder) / ".cargo"
+        stand_in = place / "serde-1.0.0"
         add_crate(stand_in, None)
-        (folder / ".cargo" / "config.toml").write_text(
+        (place / "config.toml").write_text(
             f'source.crates-io.replace-with = "registry"\nsource.registry.directory = "{registry}"\n' if registry else
             f'patch.crates-io.serde.path = "{stand_in}"\n', encoding="utf-8")
 
@@ -112,10 +118,12 @@ class Cargo:
             print(f"{what}: {passed} tests")
 
 
-def copied_crate(folder, toolchain=None):
-    """Cargo in a copy of the crate: a Cargo.lock with an empty serde would not do for who has another."""
-    shutil.copytree(BINDINGS, folder, ignore=shutil.ignore_patterns("target", "Cargo.lock"))
-    return Cargo(folder, toolchain)
+def copied_crate(folder, toolchain=None, crate=BINDINGS):
+    """Cargo in a copy of a crate, beside which stands the one of the devices without I/O: a Cargo.lock with an empty
+    serde would not do for who has another."""
+    for it in {crate, DEVICES}:
+        shutil.copytree(it, folder / it.name, ignore=shutil.ignore_patterns("target", "Cargo.lock"), dirs_exist_ok=True)
+    return Cargo(folder / crate.name, toolchain)
 
 
 class Comparison(Cargo):

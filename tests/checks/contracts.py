@@ -1,3 +1,4 @@
+# SPDX-License-Identifier: Apache-2.0 OR BSD-3-Clause
 """The functions of Rattle's and Rust's sources, with their clauses."""
 import re
 from dataclasses import dataclass

@@ -1,3 +1,4 @@
+# SPDX-License-Identifier: Apache-2.0 OR BSD-3-Clause
 """The repository's documents, as one reader of Markdown shows them to all checks, and how a check of them ends."""
 import re
 import shutil

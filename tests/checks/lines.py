@@ -1,3 +1,4 @@
+# SPDX-License-Identifier: Apache-2.0 OR BSD-3-Clause
 """The lines of scripts and of recorded calls: what they reply by the search of the past in oracle.py, and those that
 checks make up: random ones, broken ones, loads of any bytes, and every answer in every state. docs/SCRIPT.md and
 tests/README.md have their syntax. The program has the lines of LINES; the shell, the Python package and the page have

@@ -1,3 +1,4 @@
+# SPDX-License-Identifier: Apache-2.0 OR BSD-3-Clause
 """What devices show, by a search of all that was done before: slow, and plainly right.
 
 There are no registers, and no rule is shared with the definitions that the proofs use. Of each call a fact is kept:

@@ -1,3 +1,4 @@
+# SPDX-License-Identifier: Apache-2.0 OR BSD-3-Clause
 """The program `superio`: how it is built, and how checks run it."""
 import os
 import re

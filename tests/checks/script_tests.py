@@ -1,3 +1,4 @@
+# SPDX-License-Identifier: Apache-2.0 OR BSD-3-Clause
 """Scripts with their replies, written as tests/README.md describes, and those that documents show. A board of the
 Python package and of the page has further lines, which the program refuses."""
 import json

@@ -1,3 +1,4 @@
+# SPDX-License-Identifier: Apache-2.0 OR BSD-3-Clause
 """What a check tried by kind, passed, failed and could not run, and how it says so.
 
 A check ends with a line `N passed, M failed` or `N passed, M failed, K skipped`. Before it stands a line for each kind;

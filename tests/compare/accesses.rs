@@ -1,3 +1,4 @@
+// SPDX-License-Identifier: Apache-2.0 OR BSD-3-Clause
 //! Makes accesses of the devices, and then others a thousand times, for tests/rust/counts: `accesses ONCE REPEATED`. An
 //! access is one of docs/PERFORMANCE.md, such as `w0741`. The output is dropped, and nobody hears the events.
 use std::cell::Cell;

@@ -1,3 +1,4 @@
+// SPDX-License-Identifier: Apache-2.0 OR BSD-3-Clause
 //! The calls that bindings/rust has beside those of the Rust crate. tests/checks/calls makes each.
 use superio::rtc_pl031::{Rtc, RtcSnapshot};
 use superio::saved::SavedStateError;

@@ -1,3 +1,4 @@
+// SPDX-License-Identifier: Apache-2.0 OR BSD-3-Clause
 //! What the devices of the programs here call: the host's clock, and an object that is the trigger, the events object
 //! and the writer in one, behaves as a call says, and keeps a log.
 use std::cell::RefCell;

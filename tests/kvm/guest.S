@@ -1,3 +1,4 @@
+# SPDX-License-Identifier: Apache-2.0 OR BSD-3-Clause
 # A guest in real mode, for the tests of the monitor. It prints 'ready', and then echoes what is typed, by interrupts
 # and as Linux's 8250 driver does: it reads IIR, then bytes for as long as LSR shows data ready, but at most 256, and
 # then IIR again, until that says that nothing is pending. At Ctrl-T it takes no more until an alarm two seconds later,

@@ -1,3 +1,4 @@
+/* SPDX-License-Identifier: Apache-2.0 OR BSD-3-Clause */
 /* A host for the monitor of examples/kvm in place of KVM: the guest, the user, the interrupt line and the time are a
  * script on standard input, whose lines scripts.txt explains. The linker gives some calls of the monitor to this file,
  * by its option --wrap. Standard error gets each line, and behind it what is seen.

@@ -2,7 +2,7 @@
 use crate::runs::Plain::{CharacterTimeout, Enqueue, Read, Restore, Write};
 use crate::runs::Row::{Asks, Quiet, Sends};
 use crate::runs::Shown::{Byte, Enqueued, NotRestored, Restored, TimedOut, Wrote};
-use crate::serial_objects::{Fields, IER, IIR, LSR, Narrow, TestSerial, RBR, THR, fresh, restored};
+use crate::serial_objects::{Fields, IER, IIR, LSR, Narrow, RBR, THR, TestSerial, fresh, restored};
 use std::alloc::{AllocError, Global};
 use std::io;
 use std::io::ErrorKind;

@@ -4,7 +4,8 @@ use crate::serial_objects::Step::{
     WriteRefused, Written,
 };
 use crate::serial_objects::{
-    IER, IIR, LSR, MCR, Narrow, TestSerial, RBR, THR, first_wrong, fresh, fresh_shows, takes_sixty_four,
+    IER, IIR, LSR, MCR, Narrow, RBR, THR, TestSerial, first_wrong, fresh, fresh_shows,
+    takes_sixty_four,
 };
 use std::alloc::Global;
 use std::test::Fail;

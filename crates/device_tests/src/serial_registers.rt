@@ -1,7 +1,7 @@
 //! The registers of a serial port and its receive FIFO, as a guest and a monitor see them.
 use crate::serial_objects::Step::{Enqueue, EnqueueFull, Events, Read, Room, Write, Written};
 use crate::serial_objects::{
-    DLL, DLM, IER, IIR, LCR, LSR, MCR, MSR, Narrow, TestSerial, RBR, SCR, THR, first_wrong, fresh,
+    DLL, DLM, IER, IIR, LCR, LSR, MCR, MSR, Narrow, RBR, SCR, THR, TestSerial, first_wrong, fresh,
     fresh_shows, takes_sixty_four,
 };
 use std::test::Fail;

@@ -1,12 +1,12 @@
-//! The devices of a virtual machine monitor as values: a call changes the value and returns what is left to do. No
-//! object, no heap, no dependency.
+//! The devices of a virtual machine monitor without I/O (sans-I/O): a call changes a device and returns what is left to
+//! do. No object, no heap, no dependency.
 //!
 //! ```text
 //! let mut port = Uart::new();
 //! port.write(1, 0x01); // the guest enables the interrupt of received data
 //! let typed = port.enqueue_raw_bytes(b"hi"); // `typed.interrupts` is 1: raise the interrupt
 //! let found = port.read(2).byte; // 0xC4: the guest's handler finds received data,
-//! let first = port.read(0).byte; // b'h': takes one byte,
+//! let first = port.read(0).byte; // b'h': reads one byte out,
 //! let found = port.read(2).byte; // 0xC1: and finds nothing more pending, though `i` is held
 //! let again = port.character_timeout(); // 1: raise the interrupt again
 //!

@@ -1,4 +1,4 @@
-//! A real-time clock with the registers of an ARM PL031, as a value.
+//! A real-time clock with the registers of an ARM PL031, without I/O.
 //!
 //! A call changes the clock and returns what the guest reads, or whether the access is invalid. The clock reads no
 //! clock of the host: each access gets its moment, in seconds since 1970.
@@ -8,12 +8,12 @@ ghost use Rattle.superio_core.specs.Rtc.Step.{rtc_irq_level, IsAlarmDue, guest_t
 ghost use Rattle.superio_core.specs.Rtc.{state_of_clock, read, write, fresh_clock, clock_register_at, is_writable, host_time, clock_register_read};
 
 mod alarm;
-mod registers;
 pub mod encoding;
+mod registers;
 
 use alarm::{guest_time, seconds_until};
-pub use registers::ClockRegister;
 pub use encoding::RtcState;
+pub use registers::ClockRegister;
 
 /// A clock without an events object. Any values are valid.
 #[repr(C)]

@@ -1,4 +1,4 @@
-//! A serial port with the registers of a 16550, as a value.
+//! A serial port with the registers of a 16550, without I/O.
 //!
 //! A call changes the port and returns what is left to do: a byte to send, interrupts to raise, or events to report.
 //! The port owns no objects and allocates no memory, so a monitor keeps it where it likes, in any language.
@@ -12,8 +12,8 @@ ghost use Rattle.superio_core.specs.Serial.RegisterMap.{lsr_dr_bit, Rda, Thre, D
 ghost use Rattle.superio_core.specs.Bits.{only_bits, with_bits};
 ghost use Rattle.superio_core.specs.Serial.Operations.{count_if, is_first_of_two_refused, decode_write, sent_by, events_of_read};
 
-pub mod registers;
 pub mod encoding;
+pub mod registers;
 
 pub use super::fifo::ArrayFifo;
 use super::fifo::{FIFO_SIZE, RxFifo};
@@ -391,12 +391,7 @@ impl Registers {
     /// Writes a register. In loopback a THR write is received. Otherwise its byte goes out, and THRE is raised whatever
     /// happens to the byte. The due trigger calls count as taken: `cancel_thre` applies a refusal.
     #[inline(always)]
-    pub fn write<F: RxFifo>(
-        &mut self,
-        fifo: &mut F,
-        register: Register,
-        value: u8,
-    ) -> WriteEffects
+    pub fn write<F: RxFifo>(&mut self, fifo: &mut F, register: Register, value: u8) -> WriteEffects
         ensures sends { let kind = decode_write register (is_loopback self.old.modem_control) value in
             result.sends ≡ not_empty (sent_by kind) }
         ensures interrupts { let kind = decode_write register (is_loopback self.old.modem_control) value in

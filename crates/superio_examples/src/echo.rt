@@ -113,12 +113,7 @@ fn run_handler(port: &mut Uart, bound: usize, output: &mut Vec<u8>) -> Result<u8
 // ---- the monitor
 
 /// Runs the handler as long as an interrupt is due.
-fn serve(
-    port: &mut Uart,
-    bound: usize,
-    asked: u8,
-    output: &mut Vec<u8>,
-) -> Result<(), AllocError>
+fn serve(port: &mut Uart, bound: usize, asked: u8, output: &mut Vec<u8>) -> Result<(), AllocError>
     requires coherent { CoherentUart port.old }
     requires open { IsOpen (state_of_uart port.old) }
     requires due { asked ≡ count_if (not_empty (held port.old)) }

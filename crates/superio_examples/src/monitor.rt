@@ -119,7 +119,11 @@ impl Monitor {
     /// # Errors
     ///
     /// Returns `AllocError` if memory is refused for the replies. Then no event was made.
-    pub fn run(&mut self, alloc: Global, events: &[MachineEvent]) -> Result<Vec<MachineReply>, AllocError>
+    pub fn run(
+        &mut self,
+        alloc: Global,
+        events: &[MachineEvent],
+    ) -> Result<Vec<MachineReply>, AllocError>
         ensures replies { IfOk result (λ replies. replies.items ≡ replies_to events.now (machine_of self.old)) }
         ensures machine { OnOk result (machine_of self.new ≡ after events.now (machine_of self.old)) }
         ensures refused { OnErr result (self.new ≡ self.old) }

@@ -7,11 +7,15 @@ use std::test::Fail;
 use superio_examples::echo::{echo, over_serial};
 use superio_examples::many_calls::{Access, make_all, make_by_run};
 use superio_examples::triggers::InterruptLine;
-use vm_superio::run::{Call, Reply};
+use vm_superio::run::{Call, Done, Reply};
 use vm_superio::serial::NoEvents;
 use vm_superio::{Serial, Trigger};
 
 type TestSerial = Serial<InterruptLine, NoEvents, Vec<u8>>;
+
+type SerialCall = Call<InterruptLine, NoEvents, Vec<u8>>;
+
+type SerialDone = Done<InterruptLine, NoEvents, Vec<u8>>;
 
 /// A new port over a line with room for eight interrupts.
 fn port(alloc: Global) -> Result<TestSerial, AllocError>
@@ -67,20 +71,30 @@ fn accesses_in_a_loop_reach_the_port(rt: HostRuntime) -> Result<(), Fail> {
     Ok(())
 }
 
-#[test]
-fn a_run_of_calls_gives_their_replies(rt: HostRuntime) -> Result<(), Fail> {
-    let alloc = rt.alloc();
-    let mut serial = port(alloc)?;
-    let calls = vec![in alloc;
+/// Four calls: IER enables received data, two bytes arrive, and the guest reads IIR and a byte.
+fn calls(alloc: Global) -> Result<Vec<SerialCall>, AllocError> {
+    let bytes = b"ab".to_vec(alloc)?;
+    Ok(vec![in alloc;
         Call::Write(1, 0x01),
-        Call::Enqueue(b"ab".to_vec(alloc)?),
+        Call::Enqueue(bytes),
         Call::Read(2),
         Call::Read(0),
-    ]?;
-    let done = make_by_run(alloc, &mut serial, calls)?;
-    assert!(rt; done.len() == 4);
-    assert!(rt; matches!(done[2].reply, Reply::Byte(0xC4)));
-    assert!(rt; matches!(done[3].reply, Reply::Byte(b'a')));
+    ]?)
+}
+
+/// Whether the call at this place read this byte.
+fn is_read(done: &[SerialDone], place: usize, byte: u8) -> bool {
+    match done.get(place) {
+        Some(record) => matches!(record.reply, Reply::Byte(shown) if shown == byte),
+        None => false,
+    }
+}
+
+#[test]
+fn a_run_of_calls_gives_their_replies(rt: HostRuntime) -> Result<(), Fail> {
+    let mut serial = port(rt.alloc())?;
+    let done = make_by_run(rt.alloc(), &mut serial, calls(rt.alloc())?)?;
+    assert!(rt; is_read(&done, 2, 0xC4) && is_read(&done, 3, b'a') && done.len() == 4);
     assert!(rt; serial.interrupt_evt().waiting() == 1);
     Ok(())
 }

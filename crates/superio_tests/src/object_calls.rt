@@ -3,10 +3,10 @@
 //! event, an output that is drained, and a script, which calls its streams no more than it has to. A call that takes
 //! and drops objects does not call them before.
 use crate::objects::{
-    Log, Object, SerialCall, Then, Writing, by_std, faults, in_order, is_same, port, port_over,
-    writings,
+    Log, Object, SerialCall, TestSerial, Then, Writing, by_std, faults, in_order, is_same, port,
+    port_over, writings,
 };
-use std::alloc::Global;
+use std::alloc::{AllocError, Global};
 use std::io;
 use std::io::{Read, Write};
 use std::test::Fail;
@@ -262,42 +262,59 @@ fn a_fault_of_a_stream_is_io(rt: HostRuntime) {
 
 // ---- objects that are dropped
 
-#[test]
-fn objects_are_dropped_and_taken_apart_in_silence(rt: HostRuntime) -> Result<(), Fail> {
-    let log = Log::new();
-    let object = Object(&log);
-    // A port that holds a byte, and in which both conditions are pending and enabled.
-    let mut state = SerialState::default(rt.alloc());
+/// A state that holds a byte, and in which both conditions are pending and enabled.
+fn pending_state(alloc: Global) -> Result<SerialState, AllocError> {
+    let mut state = SerialState::default(alloc);
     state.in_buffer.push(b'a')?;
     state.line_status = 0x61;
     state.interrupt_enable = 0x03;
     state.interrupt_identification = 0x06;
+    Ok(state)
+}
+
+/// Drops a port whole, or what is left of it in one of three ways.
+fn drop_port(port: TestSerial<'_>, way: u8) {
+    match way {
+        0 => drop(port),
+        1 => drop(port.into_writer()),
+        2 => drop(port.into_parts()),
+        _ => drop_refused(port),
+    }
+}
+
+/// Drops a port's objects as those of a port that was refused.
+fn drop_refused(port: TestSerial<'_>) {
+    let (trigger, events, out) = port.into_parts();
+    let refused = Refused {
+        error: Error::FullFifo,
+        trigger,
+        events,
+        out,
+    };
+    let _ = refused.into_error();
+}
+
+#[test]
+fn objects_of_a_port_are_dropped_in_silence(rt: HostRuntime) -> Result<(), Fail> {
+    let log = Log::new();
+    let object = Object(&log);
+    let state = pending_state(rt.alloc())?;
     for way in 0..4u8 {
         let made = Serial::from_state(rt.alloc(), &state, object, object, object);
-        let port = made.ok().expect(&rt, "a port");
+        let port = made.map_err(Refused::into_error)?;
         let calls = log.calls();
-        match way {
-            0 => drop(port),
-            1 => drop(port.into_writer()),
-            2 => drop(port.into_parts()),
-            _ => {
-                let (trigger, events, out) = port.into_parts();
-                let refused = Refused {
-                    error: Error::FullFifo,
-                    trigger,
-                    events,
-                    out,
-                };
-                let _ = refused.into_error();
-            }
-        }
+        drop_port(port, way);
         assert!(rt; log.calls() == calls, "{way}");
     }
-    let calls = log.calls();
-    drop(Rtc::with_events(object).into_parts());
-    drop(I8042Device::new(object).into_reset_evt());
-    drop(Rtc::with_events(object));
-    drop(I8042Device::new(object));
-    assert!(rt; log.calls() == calls);
     Ok(())
+}
+
+#[test]
+fn objects_of_a_clock_and_a_controller_are_dropped_in_silence(rt: HostRuntime) {
+    let log = Log::new();
+    drop(Rtc::with_events(Object(&log)).into_parts());
+    drop(I8042Device::new(Object(&log)).into_reset_evt());
+    drop(Rtc::with_events(Object(&log)));
+    drop(I8042Device::new(Object(&log)));
+    assert!(rt; log.calls() == [0; 4]);
 }

@@ -195,11 +195,17 @@ fn is_new(record: Option<&SerialDone>) -> bool {
 }
 
 /// Whether the port is the new one if the restore succeeded, and else the old one, which can be restored later.
-fn is_restored_or_stays(alloc: Global, serial: &mut TestSerial, restore: &SerialReply) -> Result<bool, Fail> {
+fn is_restored_or_stays(
+    alloc: Global,
+    serial: &mut TestSerial,
+    restore: &SerialReply,
+) -> Result<bool, Fail> {
     match restore {
-        Reply::Restored(old) => Ok(old.fifo_capacity() == 63
-            && old.interrupt_evt().calls() == 1
-            && serial.interrupt_evt().mask() == 8),
+        Reply::Restored(old) => Ok(
+            old.fifo_capacity() == 63
+                && old.interrupt_evt().calls() == 1
+                && serial.interrupt_evt().mask() == 8,
+        ),
         Reply::NotRestored(refused) => {
             let stays = serial.interrupt_evt().mask() == 0 && serial.interrupt_evt().calls() == 1;
             let again = run(alloc, serial, calls(alloc)?)?;

@@ -9,7 +9,7 @@ use superio_examples::monitor::Answer::{Done, Full, Reset, Shows};
 use superio_examples::monitor::MachineEvent::{
     MemoryRead, MemoryWrite, Moment, PortRead, PortWrite, Refused, Timer, Typed,
 };
-use superio_examples::monitor::{Answer, MachineEvent, Monitor, MachineReply};
+use superio_examples::monitor::{Answer, MachineEvent, MachineReply, Monitor};
 use superio_examples::saved_monitor::{move_monitor, restore_monitor, save_monitor};
 use vm_superio::saved::{LoadError, SavedStateError};
 use vm_superio::{I8042Device, Rtc};
@@ -273,6 +273,11 @@ fn a_guest_that_polls_gets_its_input_at_once(rt: HostRuntime) -> Result<(), Fail
     assert!(rt; restore_monitor(rt.alloc(), &saved).is_ok());
     saved.serial = saved.clock.clone()?;
     let error = restore_monitor(rt.alloc(), &saved).err();
-    assert!(rt; matches!(error, Some(LoadError::Invalid(SavedStateError::OtherDevice))));
+    assert!(rt;
+        matches!(
+            error,
+            Some(LoadError::Invalid(SavedStateError::OtherDevice))
+        )
+    );
     Ok(())
 }

@@ -1,6 +1,6 @@
 //! Calls that may return that memory was refused do not, while there is memory. A body that gives up at some size meets
 //! each contract.
-use crate::objects::{Log, Object, TestSerial, SerialCall, port_over, port_over_vector};
+use crate::objects::{Log, Object, SerialCall, TestSerial, port_over, port_over_vector};
 use std::alloc::{AllocError, Global};
 use std::io::Write;
 use std::test::Fail;
@@ -96,12 +96,15 @@ fn is_input_of(alloc: Global, bytes: &[u8]) -> Result<bool, Fail> {
 /// Whether a queue of this output takes all of it and drops what follows, and is made again with it.
 fn is_output_of(alloc: Global, bytes: &[u8]) -> Result<bool, Fail> {
     let mut output = OutputQueue::new(alloc, bytes.len())?;
-    let is_full = output.write(bytes).ok() == Some(bytes.len()) && output.write(b"abc").ok() == Some(0);
+    let is_full = output.write(bytes).ok() == Some(bytes.len())
+        && output.write(b"abc").ok() == Some(0);
     let restored = OutputQueue::restored(alloc, bytes, 0, 0)?;
-    Ok(is_full
-        && output.dropped() == 3
-        && output.waiting(alloc)?.as_slice() == bytes
-        && restored.limit() == bytes.len())
+    Ok(
+        is_full
+            && output.dropped() == 3
+            && output.waiting(alloc)?.as_slice() == bytes
+            && restored.limit() == bytes.len(),
+    )
 }
 
 #[test]

@@ -16,7 +16,7 @@ ghost use Rattle.superio_laws.specs.Rtc.{GoesOnFrom, ReadsByHistory, GoesOnByHis
 ghost use Rattle.superio_core.specs.Rtc.{state_of_clock, read, write, write_of, clock_register_at, is_readable, is_writable, host_time, bytes_left, fresh_clock};
 
 use std::marker::Model;
-pub use superio_core::rtc_pl031::{Pl031, ClockRegister, RtcState, encoding};
+pub use superio_core::rtc_pl031::{ClockRegister, Pl031, RtcState, encoding};
 
 /// Receives a clock's invalid accesses.
 ///

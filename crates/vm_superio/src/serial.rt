@@ -6,24 +6,24 @@ ghost use Rattle.vm_superio.specs.Serial.{Coherent, fresh_state, irq_level, cond
 ghost use Rattle.vm_superio.specs.Serial.Step.{RefusesRestore};
 
 mod effects;
+pub mod encoding;
 mod errors;
 mod events;
-pub mod encoding;
 
 use crate::Trigger;
 use crate::fifo::Fifo;
-pub use errors::{Error, Refused};
-pub use events::{NoEvents, SerialEvents};
 use effects::{Recorded, call_again, call_trigger, report_read, restored, send_where_due};
 pub use encoding::SerialState;
+pub use errors::{Error, Refused};
+pub use events::{NoEvents, SerialEvents};
 use std::alloc::{AllocError, Global};
 use std::io::Write;
 use std::marker::Model;
 use superio_core::fifo::{FIFO_SIZE, RxFifo};
+use superio_core::serial::Sent;
 use superio_core::serial::registers::Registers;
 pub use superio_core::serial::registers::{Condition, Register};
-use superio_core::serial::Sent;
-pub use superio_core::serial::{EnqueueEffects, ReadEffects, ArrayFifo, Uart, WriteEffects};
+pub use superio_core::serial::{ArrayFifo, EnqueueEffects, ReadEffects, Uart, WriteEffects};
 
 /// A 16550 serial port, reduced to what a guest's driver uses: its registers, a receive FIFO of 64 bytes that is always
 /// on, and two interrupt conditions.

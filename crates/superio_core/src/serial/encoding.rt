@@ -4,12 +4,11 @@ ghost use Rattle.std.specs.Result.{result_err, IsOkAnd};
 ghost use Rattle.superio_core.specs.Serial.{state_with, State, state_of_uart, ring_contents};
 ghost use Rattle.superio_core.specs.Saved.{serial_encoding, serial_fault};
 
-use std::marker::Model;
-
-use super::super::fifo::{FIFO_SIZE, RxFifo, ArrayFifo};
-use super::super::saved::{SavedStateError, HEADER_SIZE, SERIAL_KIND, decode_header, header};
+use super::super::fifo::{ArrayFifo, FIFO_SIZE, RxFifo};
+use super::super::saved::{HEADER_SIZE, SERIAL_KIND, SavedStateError, decode_header, header};
 use super::Uart;
 use super::registers::{REGISTER_COUNT, Registers};
+use std::marker::Model;
 
 /// The size of an encoding without received bytes: the header and the registers.
 const SAVED_MIN: usize = HEADER_SIZE + REGISTER_COUNT;

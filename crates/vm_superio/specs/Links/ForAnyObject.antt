@@ -15,7 +15,7 @@ SameWithoutCall old (call ∷ calls) new = ⊤
 pub record AnyCalls {Object Call : Type 0} (old : Object) (calls : List Call) (new : Object) : Type 0 where
   pub same : SameWithoutCall old calls new
 
--- the law `empty`, or `empty`
+-- the law `empty`
 pub AnyCalls-nil : {Object Call : Type 0} (old new : Object) → AnyCalls {Call = Call} old [] new ↔ (old ≡ new)
 AnyCalls-nil old new = (λ silent. silent.same, λ same. record { same = same })
 

@@ -39,7 +39,10 @@ pub fn other_versions_are_refused()
 
 /// Reading a port that was written gives its state back, unless memory is refused. A state with more than 64 received
 /// bytes is not written.
-pub fn serial_written_then_read(alloc: Global, state: &SerialState) -> Result<SerialState, LoadError>
+pub fn serial_written_then_read(
+    alloc: Global,
+    state: &SerialState,
+) -> Result<SerialState, LoadError>
     ensures read { length state.now.in_buffer.items ≤ 64 →
         MatchResult result (λ read. state_of read ≡ state_of state.now) (λ error. error ≡ LoadError.Memory) }
     ensures same { IfOk result (λ read. state_of read ≡ state_of state.now) }

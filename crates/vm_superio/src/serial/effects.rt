@@ -6,9 +6,9 @@ ghost use Rattle.vm_superio.specs.Serial.{outcome_of, bytes_sent, state_with, co
 ghost use Rattle.vm_superio.specs.Saved.{state_of};
 ghost use Rattle.vm_superio.specs.Serial.Step.{RefusesRestore};
 
+use super::encoding::SerialState;
 use super::errors::Error;
 use super::events::SerialEvents;
-use super::encoding::SerialState;
 use crate::Trigger;
 use crate::fifo::Fifo;
 use std::alloc::Global;
@@ -112,11 +112,11 @@ pub(super) fn send_where_due<EV: SerialEvents, W: Write>(
     if !sends {
         return (Sent::Nothing, None);
     }
-    let taken = match out.write_all(&[byte]) {
+    let written = match out.write_all(&[byte]) {
         Ok(()) => out.flush(),
         Err(fault) => Err(fault),
     };
-    match taken {
+    match written {
         Ok(()) => {
             events.out_byte();
             (Sent::Out, None)

@@ -8,8 +8,8 @@ use crate::saved::{LoadError, SavedStateError};
 use std::alloc::{AllocError, Global};
 use superio_core::fifo::{FIFO_SIZE, RxFifo};
 use superio_core::serial::Uart;
-use superio_core::serial::registers::Registers;
 pub use superio_core::serial::encoding::{SAVED_MAX, SerialEncoding};
+use superio_core::serial::registers::Registers;
 
 /// A serial port's contents except its objects: enough to recreate the port, also on another machine.
 ///
@@ -64,7 +64,7 @@ impl SerialState {
         })
     }
 
-    /// The state of a port as a value.
+    /// The state of a port without I/O.
     ///
     /// # Errors
     ///
@@ -81,7 +81,7 @@ impl SerialState {
         Ok(SerialState::of(&port.registers, in_buffer))
     }
 
-    /// The port of this state as a value. Allocates no memory, and calls no trigger: ask the port which interrupts are
+    /// The port of this state without I/O. Allocates no memory, and calls no trigger: ask the port which interrupts are
     /// due.
     ///
     /// # Errors

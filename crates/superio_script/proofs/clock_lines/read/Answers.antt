@@ -12,7 +12,7 @@ returns-in-Some c =
     record {
       step = λ accesses at. (
         c.reply_digits.ensures ∙ ap digits_reply c.to_be_bytes.ensures
-        ∙ ap value_reply (sym c.in-Some.is ∙ clock_responds accesses _ access _ c.read_value.ensures.response at),
+            ∙ ap value_reply (sym c.in-Some.is ∙ clock_responds accesses _ access _ c.read_value.ensures.response at),
         clock_goes_on accesses _ _ access c.read_value.ensures.state at,
       );
     }
@@ -23,7 +23,7 @@ returns-in-None c =
     record {
       step = λ accesses at. (
         c.reply_text.ensures
-        ∙ ap value_reply (sym c.in-None.is ∙ clock_responds accesses _ access _ c.read_value.ensures.response at),
+            ∙ ap value_reply (sym c.in-None.is ∙ clock_responds accesses _ access _ c.read_value.ensures.response at),
         clock_goes_on accesses _ _ access c.read_value.ensures.state at,
       );
     }
