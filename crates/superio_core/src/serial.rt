@@ -8,7 +8,7 @@
 ghost use Rattle.std.specs.Prelude.{◌≡◌, ◌↔◌, ◌≤◌, ◌-◌, ◌==◌, not, length, IsTrue, if◌then◌else◌, [], slice_index};
 ghost use Rattle.superio_core.specs.Serial.{fresh_state, state_of_uart, CoherentUart, RdaCoversHeldBytes, irq_level, conditions_due, not_empty, state_with, register_read, is_asserted};
 ghost use Rattle.superio_core.specs.Serial.Step.{IsUartRead, IsUartWrite, IsUartEnqueue, IsUartTimeout, becomes_pending, iir_after_raise, iir_after_lower, bytes_that_fit, receive_bytes, rbr_read, ier_write, read_step, write_step, character_timeout, read_events, ier_write_calls, arrival_calls, timeout_calls, decoded_calls};
-ghost use Rattle.superio_core.specs.Serial.RegisterMap.{lsr_dr_bit, Rda, Thre, Data, is_loopback};
+ghost use Rattle.superio_core.specs.Serial.RegisterMap.{lsr_dr_bit, ier_bits, Rda, Thre, Data, is_loopback};
 ghost use Rattle.superio_core.specs.Bits.{only_bits, with_bits};
 ghost use Rattle.superio_core.specs.Serial.Operations.{count_if, is_first_of_two_refused, decode_write, sent_by, events_of_read};
 
@@ -228,14 +228,14 @@ impl Registers {
         self.interrupt_identification = if others == 0 { IIR_NONE_BIT } else { others };
     }
 
-    /// An IER write: stores the low four bits, raises RDA if bytes are held, then raises THRE. Returns how often to
+    /// An IER write: stores the bits that it keeps, raises RDA if bytes are held, then raises THRE. Returns how often to
     /// call the trigger.
     #[inline(always)]
     fn write_ier<F: RxFifo>(&mut self, fifo: &F, value: u8) -> u8
-        ensures due { result ≡ ier_write_calls (only_bits value 0x0F) (state_with self.old (F.held fifo.now)) }
+        ensures due { result ≡ ier_write_calls (only_bits value ier_bits) (state_with self.old (F.held fifo.now)) }
         ensures at_most_2 { result ≤ 2 }
         ensures state { state_with self.new (F.held fifo.now)
-            ≡ ier_write (only_bits value 0x0F) Asked.Nothing (state_with self.old (F.held fifo.now)) }
+            ≡ ier_write (only_bits value ier_bits) Asked.Nothing (state_with self.old (F.held fifo.now)) }
     {
         self.interrupt_enable = only_bits(value, IER_UART_VALID_BITS);
         if !fifo.is_empty() && self.raise(Condition::Rda) {

@@ -190,7 +190,7 @@ impl Registers {
         self.interrupt_identification = if others == 0 { IIR_NONE_BIT } else { others };
     }
 
-    /// An IER write: stores the low four bits, raises RDA if bytes are held, then raises THRE. Returns how often to
+    /// An IER write: stores the bits that it keeps, raises RDA if bytes are held, then raises THRE. Returns how often to
     /// call the trigger.
     #[inline(always)]
     fn write_ier<F: RxFifo>(&mut self, fifo: &F, value: u8) -> u8 {

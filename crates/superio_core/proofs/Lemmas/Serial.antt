@@ -12,6 +12,7 @@ use Rattle.std.proofs.Math.Seq.{take-set-lt, drop-cons, take-suc}
 use Rattle.superio_core.specs.Bits.{has_bits, only_bits, with_bits, without_bits}
 use Rattle.superio_core.proofs.Lemmas.{and-without}
 use Rattle.superio_core.specs.Serial.{Coherent, ring_contents, ArrayFifo, fresh_state}
+use Rattle.superio_core.specs.Serial.RegisterMap.{ier_bits}
 use Rattle.superio_core.specs.Serial.Operations.{events_of_read, buffer_read, in_buffer_empty}
 
 -- ---- data ready, the lowest bit
@@ -31,13 +32,13 @@ data_ready_cleared byte = ap (λ n. n == 0x01) (and-without byte 0x01)
 
 -- ---- IER
 
-pub enables_rda : (value : ℕ) → has_bits (only_bits value 0x0F) 0x01 ≡ has_bits value 0x01
+pub enables_rda : (value : ℕ) → has_bits (only_bits value ier_bits) 0x01 ≡ has_bits value 0x01
 unfolding has_bits only_bits
-enables_rda value = ap (λ n. n == 0x01) (and_assoc 0x01 value 0x0F)
+enables_rda value = ap (λ n. n == 0x01) (and_assoc 0x01 value ier_bits)
 
-pub enables_thre : (value : ℕ) → has_bits (only_bits value 0x0F) 0x02 ≡ has_bits value 0x02
+pub enables_thre : (value : ℕ) → has_bits (only_bits value ier_bits) 0x02 ≡ has_bits value 0x02
 unfolding has_bits only_bits
-enables_thre value = ap (λ n. n == 0x02) (and_assoc 0x02 value 0x0F)
+enables_thre value = ap (λ n. n == 0x02) (and_assoc 0x02 value ier_bits)
 
 -- ---- a fresh port is coherent
 

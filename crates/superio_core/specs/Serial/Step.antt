@@ -124,7 +124,7 @@ thr_write value s =
     if is_loopback s.modem_control then receive_bytes (bytes_that_fit s.in_buffer (value ∷ [])) s
     else record s { interrupt_identification = iir_after_raise Thre s.interrupt_enable s.interrupt_identification }
 
--- a write, by the register at its offset: IER keeps the low four bits, and IIR, LSR, MSR and unassigned offsets ignore
+-- a write, by the register at its offset: IER keeps some bits, and IIR, LSR, MSR and unassigned offsets ignore
 -- the write
 abbrev pub write_step : (register : Register) (value : ℕ) (asked : Asked) (s : State) → State
 write_step Dll value asked s = record s { baud_divisor_low = value }

@@ -3,7 +3,7 @@ use Rattle.std.proofs.Common.{◌≡◌, ℕ, ◌+◌, ◌≤◌, Bool, true, fa
 use Rattle.superio_core.specs.Serial.Operations.{Asked, Op, Write, Enqueue, is_refused_at_once, DecodedOp, RbrRead, IirRead, IerWrite, ThrWrite, RxInput, Timeout, Other}
 use Rattle.superio_core.specs.declared.serial.Asked.TheVariants.{Nothing}
 use Rattle.superio_core.specs.Serial.{State, not_empty, Coherent}
-use Rattle.superio_core.specs.Serial.RegisterMap.{Thre, Rda, identification_of, is_loopback}
+use Rattle.superio_core.specs.Serial.RegisterMap.{Thre, Rda, ier_bits, identification_of, is_loopback}
 use Rattle.superio_core.specs.Bits.{has_bits, only_bits, without_bits}
 use Rattle.superio_core.specs.Serial.Step.{iir_after_raise, raise_rda_while_held, rda_becomes_pending, receive_bytes, bytes_that_fit, step, decode_in}
 use Rattle.superio_core.proofs.Lemmas.Serial.{data_ready_set, data_ready_cleared}
@@ -45,12 +45,12 @@ received_pending (byte ∷ bytes) s thre before e =
 -- what an IER write leaves of an IIR, if the trigger refuses for RDA or not
 abbrev enabled_if : Bool → List ℕ → ℕ → ℕ → ℕ
 enabled_if refused held_bytes value old =
-    let new = raise_rda_while_held held_bytes (only_bits value 0x0F) old in
-    if refused then new else iir_after_raise Thre (only_bits value 0x0F) new
+    let new = raise_rda_while_held held_bytes (only_bits value ier_bits) old in
+    if refused then new else iir_after_raise Thre (only_bits value ier_bits) new
 
 abbrev enabled : List ℕ → ℕ → Asked → ℕ → ℕ
 enabled held_bytes value asked old =
-    enabled_if (rda_becomes_pending held_bytes (only_bits value 0x0F) old && is_refused_at_once asked) held_bytes value old
+    enabled_if (rda_becomes_pending held_bytes (only_bits value ier_bits) old && is_refused_at_once asked) held_bytes value old
 
 -- from IIR of two conditions to that of the next two
 pub pending_by_kind : (k : DecodedOp) (asked : Asked) (s : State) (thre rda : Bool)

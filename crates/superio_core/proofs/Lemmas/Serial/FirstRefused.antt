@@ -8,7 +8,7 @@ use Rattle.superio_core.specs.Serial.{Registers, State, not_empty, state_with}
 use Rattle.superio_core.specs.Serial.Operations.{Asked, count_if, is_refused_at_once, is_first_of_two_refused, decode_write}
 use Rattle.superio_core.specs.declared.serial.Asked.TheVariants.{Nothing, Refused}
 use Rattle.superio_core.specs.Bits.{has_bits, only_bits, with_bits, without_bits}
-use Rattle.superio_core.specs.Serial.RegisterMap.{Register, Data, Ier, Thre, Rda, is_loopback}
+use Rattle.superio_core.specs.Serial.RegisterMap.{Register, Data, Ier, ier_bits, Thre, Rda, is_loopback}
 use Rattle.superio_core.specs.Serial.Step.{becomes_pending, iir_after_lower, rda_becomes_pending, raise_rda_while_held, bytes_that_fit, write_step, arrival_calls, decoded_calls}
 use Rattle.superio_core.proofs.Lemmas.{and-without, without-or}
 
@@ -83,7 +83,7 @@ write_step-unrefused : (register : Register) (value : ℕ) (asked : Asked) (s : 
     → is_first_of_two_refused (decoded_calls (decode_write register (is_loopback s.modem_control) value) s) asked ≡ false
     → write_step register value asked s ≡ write_step register value Nothing s
 write_step-unrefused Ier value asked s not_two =
-    let enable = only_bits value 0x0F in
+    let enable = only_bits value ier_bits in
     let first = raise_rda_while_held s.in_buffer enable s.interrupt_identification in
     ap (λ n. record s { interrupt_enable = enable; interrupt_identification = n })
     (unrefused (rda_becomes_pending s.in_buffer enable s.interrupt_identification) (becomes_pending Thre enable first)
@@ -94,7 +94,7 @@ write_step-refused : (register : Register) (value : ℕ) (s : State)
     → decoded_calls (decode_write register (is_loopback s.modem_control) value) s ≡ 2
     → write_step register value Refused s ≡ without_thre (write_step register value Nothing s)
 write_step-refused Ier value s two =
-    let enable = only_bits value 0x0F in
+    let enable = only_bits value ier_bits in
     ap (λ n. record s { interrupt_enable = enable; interrupt_identification = n })
     (ier-lowered (not_empty s.in_buffer) (becomes_pending Rda enable s.interrupt_identification) (has_bits enable 0x02)
     s.interrupt_identification two)

@@ -5,7 +5,7 @@ use Rattle.std.proofs.lemmas.Nat.{and_or_self}
 use Rattle.superio_core.specs.Serial.Operations.{Asked, Op, Read, Write, Enqueue, CharacterTimeout, Restore, DecodedOp, RbrRead, IirRead, IerWrite, ThrWrite, RxInput, Timeout, Other, decode_read, decode_write, decode, is_refused_at_once, count_if, answer_count}
 use Rattle.superio_core.specs.Serial.{State, not_empty, is_asserted, irq_level, conditions_due, RdaCoversHeldBytes}
 use Rattle.superio_core.specs.Bits.{only_bits, has_bits, with_bits, without_bits}
-use Rattle.superio_core.specs.Serial.RegisterMap.{Register, Data, Ier, register_at, is_dlab, is_loopback, Thre, Rda, identification_of, pending_in_order}
+use Rattle.superio_core.specs.Serial.RegisterMap.{Register, Data, Ier, ier_bits, register_at, is_dlab, is_loopback, Thre, Rda, identification_of, pending_in_order}
 use Rattle.superio_core.specs.Serial.Step.{iir_after_raise, enqueued_bytes, receive_bytes, bytes_that_fit, becomes_pending, rda_becomes_pending, raise_rda_while_held, decode_in, step, rbr_read, ier_write, read_step, write_step, character_timeout, answers_all}
 use Rattle.superio_core.proofs.Lemmas.Serial.{enables_rda, enables_thre}
 
@@ -15,7 +15,7 @@ use Rattle.superio_core.proofs.Lemmas.Serial.{enables_rda, enables_thre}
 abbrev pub by_kind : DecodedOp → Asked → State → State
 by_kind RbrRead asked s = rbr_read s
 by_kind IirRead asked s = record s { interrupt_identification = 1 }
-by_kind (IerWrite value) asked s = ier_write (only_bits value 0x0F) asked s
+by_kind (IerWrite value) asked s = ier_write (only_bits value ier_bits) asked s
 by_kind (ThrWrite value) asked s =
     record s { interrupt_identification = iir_after_raise Thre s.interrupt_enable s.interrupt_identification }
 by_kind (RxInput bytes) asked s = receive_bytes (bytes_that_fit s.in_buffer bytes) s
@@ -119,11 +119,11 @@ held_first : (held enabled rda : Bool) → (held && (enabled && not rda)) ≡ ((
 held_first held enabled rda = grind arith
 
 pub ier_write_raises_rda : (held : List ℕ) (value : ℕ) (thre rda : Bool)
-    → rda_becomes_pending held (only_bits value 0x0F) (identification_of thre rda)
+    → rda_becomes_pending held (only_bits value ier_bits) (identification_of thre rda)
     ≡ ((has_bits value 0x01 && not_empty held) && not rda)
 ier_write_raises_rda held value thre rda =
     ap (λ new. not_empty held && new)
-    (rda_new (only_bits value 0x0F) thre rda ∙ ap (λ bit. bit && not rda) (enables_rda value))
+    (rda_new (only_bits value ier_bits) thre rda ∙ ap (λ bit. bit && not rda) (enables_rda value))
     ∙ held_first (not_empty held) (has_bits value 0x01) rda
 
 held_asked : (held enabled thre rda : Bool)
@@ -132,11 +132,11 @@ held_asked : (held enabled thre rda : Bool)
 held_asked held enabled thre rda = grind arith
 
 pub ier_write_raises : (held : List ℕ) (value : ℕ) (thre rda : Bool)
-    → raise_rda_while_held held (only_bits value 0x0F) (identification_of thre rda)
+    → raise_rda_while_held held (only_bits value ier_bits) (identification_of thre rda)
     ≡ identification_of thre ((has_bits value 0x01 && not_empty held) || rda)
 ier_write_raises held value thre rda =
     ap (λ asked. if not_empty held then asked else identification_of thre rda)
-    (raise_rda (only_bits value 0x0F) thre rda
+    (raise_rda (only_bits value ier_bits) thre rda
     ∙ ap (λ bit. identification_of thre (bit || rda)) (enables_rda value))
     ∙ held_asked (not_empty held) (has_bits value 0x01) thre rda
 
@@ -161,26 +161,26 @@ refused_or_asked refused enabled thre rda = grind arith
 
 -- IIR afterwards, whether or not the trigger refused for RDA
 pub ier_write_leaves : (refused : Bool) (held : List ℕ) (value : ℕ) (thre rda : Bool)
-    → (let identification = raise_rda_while_held held (only_bits value 0x0F) (identification_of thre rda) in
-    if refused then identification else iir_after_raise Thre (only_bits value 0x0F) identification)
+    → (let identification = raise_rda_while_held held (only_bits value ier_bits) (identification_of thre rda) in
+    if refused then identification else iir_after_raise Thre (only_bits value ier_bits) identification)
     ≡ identification_of ((has_bits value 0x02 && not refused) || thre)
     ((has_bits value 0x01 && not_empty held) || rda)
 ier_write_leaves refused held value thre rda =
     let after = (has_bits value 0x01 && not_empty held) || rda in
-    ap (λ identification. if refused then identification else iir_after_raise Thre (only_bits value 0x0F) identification)
+    ap (λ identification. if refused then identification else iir_after_raise Thre (only_bits value ier_bits) identification)
     (ier_write_raises held value thre rda)
     ∙ ap (λ asked. if refused then identification_of thre after else asked)
-    (raise_thre (only_bits value 0x0F) thre after
+    (raise_thre (only_bits value ier_bits) thre after
     ∙ ap (λ bit. identification_of (bit || thre) after) (enables_thre value))
     ∙ refused_or_asked refused (has_bits value 0x02) thre after
 
 pub ier_write_raises_thre : (held : List ℕ) (value : ℕ) (thre rda : Bool)
-    → becomes_pending Thre (only_bits value 0x0F)
-    (raise_rda_while_held held (only_bits value 0x0F) (identification_of thre rda))
+    → becomes_pending Thre (only_bits value ier_bits)
+    (raise_rda_while_held held (only_bits value ier_bits) (identification_of thre rda))
     ≡ (has_bits value 0x02 && not thre)
 ier_write_raises_thre held value thre rda =
-    ap (becomes_pending Thre (only_bits value 0x0F)) (ier_write_raises held value thre rda)
-    ∙ thre_new (only_bits value 0x0F) thre ((has_bits value 0x01 && not_empty held) || rda)
+    ap (becomes_pending Thre (only_bits value ier_bits)) (ier_write_raises held value thre rda)
+    ∙ thre_new (only_bits value ier_bits) thre ((has_bits value 0x01 && not_empty held) || rda)
     ∙ ap (λ bit. bit && not thre) (enables_thre value)
 
 -- ---- the answers to the calls that are due

@@ -10,7 +10,7 @@ pub mod Transmit
 use Rattle.std.proofs.Common.{rules, ◌≡◌, ℕ, Bool, List, [], ◌∷◌, Option, None, refl, ap, sym, ◌∙◌, arith, subst, ◌++◌, length, drop, append_assoc, append-nil, length-append, if◌then◌else◌, unwrap_or}
 use Rattle.std.specs.Option.{option_map_or}
 use Rattle.std.proofs.Math.Seq.{drop-append-add}
-use Rattle.superio_laws.specs.Serial.{Asked, Op, TraceEntry, DecodedOp, decode, State, not_empty, only_bits, has_bits, is_dlab, is_loopback, step, decode_in}
+use Rattle.superio_laws.specs.Serial.{ier_bits, Asked, Op, TraceEntry, DecodedOp, decode, State, not_empty, only_bits, has_bits, is_dlab, is_loopback, step, decode_in}
 use Rattle.superio_laws.specs.Serial.History.{state_of_history, with_data_ready, lsr_after, value_written_at, last_found, dlab_after, decode_at, accepted_by, read_out_by, remaining_bytes, accepted_bytes, read_out_bytes, held_bytes}
 use Rattle.superio_laws.specs.Serial.Laws.{RegisterLaw, state_after, HeldBytesLaw, LineStatusLaw}
 use Rattle.superio_core.proofs.Lemmas.Serial.Step.{SameBytes, by_kind, next_by_kind}
@@ -25,7 +25,7 @@ pub record Steps (dlab : Bool) (op : Op) (s new : State) : Type 0 where
   pub divisor_low : new.baud_divisor_low ≡ unwrap_or (if dlab then value_written_at 0 op else None) s.baud_divisor_low
   pub divisor_high : new.baud_divisor_high ≡ unwrap_or (if dlab then value_written_at 1 op else None) s.baud_divisor_high
   pub interrupt_enable : new.interrupt_enable
-      ≡ option_map_or (λ value. only_bits value 0x0F) (if dlab then None else value_written_at 1 op) s.interrupt_enable
+      ≡ option_map_or (λ value. only_bits value ier_bits) (if dlab then None else value_written_at 1 op) s.interrupt_enable
   pub line_control : new.line_control ≡ unwrap_or (value_written_at 3 op) s.line_control
   pub modem_control : new.modem_control ≡ unwrap_or (value_written_at 4 op) s.modem_control
   pub modem_status : new.modem_status ≡ s.modem_status
@@ -51,9 +51,9 @@ more : (found : List TraceEntry → Op → Option ℕ) (entry : TraceEntry) (tra
 more found entry trace byte old new before step = grind arith
 
 more_masked : (found : List TraceEntry → Op → Option ℕ) (entry : TraceEntry) (trace : List TraceEntry) (byte old new : ℕ)
-    → old ≡ option_map_or (λ value. only_bits value 0x0F) (last_found found trace) byte
-    → new ≡ option_map_or (λ value. only_bits value 0x0F) (found trace entry.op) old
-    → new ≡ option_map_or (λ value. only_bits value 0x0F) (last_found found (entry ∷ trace)) byte
+    → old ≡ option_map_or (λ value. only_bits value ier_bits) (last_found found trace) byte
+    → new ≡ option_map_or (λ value. only_bits value ier_bits) (found trace entry.op) old
+    → new ≡ option_map_or (λ value. only_bits value ier_bits) (last_found found (entry ∷ trace)) byte
 more_masked found entry trace byte old new before step = grind arith
 
 pub register_law : RegisterLaw

@@ -43,7 +43,7 @@ divisor_high start trace =
     unwrap_or (last_found (λ before op. if dlab_after start before then value_written_at 1 op else None) trace)
     start.baud_divisor_high
 
--- IER: the low four bits of the last write at offset 1 with DLAB clear at that point, or the start's whole byte
+-- IER: the bits that it keeps of the last write at offset 1 with DLAB clear at that point, or the start's whole byte
 abbrev pub ier_after : (start : State) (trace : Trace) → ℕ
 ier_after start trace =
     option_map_or (λ value. only_bits value ier_bits)
