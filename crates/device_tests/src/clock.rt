@@ -1,3 +1,4 @@
+// SPDX-License-Identifier: Apache-2.0 OR BSD-3-Clause
 //! The clock by accesses of the guest and their moments: guest time, the registers, invalid offsets, saved states and
 //! the alarm. Tests that vm-superio has too name those.
 use crate::clock::Access::{Read, Write};

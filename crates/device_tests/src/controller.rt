@@ -1,3 +1,4 @@
+// SPDX-License-Identifier: Apache-2.0 OR BSD-3-Clause
 //! The i8042 controller: it resets at one command, and reads 0. Tests that vm-superio has too name those.
 use superio_script::{Line, LineRefused};
 use vm_superio::I8042Device;

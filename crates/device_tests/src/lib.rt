@@ -1,3 +1,4 @@
+// SPDX-License-Identifier: Apache-2.0 OR BSD-3-Clause
 //! The worked cases of each device through its public calls: the serial port, runs of calls, the clock, the controller
 //! and saved states, and the signatures of the calls.
 #![tactic(auto)]

@@ -1,3 +1,4 @@
+// SPDX-License-Identifier: Apache-2.0 OR BSD-3-Clause
 //! The public calls, types and cases that a program uses, with their names, the types of their arguments and the bounds
 //! that they ask for. A change of one is a compile error here.
 use std::alloc::{AllocError, Global};

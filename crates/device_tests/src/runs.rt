@@ -1,3 +1,4 @@
+// SPDX-License-Identifier: Apache-2.0 OR BSD-3-Clause
 //! Runs: each record of a list of calls, and the objects after it.
 use crate::runs::Plain::{CharacterTimeout, Enqueue, Read, Restore, Write};
 use crate::runs::Row::{Asks, Quiet, Sends};

@@ -1,3 +1,4 @@
+// SPDX-License-Identifier: Apache-2.0 OR BSD-3-Clause
 //! The byte encodings of saved states, with bytes by docs/SAVED-STATES.md, and each reason why bytes are refused.
 use crate::serial_objects::{Fields, IER, SCR, fresh};
 use std::test::Fail;

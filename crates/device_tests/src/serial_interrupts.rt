@@ -1,3 +1,4 @@
+// SPDX-License-Identifier: Apache-2.0 OR BSD-3-Clause
 //! The two interrupt conditions of a serial port: when a call asks for them, and what acknowledges them.
 use crate::serial_objects::Step::{
     Calls, Enqueue, EnqueueRefused, Events, Iir, Read, Room, Timeout, TimeoutRefused, Write,

@@ -1,3 +1,4 @@
+// SPDX-License-Identifier: Apache-2.0 OR BSD-3-Clause
 //! Serial ports for the tests, and the steps that a test takes with one.
 use std::alloc::{AllocError, Global};
 use std::io;

@@ -1,3 +1,4 @@
+// SPDX-License-Identifier: Apache-2.0 OR BSD-3-Clause
 //! What a serial port sends, and what a writer's failure changes.
 use crate::serial_objects::Step::{
     Calls, Enqueue, Events, Read, Write, WriteFails, WriteRefused, Written,

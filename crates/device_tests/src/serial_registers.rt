@@ -1,3 +1,4 @@
+// SPDX-License-Identifier: Apache-2.0 OR BSD-3-Clause
 //! The registers of a serial port and its receive FIFO, as a guest and a monitor see them.
 use crate::serial_objects::Step::{Enqueue, EnqueueFull, Events, Read, Room, Write, Written};
 use crate::serial_objects::{

@@ -1,3 +1,4 @@
+// SPDX-License-Identifier: Apache-2.0 OR BSD-3-Clause
 //! States of a serial port: what a restore takes and calls, and what reads show then, also from states that no guest
 //! could have led to.
 use crate::serial_objects::Step::{Calls, Enqueue, Events, Read, Restore, Write};

@@ -1,3 +1,4 @@
+// SPDX-License-Identifier: Apache-2.0 OR BSD-3-Clause
 //! Runs a script of device accesses from standard input, and prints the replies on standard output.
 #![tactic(auto)]
 

@@ -1,3 +1,4 @@
+-- SPDX-License-Identifier: Apache-2.0 OR BSD-3-Clause
 -- What a read of the clock leaves to the caller, and the number that says when the alarm is due.
 use Rattle.std.specs.Prelude.{ℕ, ◌-◌, ◌^◌, ◌==◌, true, false, if◌then◌else◌, Option, Some, None}
 use Rattle.superio_c.specs.declared.clock.RtcReadEffects.{RtcReadEffects}

@@ -1,2 +1,3 @@
+-- SPDX-License-Identifier: Apache-2.0 OR BSD-3-Clause
 pub mod Clock
 pub mod Saved

@@ -1,3 +1,4 @@
+-- SPDX-License-Identifier: Apache-2.0 OR BSD-3-Clause
 -- What a load of a saved state returns.
 use Rattle.std.specs.Prelude.{ℕ, Option, Some, None}
 use Rattle.superio_core.specs.declared.saved.SavedStateError.{SavedStateError}

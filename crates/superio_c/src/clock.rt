@@ -1,3 +1,4 @@
+// SPDX-License-Identifier: Apache-2.0 OR BSD-3-Clause
 //! The clock. Its struct is `superio_rtc` in the header.
 ghost use Rattle.std.specs.Prelude.{◌≡◌, ◌≢◌, ◌<◌, ◌^◌, ◌-◌, not};
 ghost use Rattle.superio_c.specs.Clock.{effects_of_response, due_of};

@@ -1,3 +1,4 @@
+// SPDX-License-Identifier: Apache-2.0 OR BSD-3-Clause
 //! The i8042 controller, which has no state.
 ghost use Rattle.std.specs.Prelude.{◌≡◌};
 ghost use Rattle.superio_core.specs.I8042.{is_reset_command};

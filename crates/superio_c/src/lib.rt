@@ -1,3 +1,4 @@
+// SPDX-License-Identifier: Apache-2.0 OR BSD-3-Clause
 //! The devices of vm_superio as C functions. Their header is `bindings/c/superio.h`.
 //!
 //! A function takes a device in a plain struct by pointer, changes it, and returns what is left to do. No function has

@@ -1,3 +1,4 @@
+// SPDX-License-Identifier: Apache-2.0 OR BSD-3-Clause
 //! The serial port. Its struct is `superio_serial` in the header: nine registers, then the received bytes.
 ghost use Rattle.std.specs.Prelude.{◌≡◌, ◌↔◌, ◌≤◌, ◌-◌, ◌==◌, not, length, IsTrue};
 ghost use Rattle.superio_core.specs.Serial.{state_of_uart, CoherentUart, RdaCoversHeldBytes, fresh_state, irq_level, conditions_due};

@@ -1,3 +1,4 @@
+-- SPDX-License-Identifier: Apache-2.0 OR BSD-3-Clause
 -- Lemmas on numbers as sets of bits.
 pub mod Saved
 pub mod Serial

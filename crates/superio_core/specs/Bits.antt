@@ -1,3 +1,4 @@
+-- SPDX-License-Identifier: Apache-2.0 OR BSD-3-Clause
 -- Bytes, and other numbers, as sets of bits.
 use Rattle.std.specs.Prelude.{ℕ, ◌-◌, Bool, ◌==◌, bit_and, bit_or}
 

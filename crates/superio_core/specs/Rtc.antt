@@ -1,3 +1,4 @@
+-- SPDX-License-Identifier: Apache-2.0 OR BSD-3-Clause
 -- The clock PL031: its registers, what an access is, which register it reaches and what a read of it shows; and the
 -- state of a clock. The step of an access and the history of all accesses both rest on this map.
 pub mod Step

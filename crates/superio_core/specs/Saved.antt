@@ -1,3 +1,4 @@
+-- SPDX-License-Identifier: Apache-2.0 OR BSD-3-Clause
 -- A saved state as bytes: its encoding, the checks that other bytes fail, and the laws that join the two.
 use Rattle.std.specs.Prelude.{ℕ, Bool, if◌then◌else◌, List, [], ◌∷◌, ◌++◌, length, ◌==◌, not, ◌+◌, nat_le, nat_lt, drop, slice_index, Option, Some, None, codes, ◌≡◌, ◌<◌, ◌≤◌, ◌^◌, FitsSigned}
 use Rattle.std.specs.Int.{w16, w32, w64, to_le_bytes, cast_unsigned, cast_signed, from_le_bytes}

@@ -1,3 +1,4 @@
+-- SPDX-License-Identifier: Apache-2.0 OR BSD-3-Clause
 -- The serial port: its state, what a read of a register shows, and the port that a program holds.
 pub mod Operations
 pub mod RegisterMap

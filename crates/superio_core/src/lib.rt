@@ -1,3 +1,4 @@
+// SPDX-License-Identifier: Apache-2.0 OR BSD-3-Clause
 //! The devices of a virtual machine monitor without I/O (sans-I/O): a call changes a device and returns what is left to
 //! do. No object, no heap, no dependency.
 //!

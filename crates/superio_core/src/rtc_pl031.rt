@@ -1,3 +1,4 @@
+// SPDX-License-Identifier: Apache-2.0 OR BSD-3-Clause
 //! A real-time clock with the registers of an ARM PL031, without I/O.
 //!
 //! A call changes the clock and returns what the guest reads, or whether the access is invalid. The clock reads no

@@ -1,3 +1,4 @@
+// SPDX-License-Identifier: Apache-2.0 OR BSD-3-Clause
 //! A saved state as bytes: its header, and why bytes are refused.
 //!
 //! The encoding is the same on every machine. A state has at most one encoding, and no two states share one.

@@ -1,3 +1,4 @@
+// SPDX-License-Identifier: Apache-2.0 OR BSD-3-Clause
 //! A serial port with the registers of a 16550, without I/O.
 //!
 //! A call changes the port and returns what is left to do: a byte to send, interrupts to raise, or events to report.

@@ -1,3 +1,4 @@
+-- SPDX-License-Identifier: Apache-2.0 OR BSD-3-Clause
 -- The bytes that a serial port takes are the first of those that it is given; and the order of what goes through an
 -- output.
 use Rattle.std.proofs.Common.{◌≡◌, ℕ, ◌-◌, ◌≤◌, Bool, List, [], ◌++◌, length, take, drop, ap, arith, length-append, if◌then◌else◌, inl, inr, ◌+◌, ◌^◌, ◌<◌, true, false, nat_lt, min, suc, ◌∷◌, refl, sym, ◌∙◌, append_assoc, append-nil, take-append-drop}

@@ -1,3 +1,4 @@
+-- SPDX-License-Identifier: Apache-2.0 OR BSD-3-Clause
 -- A console that echoes.
 use Rattle.std.specs.Prelude.{◌≡◌, ℕ, List, false}
 use Rattle.superio_core.specs.Serial.{State, state_of_uart}

@@ -1,3 +1,4 @@
+-- SPDX-License-Identifier: Apache-2.0 OR BSD-3-Clause
 pub mod Bus
 pub mod Echo
 pub mod ManyCalls

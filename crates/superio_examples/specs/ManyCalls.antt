@@ -1,3 +1,4 @@
+-- SPDX-License-Identifier: Apache-2.0 OR BSD-3-Clause
 -- A guest's accesses, and the reads among them.
 use Rattle.std.specs.Prelude.{ℕ, List, sum_by}
 use Rattle.vm_superio.specs.Claims.{acknowledged_at}

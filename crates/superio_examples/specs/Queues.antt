@@ -1,3 +1,4 @@
+-- SPDX-License-Identifier: Apache-2.0 OR BSD-3-Clause
 -- What waits up to a limit: input for room in a serial port, and output for a monitor's sink.
 use Rattle.std.specs.Prelude.{ℕ, ◌-◌, ◌==◌, bit_and, Bool, if◌then◌else◌, length, ◌≡◌, ◌⊎◌, ◌+◌, ◌^◌, ◌<◌, nat_lt, min, List, [], ◌∷◌, ◌++◌, take, drop}
 use Rattle.vm_superio.specs.Serial.{State, is_loopback}

@@ -1,3 +1,4 @@
+-- SPDX-License-Identifier: Apache-2.0 OR BSD-3-Clause
 -- A monitor as plain data.
 use Rattle.std.specs.Prelude.{◌≡◌, ℕ, max, length}
 use Rattle.circular_buffer.specs.Buffer.{Buffer, buffer}

@@ -1,3 +1,4 @@
+-- SPDX-License-Identifier: Apache-2.0 OR BSD-3-Clause
 -- A guest's read, and the character timeout that a monitor makes after it.
 use Rattle.std.specs.Prelude.{ℕ, Bool, ◌==◌, ◌&&◌, if◌then◌else◌}
 use Rattle.vm_superio.specs.Serial.{Asked, has_bits, State, register_at, register_read, is_dlab, Read, CharacterTimeout, iir_none_bit, step, timeout_calls}

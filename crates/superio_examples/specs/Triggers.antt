@@ -1,3 +1,4 @@
+-- SPDX-License-Identifier: Apache-2.0 OR BSD-3-Clause
 -- Interrupt lines: one that counts its calls, and one that keeps interrupts up to a limit.
 use Rattle.std.specs.Prelude.{◌≡◌, ◌↔◌, ◌+◌, ◌-◌, ◌^◌, if◌then◌else◌, min, Result, List, [], ◌++◌, count_by}
 use Rattle.std.specs.Result.{is_ok}

@@ -1,3 +1,4 @@
+// SPDX-License-Identifier: Apache-2.0 OR BSD-3-Clause
 //! A console that echoes: a guest's driver that sends back what it receives, and its monitor.
 //!
 //! The driver enables received data alone, and its handler takes at most a given number of bytes at each interrupt, so

@@ -1,3 +1,4 @@
+// SPDX-License-Identifier: Apache-2.0 OR BSD-3-Clause
 //! First claims about the devices. Each states one sentence as a contract, and its proof is empty: the calls and their
 //! contracts are enough. Copy the one that is nearest to yours. A plain `#[tactic(auto)]` is on those that open no bit.
 #![tactic(auto, unfolding(superio_core::specs::Bits::has_bits, superio_core::specs::Bits::only_bits, superio_core::specs::Bits::with_bits))]

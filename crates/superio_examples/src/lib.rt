@@ -1,3 +1,4 @@
+// SPDX-License-Identifier: Apache-2.0 OR BSD-3-Clause
 //! Short modules to copy into a monitor: a bus, a clock's window in memory, triggers, input and output in an event
 //! loop, a migration, a whole monitor, and first claims about the devices.
 #![tactic(auto)]

@@ -1,3 +1,4 @@
+// SPDX-License-Identifier: Apache-2.0 OR BSD-3-Clause
 //! Claims about a list of calls, in two ways.
 //!
 //! **A loop of your own** meets the clauses of the calls that it makes: its invariant says what each of them keeps. A

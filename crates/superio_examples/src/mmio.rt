@@ -1,3 +1,4 @@
+// SPDX-License-Identifier: Apache-2.0 OR BSD-3-Clause
 //! A clock on an MMIO bus: a window of guest memory, which the guest reaches by 64-bit addresses.
 ghost use Rattle.std.specs.Prelude.{◌≡◌, ◌-◌, if◌then◌else◌, length, replicate, Some, None};
 ghost use Rattle.std.specs.Bool.{OnTrue, OnFalse};

@@ -1,3 +1,4 @@
+// SPDX-License-Identifier: Apache-2.0 OR BSD-3-Clause
 //! A whole monitor without its virtual processor: the devices of a machine, its input and its output, as one struct.
 //!
 //! A loop around it makes [`MachineEvent`]s of what its hypervisor, its terminal and its timers report, passes them to

@@ -1,3 +1,4 @@
+// SPDX-License-Identifier: Apache-2.0 OR BSD-3-Clause
 //! What waits, up to a limit: input for a guest, until the serial port's FIFO has room, and no byte of it is lost; and
 //! output of a guest, until the monitor's sink takes it, and the guest never waits for the sink.
 ghost use Rattle.std.specs.Prelude.{◌≡◌, ◌≤◌, ◌-◌, ◌==◌, ℕ, [], ◌∷◌, ◌++◌, length, take, drop, max, min, Some, IfOk, OnErr};

@@ -1,3 +1,4 @@
+// SPDX-License-Identifier: Apache-2.0 OR BSD-3-Clause
 //! A monitor as plain data: it goes on from there on another machine, as if nothing had happened.
 //!
 //! Both hosts must tell the same time, since the clock keeps only the difference between guest time and host time.

@@ -1,3 +1,4 @@
+// SPDX-License-Identifier: Apache-2.0 OR BSD-3-Clause
 //! A guest's read by a monitor that keeps the rule by which no received byte waits for ever: after a read of IIR that
 //! answers 'none pending' it makes a character timeout.
 ghost use Rattle.std.specs.Prelude.{◌≡◌, ◌≤◌};

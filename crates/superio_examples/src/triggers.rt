@@ -1,3 +1,4 @@
+// SPDX-License-Identifier: Apache-2.0 OR BSD-3-Clause
 //! Triggers: the usual one, a file descriptor that the host's kernel watches, such as an eventfd that is the irqfd of
 //! an interrupt line; one that counts its calls, for a monitor that injects interrupts itself; and one that has room
 //! for some interrupts and refuses the others, with a link of its own.

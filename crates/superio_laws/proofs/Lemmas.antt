@@ -1,3 +1,4 @@
+-- SPDX-License-Identifier: Apache-2.0 OR BSD-3-Clause
 -- Lemmas on the bits of LSR.
 pub mod Examples
 pub mod Rtc

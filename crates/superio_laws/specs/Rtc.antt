@@ -1,3 +1,4 @@
+-- SPDX-License-Identifier: Apache-2.0 OR BSD-3-Clause
 -- The laws that join the step of an access and the history of a clock.
 pub mod History
 use Rattle.std.specs.Prelude.{if◌then◌else◌, List, [], ◌∷◌, ◌≡◌, ℕ, ◌+◌, ◌^◌, ◌<◌, Bool, true, false, ◌==◌, ◌&&◌, Option, None, pos, ◌+ℤ◌}

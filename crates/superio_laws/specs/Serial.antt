@@ -1,3 +1,4 @@
+-- SPDX-License-Identifier: Apache-2.0 OR BSD-3-Clause
 -- The words of superio_core that the history, its laws and their proofs use.
 pub mod History
 pub mod Laws

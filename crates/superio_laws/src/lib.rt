@@ -1,3 +1,4 @@
+// SPDX-License-Identifier: Apache-2.0 OR BSD-3-Clause
 //! The laws of the devices, over the definitions of `superio_core`. Each function does nothing: its contract is the
 //! law.
 //!

@@ -1,3 +1,4 @@
+-- SPDX-License-Identifier: Apache-2.0 OR BSD-3-Clause
 -- A driver that reads while LSR shows data ready takes all bytes of a port in a coherent state, and stops in any state.
 use Rattle.std.proofs.Common.{◌≡◌, ◌≢◌, lit<, ℕ, suc, ◌+◌, ◌-◌, ◌<◌, ◌≤◌, Bool, true, false, ◌==◌, List, [], ◌∷◌, ◌++◌, length, ap, sym, ◌∙◌, subst, arith, ◌↔◌, IsTrue, bit_and, drop, slice_index, if◌then◌else◌, ◌&&◌, mod-lt}
 use Rattle.std.proofs.lemmas.Bool.{false≢true}

@@ -1,3 +1,4 @@
+-- SPDX-License-Identifier: Apache-2.0 OR BSD-3-Clause
 -- Worked scripts of the serial port: the replies, computed from the history.
 use Rattle.std.proofs.Common.{◌≡◌, ℕ, List, [], ◌∷◌, ◌++◌, refl, replicate, codes}
 use Rattle.vm_superio.specs.Serial.{has_bits, only_bits, with_bits}

@@ -1,3 +1,4 @@
+-- SPDX-License-Identifier: Apache-2.0 OR BSD-3-Clause
 pub mod DriverLemmas
 pub mod Examples
 pub mod LineLemmas

@@ -1,3 +1,4 @@
+-- SPDX-License-Identifier: Apache-2.0 OR BSD-3-Clause
 -- What the lines so far add to what was written, whatever is still to come, and what was written when a run ends.
 use Rattle.std.proofs.Common.{arith, ◌≡◌, ℕ, ◌+◌, ◌≤◌, List, [], ◌∷◌, ◌++◌, length, Bool, Option, Some, None, refl, ap, sym, ◌∙◌, subst, append_assoc, append-nil, length-append, IsTrue, IsSomeAnd, is_some, if◌then◌else◌, nat_le, codes}
 use Rattle.std.specs.Cmp.Derive.{both_true}

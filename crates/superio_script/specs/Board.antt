@@ -1,3 +1,4 @@
+-- SPDX-License-Identifier: Apache-2.0 OR BSD-3-Clause
 -- What a contract sees of a board, and of one line on it.
 use Rattle.std.specs.Prelude.{◌≡◌, ◌≤◌, ℕ, List, [], ◌∷◌, length, IsTrue}
 use Rattle.vm_superio.specs.Serial.{SerialView, Trace, fresh_state}

@@ -1,3 +1,4 @@
+-- SPDX-License-Identifier: Apache-2.0 OR BSD-3-Clause
 -- The syntaxes of a line: what a line asks for.
 use Rattle.std.specs.Prelude.{ℕ, ◌==◌, List, [], ◌∷◌, if◌then◌else◌, codes, Option, None, option_map, bytes_eq}
 use Rattle.std.specs.Int.{w8, w16, w32, w64}

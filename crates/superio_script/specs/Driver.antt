@@ -1,3 +1,4 @@
+-- SPDX-License-Identifier: Apache-2.0 OR BSD-3-Clause
 -- A driver on the guest's side of a serial port, which polls.
 use Rattle.std.specs.Prelude.{◌≡◌, ◌++◌, ℕ, zero, suc, false, List, [], ◌∷◌, length, IsTrue}
 use Rattle.std.specs.List.{repeat}

@@ -1,3 +1,4 @@
+-- SPDX-License-Identifier: Apache-2.0 OR BSD-3-Clause
 -- The lines of a script and the fields of a line, by the kinds that the syntaxes have.
 use Rattle.std.specs.Prelude.{ℕ, List, [], ◌∷◌, if◌then◌else◌, ◌==◌, None, Some, Option, ◌/◌, ◌&&◌, nat_le, length, option_map, option_and_then}
 use Rattle.std.specs.Borrow.{Bor}

@@ -1,3 +1,4 @@
+-- SPDX-License-Identifier: Apache-2.0 OR BSD-3-Clause
 -- The serial port's part of a script: the replies to its lines, by the history. They depend on these lines alone, on
 -- the mask, and on what a script leaves open: which bytes are lost, and what `so` prints once one was.
 use Rattle.std.specs.Prelude.{ℕ, zero, suc, ◌+◌, ◌-◌, Bool, true, false, not, if◌then◌else◌, List, [], ◌∷◌, ◌++◌, length, drop, count_by, codes, nat_le}

@@ -1,3 +1,4 @@
+// SPDX-License-Identifier: Apache-2.0 OR BSD-3-Clause
 //! A board of devices, and the lines that drive it.
 ghost use Rattle.std.specs.Prelude.{◌≡◌, ◌↔◌, codes, IfOk, IfErr, IsSomeAnd, IsErrOf, OnErr};
 ghost use Rattle.superio_script.specs.Command.{command_of};

@@ -1,3 +1,4 @@
+// SPDX-License-Identifier: Apache-2.0 OR BSD-3-Clause
 //! A driver on the guest's side of a serial port.
 ghost use Rattle.std.specs.Prelude.{◌≡◌, ◌≤◌, [], ◌++◌, length, false, IsTrue};
 ghost use Rattle.vm_superio.specs.Serial.{has_bits, lcr_dlab_bit, lsr_dr_bit, Coherent, is_dlab};

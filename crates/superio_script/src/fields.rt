@@ -1,3 +1,4 @@
+// SPDX-License-Identifier: Apache-2.0 OR BSD-3-Clause
 //! The lines of a script, and the fields of a line, read one after another.
 ghost use Rattle.std.specs.Prelude.{◌≡◌, ◌≢◌, List, ℕ, [], ◌∷◌, ◌==◌, position, IfSome, IfNone, MatchOption};
 ghost use Rattle.std.specs.Int.{w8, w16, w32, w64};

@@ -1,3 +1,4 @@
+// SPDX-License-Identifier: Apache-2.0 OR BSD-3-Clause
 //! Scripts that drive the devices of `vm_superio` on a board, one line at a time.
 #![tactic(auto)]
 

@@ -1,3 +1,4 @@
+// SPDX-License-Identifier: Apache-2.0 OR BSD-3-Clause
 //! The objects that the devices of a board own: the interrupt line, the counts of events and the output.
 ghost use Rattle.std.specs.Prelude.{◌≡◌, ◌≤◌, ◌-◌, Some, [], codes, length, min};
 ghost use Rattle.std.specs.Io.KnownBytes.{WriteAppends, Keeps};

@@ -1,3 +1,4 @@
+// SPDX-License-Identifier: Apache-2.0 OR BSD-3-Clause
 //! The smaller programs to copy at work: a console that echoes, claims over many calls, and a line that refuses.
 ghost use Rattle.std.specs.Prelude.{◌<◌, IfOk};
 ghost use Rattle.vm_superio.specs.Claims.{Coherent};

@@ -1,3 +1,4 @@
+// SPDX-License-Identifier: Apache-2.0 OR BSD-3-Clause
 //! Hostile guests, triggers and writers: every access at every offset, each refused call in turn, and each way in which
 //! a writer can fail. Replies are compared with those of the reference models, which search the past.
 use crate::objects::{Log, Object, Writing, in_order, port, port_over_vector};

@@ -1,3 +1,4 @@
+// SPDX-License-Identifier: Apache-2.0 OR BSD-3-Clause
 //! The calls that objects get, and the faults that they answer, as far as no contract says so. A data write makes one
 //! `write`, and one `flush` if that succeeded, and returns their fault as it is, whichever call makes it. So does an
 //! event, an output that is drained, and a script, which calls its streams no more than it has to. A call that takes

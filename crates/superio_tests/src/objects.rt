@@ -1,3 +1,4 @@
+// SPDX-License-Identifier: Apache-2.0 OR BSD-3-Clause
 //! The objects that the tests give to a device: a trigger, an events object and a writer, which share a log; and the
 //! faults of writers.
 ghost use Rattle.std.specs.Prelude.{IfOk};

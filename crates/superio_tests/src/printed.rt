@@ -1,3 +1,4 @@
+// SPDX-License-Identifier: Apache-2.0 OR BSD-3-Clause
 //! What errors print, which no contract says.
 use crate::objects::faults;
 use std::alloc::{AllocError, Global};

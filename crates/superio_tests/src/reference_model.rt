@@ -1,3 +1,4 @@
+// SPDX-License-Identifier: Apache-2.0 OR BSD-3-Clause
 //! Plain and slow models of the devices, which tests compare devices with. Each answers by a search of the calls that
 //! were made before. None keeps a register, a queue or a flag.
 use vm_superio::run::Asked;

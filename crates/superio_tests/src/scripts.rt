@@ -1,3 +1,4 @@
+// SPDX-License-Identifier: Apache-2.0 OR BSD-3-Clause
 //! Scripts over memory: what they print and how they end, also over streams that fail.
 use std::alloc::{AllocError, Global};
 use std::io;

@@ -1,3 +1,4 @@
+// SPDX-License-Identifier: Apache-2.0 OR BSD-3-Clause
 //! The programs to copy at work, with values from data sheets, from PCs and from guests: parts of a monitor, a whole
 //! one, and one that moves.
 

@@ -1,3 +1,4 @@
+// SPDX-License-Identifier: Apache-2.0 OR BSD-3-Clause
 //! Calls that may return that memory was refused do not, while there is memory. A body that gives up at some size meets
 //! each contract.
 use crate::objects::{Log, Object, SerialCall, TestSerial, port_over, port_over_vector};

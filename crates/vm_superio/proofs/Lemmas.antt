@@ -1,3 +1,4 @@
+-- SPDX-License-Identifier: Apache-2.0 OR BSD-3-Clause
 -- Lemmas on what a writer took over several calls.
 pub mod Examples
 pub mod Serial

@@ -1,3 +1,4 @@
+-- SPDX-License-Identifier: Apache-2.0 OR BSD-3-Clause
 -- Words for a caller's claims. A first contract needs two `ghost use` lines: one of this file, and one of the signs,
 -- which come from `Rattle.std.specs.Prelude`. A type of this crate's sources is imported by its file, as `Call` by
 -- `use Rattle.vm_superio.specs.declared.run.Call.{Call}`, and its variants by `.. Call.TheVariants.{Read, Write}`.

@@ -1,3 +1,4 @@
+-- SPDX-License-Identifier: Apache-2.0 OR BSD-3-Clause
 -- What the types of a device's objects state, its trigger, its events object and its writer: the relations, and the
 -- answers of a trigger.
 pub mod ForAnyObject

@@ -1,3 +1,4 @@
+-- SPDX-License-Identifier: Apache-2.0 OR BSD-3-Clause
 -- The PL031 clock: the events that an access reports, and the clock with its events object.
 use Rattle.std.specs.Prelude.{if◌then◌else◌, List, [], ◌∷◌}
 pub use Rattle.superio_core.specs.Rtc.{Access, read, write, clock_register_at, is_readable, is_writable}

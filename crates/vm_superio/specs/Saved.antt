@@ -1,3 +1,4 @@
+-- SPDX-License-Identifier: Apache-2.0 OR BSD-3-Clause
 -- Saved states: the state of one, what an error prints, and the version, which is that of the writer. A reader refuses
 -- every other.
 use Rattle.std.specs.Prelude.{ℕ, List, codes, Option, Some, ◌≡◌, ◌≢◌, ◌∷◌, ◌++◌, slice_index}

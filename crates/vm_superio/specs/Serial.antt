@@ -1,3 +1,4 @@
+-- SPDX-License-Identifier: Apache-2.0 OR BSD-3-Clause
 -- The serial port: what a contract sees of it and of what its calls return, with the words of superio_core that the
 -- modules below use. They hold the step of one call, and runs.
 pub mod Run

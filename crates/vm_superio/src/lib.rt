@@ -1,3 +1,4 @@
+// SPDX-License-Identifier: Apache-2.0 OR BSD-3-Clause
 //! Emulated legacy devices for a virtual machine monitor, with proofs.
 #![tactic(auto)]
 

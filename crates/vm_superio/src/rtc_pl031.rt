@@ -1,3 +1,4 @@
+// SPDX-License-Identifier: Apache-2.0 OR BSD-3-Clause
 //! A real-time clock with the registers of an ARM PL031. It counts seconds.
 //!
 //! The clock does not read the host's clock. The monitor passes the moment of each access, in seconds since 1970. The

@@ -1,3 +1,4 @@
+// SPDX-License-Identifier: Apache-2.0 OR BSD-3-Clause
 //! Why the bytes of a saved state were not read.
 use std::error::Error as StdError;
 use std::fmt;

@@ -1,3 +1,4 @@
+-- SPDX-License-Identifier: Apache-2.0 OR BSD-3-Clause
 -- What the run wrote into the buffer was flushed.
 use Rattle.std.proofs.Common.{◌≡◌, ℕ, List, [], ◌++◌, Option, Some, None, ap, ◌∙◌, inl, inr, subst, append-nil, ⊎_elim}
 use Rattle.std.proofs.lemmas.Option.{IfSome_then}

@@ -1,3 +1,4 @@
+-- SPDX-License-Identifier: Apache-2.0 OR BSD-3-Clause
 -- Lemmas on the encoding of a saved state. Other crates' proofs use the public ones too.
 use Rattle.std.proofs.Common.{◌≡◌, ℕ, ◌<◌, ◌^◌, Bool, true, false, ap, sym, ◌∙◌, arith, refl, List, drop, ◌==◌, Some, None, IfOk, Result, Ok, Err, ℤ, pos, negsuc, FitsSigned, length, [], ◌∷◌, take, ◌++◌, replicate}
 use Rattle.std.specs.Result.{result_err}

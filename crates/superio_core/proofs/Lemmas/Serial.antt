@@ -1,3 +1,4 @@
+-- SPDX-License-Identifier: Apache-2.0 OR BSD-3-Clause
 -- Lemmas on a port's bits, states and places.
 pub mod Coherence
 pub mod FirstRefused

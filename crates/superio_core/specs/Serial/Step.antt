@@ -1,3 +1,4 @@
+-- SPDX-License-Identifier: Apache-2.0 OR BSD-3-Clause
 -- The step of a call in any state, coherent or not: what it responds, the state that it leaves, the events that it
 -- reports and the trigger calls that it makes, given the trigger's answers and the outcome of a byte. Then which
 -- answers and outcomes can come, and the step of a port without objects: the effects that a call returns for its caller

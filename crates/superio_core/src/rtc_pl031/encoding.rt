@@ -1,3 +1,4 @@
+// SPDX-License-Identifier: Apache-2.0 OR BSD-3-Clause
 //! The state of a clock, as vm-superio names its fields, and its encoding.
 ghost use Rattle.std.specs.Prelude.{◌≡◌, ◌≤◌, ◌+◌, ◌++◌, false, not, is_some, length, IfOk, IfSome};
 ghost use Rattle.std.specs.Result.{result_err};

@@ -1,3 +1,4 @@
+// SPDX-License-Identifier: Apache-2.0 OR BSD-3-Clause
 //! The PL031's register map.
 ghost use Rattle.std.specs.Prelude.{◌≡◌};
 ghost use Rattle.superio_core.specs.Rtc.{clock_register_at};

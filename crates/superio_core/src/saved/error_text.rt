@@ -1,3 +1,4 @@
+// SPDX-License-Identifier: Apache-2.0 OR BSD-3-Clause
 //! What the errors of saved states print.
 use super::SavedStateError;
 use std::error::Error as StdError;

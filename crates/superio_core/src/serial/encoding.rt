@@ -1,3 +1,4 @@
+// SPDX-License-Identifier: Apache-2.0 OR BSD-3-Clause
 //! The encoding of a serial port's state.
 ghost use Rattle.std.specs.Prelude.{◌≡◌, ◌≤◌, length, List, ℕ, ◌++◌, take, drop, IfOk};
 ghost use Rattle.std.specs.Result.{result_err, IsOkAnd};

@@ -1,3 +1,4 @@
+// SPDX-License-Identifier: Apache-2.0 OR BSD-3-Clause
 //! The registers of a 16550: their offsets and bits by their standard names, which one an offset reaches, and the bytes
 //! that they hold.
 ghost use Rattle.std.specs.Prelude.{◌≡◌, ◌↔◌, ◌≤◌, if◌then◌else◌, ℕ, Bool, List, [], length, IsTrue};

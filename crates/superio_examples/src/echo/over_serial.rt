@@ -1,3 +1,4 @@
+// SPDX-License-Identifier: Apache-2.0 OR BSD-3-Clause
 //! The same console over `Serial`, with a trigger that counts its calls. A writer takes what the guest sends.
 ghost use Rattle.std.specs.Prelude.{◌≡◌, ◌<◌, length, min, take, true, false, [], OnOk, IfOk, if◌then◌else◌};
 ghost use Rattle.std.specs.Io.KnownBytes.{Appends, Keeps, append_known};

@@ -1,3 +1,4 @@
+-- SPDX-License-Identifier: Apache-2.0 OR BSD-3-Clause
 use Rattle.superio_laws.proofs.Lemmas.Rtc.{set_time_law}
 use Rattle.superio_laws.proofs.Lemmas.Serial.Laws.InterruptDriver.{timeouts_show_law}
 use Rattle.superio_laws.proofs.Lemmas.Serial.Laws.Interrupts.{interrupt_law, line_of_history}

@@ -1,3 +1,4 @@
+-- SPDX-License-Identifier: Apache-2.0 OR BSD-3-Clause
 use Rattle.superio_laws.proofs.Lemmas.Serial.Laws.Console.{asked_to_take_law, asked_to_send_law, taken_in_runs_law, sent_in_runs_law}
 use Rattle.superio_laws.proofs.console_driver.Goals as goal
 

@@ -1,3 +1,4 @@
+-- SPDX-License-Identifier: Apache-2.0 OR BSD-3-Clause
 use Rattle.superio_laws.proofs.Lemmas.Serial.Laws.Console.{handler_run_law, handler_ends_law}
 use Rattle.superio_laws.proofs.console_handler.Goals as goal
 

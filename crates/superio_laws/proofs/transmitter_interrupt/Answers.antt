@@ -1,3 +1,4 @@
+-- SPDX-License-Identifier: Apache-2.0 OR BSD-3-Clause
 use Rattle.superio_laws.proofs.Lemmas.Serial.Laws.Transmit.{ier_write_asks_law, thr_write_asks_law, refused_write_law, retried_law, called_since_law}
 use Rattle.superio_laws.proofs.transmitter_interrupt.Goals as goal
 

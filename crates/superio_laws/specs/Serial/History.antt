@@ -1,3 +1,4 @@
+-- SPDX-License-Identifier: Apache-2.0 OR BSD-3-Clause
 -- The history: what the operations so far say about a port, its state, what a guest reads, what the other calls
 -- respond, the bytes read from the FIFO, and the output. It keeps no state, and nothing here names a step.
 pub mod Interrupts

@@ -1,3 +1,4 @@
+-- SPDX-License-Identifier: Apache-2.0 OR BSD-3-Clause
 -- The laws by which steps and history agree: after any trace, both describe the same port.
 pub mod Console
 pub mod Consequences

@@ -1,3 +1,4 @@
+-- SPDX-License-Identifier: Apache-2.0 OR BSD-3-Clause
 -- Worked examples of words that contracts only assume, or bound by, since with a wrong one they would say less.
 use Rattle.std.proofs.Common.{◌≡◌, ℕ, true, false, [], ◌∷◌, ◌++◌, replicate, refl, sym, subst, ap, ◌∙◌, arith, Ok, append-nil}
 use Rattle.std.proofs.lemmas.Bool.{false≢true}

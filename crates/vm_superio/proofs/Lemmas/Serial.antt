@@ -1,3 +1,4 @@
+-- SPDX-License-Identifier: Apache-2.0 OR BSD-3-Clause
 -- What a step of a port says about the trigger's calls.
 pub mod Kept
 pub mod Run

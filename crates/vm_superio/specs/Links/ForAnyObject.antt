@@ -1,3 +1,4 @@
+-- SPDX-License-Identifier: Apache-2.0 OR BSD-3-Clause
 -- Two links for objects of any type, each with the two laws that a trait requires: one for an object that contracts say
 -- nothing about, such as one that signals a file descriptor, and one for events objects that fold their events.
 use Rattle.std.specs.Prelude.{◌≡◌, ◌↔◌, ⊤, List, [], ◌∷◌, ◌++◌, fold}

@@ -1,3 +1,4 @@
+-- SPDX-License-Identifier: Apache-2.0 OR BSD-3-Clause
 -- How a writer is linked by the bytes that it was sent, and the links of a port's three objects.
 use Rattle.std.specs.Prelude.{◌≡◌, ℕ, not, List, [], ◌∷◌, IsTrue}
 use Rattle.std.specs.List.{list_all}

@@ -1,3 +1,4 @@
+-- SPDX-License-Identifier: Apache-2.0 OR BSD-3-Clause
 -- The calls of a run and their records: each record as an entry of a trace, and what the reads show.
 pub mod HistoryTheorem
 pub mod Segments

@@ -1,3 +1,4 @@
+// SPDX-License-Identifier: Apache-2.0 OR BSD-3-Clause
 //! What a serial port's calls do to its objects: each carries out the effects of a step.
 ghost use Rattle.std.specs.Prelude.{◌≡◌, ◌≤◌, ℕ, List, Result, [], ◌∷◌, length, if◌then◌else◌, is_some, IsTrue, IfOk, IfErr, OnOk};
 ghost use Rattle.vm_superio.specs.Links.{answers_of, all_ok, StopsAtRefusal};

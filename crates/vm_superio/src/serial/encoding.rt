@@ -1,3 +1,4 @@
+// SPDX-License-Identifier: Apache-2.0 OR BSD-3-Clause
 //! The state of a serial port, and its encoding.
 ghost use Rattle.std.specs.Prelude.{◌≡◌, ◌↔◌, ◌≤◌, ℕ, length, IfOk, IfErr, IsOk, IfSome, IsTrue, MatchResult};
 ghost use Rattle.vm_superio.specs.Saved.{state_of};

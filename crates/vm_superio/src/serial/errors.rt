@@ -1,3 +1,4 @@
+// SPDX-License-Identifier: Apache-2.0 OR BSD-3-Clause
 //! Why a call of a serial port failed.
 ghost use Rattle.std.specs.Prelude.{◌≡◌};
 

@@ -1,3 +1,4 @@
+-- SPDX-License-Identifier: Apache-2.0 OR BSD-3-Clause
 -- A step keeps a coherent state coherent.
 use Rattle.std.proofs.Common.{◌≡◌, ℕ, ◌+◌, ◌≤◌, Bool, true, false, not, ◌==◌, ◌&&◌, ◌||◌, List, [], ◌∷◌, ◌++◌, length, drop, refl, ap, sym, ◌∙◌, subst, length-append, length-take, length-drop, arith, if◌then◌else◌, IsTrue}
 use Rattle.superio_core.specs.Serial.Operations.{Asked, Op, Write, Enqueue, is_refused_at_once, DecodedOp, RbrRead, IirRead, IerWrite, ThrWrite, RxInput, Timeout, Other}

@@ -1,3 +1,4 @@
+-- SPDX-License-Identifier: Apache-2.0 OR BSD-3-Clause
 -- A write whose first trigger call of two was refused, from the write whose calls were taken.
 use Rattle.std.proofs.Common.{◌≡◌, ℕ, ◌+◌, ◌≤◌, Bool, true, false, not, ◌==◌, ◌&&◌, List, [], ◌∷◌, bit_and, refl, sym, ap, ◌∙◌, arith, if◌then◌else◌, bit_or}
 use Rattle.std.proofs.lemmas.Bool.{false≢true, and_parts, eqb-true}

@@ -1,3 +1,4 @@
+-- SPDX-License-Identifier: Apache-2.0 OR BSD-3-Clause
 use Rattle.std.proofs.Common.{arith}
 use Rattle.superio_examples.proofs.EchoLemmas.{all_sent}
 use Rattle.superio_examples.proofs.echo.echo_input.Goals as goal

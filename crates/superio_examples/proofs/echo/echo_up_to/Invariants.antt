@@ -1,3 +1,4 @@
+-- SPDX-License-Identifier: Apache-2.0 OR BSD-3-Clause
 -- What was sent, then what is held, are the bytes that were there, in order. A byte was taken if the loop has begun.
 use Rattle.std.specs.Prelude.{◌≡◌, ◌<◌, ◌++◌, length}
 use Rattle.superio_core.specs.Serial.{CoherentUart, state_of_uart}

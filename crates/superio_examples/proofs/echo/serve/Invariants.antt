@@ -1,3 +1,4 @@
+-- SPDX-License-Identifier: Apache-2.0 OR BSD-3-Clause
 -- An interrupt is due exactly while bytes are held. Each run takes one at least.
 use Rattle.std.specs.Prelude.{◌≡◌, ◌++◌, length, if◌then◌else◌}
 use Rattle.superio_core.specs.Serial.{CoherentUart, state_of_uart, not_empty}

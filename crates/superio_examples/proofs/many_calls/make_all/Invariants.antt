@@ -1,3 +1,4 @@
+-- SPDX-License-Identifier: Apache-2.0 OR BSD-3-Clause
 -- The interrupts that wait and the conditions that were pending at first are bounded by those at the start, those pending
 -- now, and what the accesses so far acknowledge.
 use Rattle.std.proofs.Common.{◌≡◌, ◌+◌, ◌≤◌, take}

@@ -1,3 +1,4 @@
+-- SPDX-License-Identifier: Apache-2.0 OR BSD-3-Clause
 -- What was saved is one machine.
 use Rattle.std.proofs.Common.{◌≡◌, Result, Ok, Err, sym, subst, ◌∙◌, IfOk}
 use Rattle.superio_core.specs.Rtc.{state_of_clock}

@@ -1,3 +1,4 @@
+-- SPDX-License-Identifier: Apache-2.0 OR BSD-3-Clause
 -- Worked examples of a console: runs as its laws assume them, a driver that stalls, and a trigger that refuses.
 use Rattle.std.proofs.Common.{◌≡◌, ℕ, Bool, true, false, not, ◌==◌, ◌&&◌, ◌||◌, if◌then◌else◌, nat_le, inl, inr, [], ◌∷◌, ◌++◌, length, refl, sym, subst, arith, IsTrue, ◌⊎◌}
 use Rattle.std.proofs.lemmas.Bool.{and_parts, false≢true}

@@ -1,3 +1,4 @@
+-- SPDX-License-Identifier: Apache-2.0 OR BSD-3-Clause
 -- The history of interrupts: conditions raised and pending, trigger calls due, and fitting traces.
 use Rattle.std.specs.Prelude.{◌≡◌, ℕ, ◌+◌, ◌*◌, ◌≤◌, Bool, true, false, not, ◌==◌, ◌&&◌, ◌||◌, List, [], ◌∷◌, ◌++◌, sum_by, count_by, IsTrue}
 use Rattle.std.specs.Bool.{beq, IsFalse}

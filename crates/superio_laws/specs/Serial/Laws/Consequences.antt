@@ -1,3 +1,4 @@
+-- SPDX-License-Identifier: Apache-2.0 OR BSD-3-Clause
 -- The laws that follow from the history alone, from any start.
 use Rattle.std.specs.Prelude.{◌≡◌, ◌↔◌, ◌⊎◌, ℕ, List, [], ◌∷◌, ◌++◌, IsTrue, Bool, true, false, not, ◌==◌, ◌&&◌, ◌||◌}
 use Rattle.superio_laws.specs.Serial.{Asked, Op, Restore, TraceEntry, Response, Trace, Read, ByteRead, DecodedOp, RbrRead, is_rbr_read, has_bits, State, lsr_dr_bit, Condition, iir_bit}

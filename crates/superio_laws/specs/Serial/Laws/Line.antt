@@ -1,3 +1,4 @@
+-- SPDX-License-Identifier: Apache-2.0 OR BSD-3-Clause
 -- The laws of a character timeout, after which no byte waits without an interrupt; of a driver that takes bytes at
 -- interrupts; and of the level of the interrupt line.
 use Rattle.std.specs.Prelude.{◌≡◌, false, ◌∷◌, IsTrue, ℕ, zero, suc, ◌≤◌, ◌<◌, List, ◌++◌, length, ◌⊎◌, Bool, true, not, ◌==◌, ◌&&◌, ◌||◌, IsFalse}

@@ -1,3 +1,4 @@
+-- SPDX-License-Identifier: Apache-2.0 OR BSD-3-Clause
 -- The laws of the transmitter's interrupt: what asks a driver for more bytes, and what a refused trigger call
 -- costs.
 use Rattle.std.specs.Prelude.{◌≡◌, ℕ, ◌+◌, false, List, ◌∷◌, ◌++◌, not, ◌&&◌, IsTrue}

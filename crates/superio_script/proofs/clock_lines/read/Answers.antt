@@ -1,3 +1,4 @@
+-- SPDX-License-Identifier: Apache-2.0 OR BSD-3-Clause
 -- The reply shows what the history says, and the accesses go on with the read.
 use Rattle.std.proofs.Common.{◌∙◌, ap, sym}
 use Rattle.superio_laws.specs.Rtc.{read}

@@ -1,3 +1,4 @@
+-- SPDX-License-Identifier: Apache-2.0 OR BSD-3-Clause
 -- The reply shows whether the register takes the write, and the accesses go on with it.
 use Rattle.std.proofs.Common.{◌∙◌, ap, sym, Bool, List, ℕ, codes, if◌then◌else◌}
 use Rattle.superio_laws.specs.Rtc.{write}

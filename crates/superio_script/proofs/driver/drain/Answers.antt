@@ -1,3 +1,4 @@
+-- SPDX-License-Identifier: Apache-2.0 OR BSD-3-Clause
 -- A read of LCR or LSR changes nothing, and a read of RBR is the next one of those that take all bytes.
 use Rattle.std.proofs.Common.{[], ◌∷◌, ◌++◌, sym, ap, ◌∙◌, subst, append_assoc, append-nil, refl, arith}
 use Rattle.vm_superio.specs.Serial.{SerialView, has_bits, Other, State, is_dlab}

@@ -1,3 +1,4 @@
+-- SPDX-License-Identifier: Apache-2.0 OR BSD-3-Clause
 -- What was read so far, and that the reads that are to come make it whole.
 use Rattle.std.proofs.Common.{◌≡◌, ◌≤◌, ◌+◌, ◌++◌, length, false, List, ℕ}
 use Rattle.vm_superio.specs.Serial.{SerialView, is_dlab}

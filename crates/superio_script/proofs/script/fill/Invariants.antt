@@ -1,3 +1,4 @@
+-- SPDX-License-Identifier: Apache-2.0 OR BSD-3-Clause
 -- What was read so far is the front of the room.
 use Rattle.std.proofs.Common.{◌≤◌, ◌-◌, length, take}
 use Rattle.std.specs.Io.KnownBytes.{Consumes}

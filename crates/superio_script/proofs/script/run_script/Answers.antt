@@ -1,3 +1,4 @@
+-- SPDX-License-Identifier: Apache-2.0 OR BSD-3-Clause
 -- There are no more lines than bytes, and these are few. A bad line of the text that was read is one of the script.
 use Rattle.std.proofs.Common.{rules, arith, ◌≡◌, Some, None, IfSome, List, ℕ}
 use Rattle.std.proofs.lemmas.Option.{IfSome_then}

@@ -1,3 +1,4 @@
+-- SPDX-License-Identifier: Apache-2.0 OR BSD-3-Clause
 -- Each reply that is written goes from what is still to come to what was carried out.
 use Rattle.std.proofs.Common.{rules, ◌≡◌, ap, ◌∙◌, Err, Some, inr, arith, length, length-append, ◌++◌, ◌+◌, [], ◌∷◌}
 use Rattle.std.specs.Io.KnownBytes.{Appends}

@@ -1,3 +1,4 @@
+-- SPDX-License-Identifier: Apache-2.0 OR BSD-3-Clause
 -- The lines so far were carried out, and their replies were written.
 use Rattle.std.proofs.Common.{◌≡◌, ◌+◌, length}
 use Rattle.superio_script.specs.Fields.{lines_of}

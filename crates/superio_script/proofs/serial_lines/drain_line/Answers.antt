@@ -1,3 +1,4 @@
+-- SPDX-License-Identifier: Apache-2.0 OR BSD-3-Clause
 -- A driver gets what the port holds, by reads that are calls.
 use Rattle.superio_script.proofs.SerialScriptLemmas.{drain-step}
 use Rattle.superio_script.proofs.serial_lines.drain_line.Goals as goal

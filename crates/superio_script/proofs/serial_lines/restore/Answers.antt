@@ -1,3 +1,4 @@
+-- SPDX-License-Identifier: Apache-2.0 OR BSD-3-Clause
 -- A restore, whether its calls were accepted or one was refused. Without memory it has no reply.
 use Rattle.std.proofs.Common.{◌≡◌, ap, sym, ◌∙◌, subst}
 use Rattle.vm_superio.specs.Serial.{SerialView, State, conditions_due}

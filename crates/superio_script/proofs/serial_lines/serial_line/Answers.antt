@@ -1,3 +1,4 @@
+-- SPDX-License-Identifier: Apache-2.0 OR BSD-3-Clause
 -- Each line that calls the port leads to the trace with the call's entry.
 use Rattle.std.proofs.Common.{refl}
 use Rattle.superio_script.specs.declared.command.SerialCommand.TheVariants.{Read, Write, Enqueue}

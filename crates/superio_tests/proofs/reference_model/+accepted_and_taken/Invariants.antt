@@ -1,3 +1,4 @@
+-- SPDX-License-Identifier: Apache-2.0 OR BSD-3-Clause
 use Rattle.std.proofs.Common.{length}
 use Rattle.superio_tests.proofs.reference_model.+accepted_and_taken.Given as goal
 

@@ -1,3 +1,4 @@
+-- SPDX-License-Identifier: Apache-2.0 OR BSD-3-Clause
 -- One call of a run, and from these the history theorem.
 pub mod Segments
 use Rattle.std.proofs.Common.{arith, ◌≡◌, List, [], ◌∷◌, sym, subst, false, not, ◌++◌, refl, ap, ◌∙◌, Option, ◌↔◌, IsTrue}

@@ -1,3 +1,4 @@
+-- SPDX-License-Identifier: Apache-2.0 OR BSD-3-Clause
 -- A call that leaves IER 0 calls no trigger, and one that sends no byte leaves the writer.
 use Rattle.std.proofs.Common.{◌≡◌, ℕ, Bool, true, false, ◌&&◌, List, [], refl, ap, sym, ◌∙◌, subst, IsTrue, Option, ◌↔◌, Result, Ok, Err, OnOk, ◌-◌, ◌<◌, min, ◌||◌, ◌==◌, ◌++◌, length, take, arith, Some, IfErr, nat_le, not, ◌∷◌, length-append, if◌then◌else◌, leb-true}
 use Rattle.std.specs.Bool.{beq}

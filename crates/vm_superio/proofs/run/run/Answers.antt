@@ -1,3 +1,4 @@
+-- SPDX-License-Identifier: Apache-2.0 OR BSD-3-Clause
 -- A call that was made goes from the run that is left to the run so far. From a coherent start it is a history.
 use Rattle.std.proofs.Common.{◌∷◌, refl, append_assoc, append-nil, arith, []}
 use Rattle.std.proofs.lemmas.List.{nil_from_length}

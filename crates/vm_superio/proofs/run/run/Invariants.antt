@@ -1,3 +1,4 @@
+-- SPDX-License-Identifier: Apache-2.0 OR BSD-3-Clause
 -- What continues the run so far makes the whole run. The calls that are left get fewer.
 use Rattle.std.proofs.Common.{◌≤◌, ◌+◌, List, ◌++◌, vec_len, vec_capacity, deque_len}
 use Rattle.vm_superio.specs.Serial.{SerialView}

@@ -1,3 +1,4 @@
+-- SPDX-License-Identifier: Apache-2.0 OR BSD-3-Clause
 -- The history theorem: what a run from a coherent start shows, by the history alone. It says what every call responds,
 -- which bytes are read and held, when the trigger is called, which calls each object has, and the state at the end. The
 -- records say which restores succeed. One can fail for want of memory; the old objects then have the calls after it.

@@ -1,3 +1,4 @@
+-- SPDX-License-Identifier: Apache-2.0 OR BSD-3-Clause
 -- A run, split at the restores that succeed. Each part is a segment, which the same three objects serve. One line for
 -- each object says by which calls it went from its value at the start of a segment to that at its end. Whether a
 -- restore succeeds decides which objects have the later calls, and a restore needs memory. What a refused restore hands

@@ -1,3 +1,4 @@
+-- SPDX-License-Identifier: Apache-2.0 OR BSD-3-Clause
 -- A run of calls with a record of each, by the steps of these calls; and what these steps say of a port at each point.
 use Rattle.std.specs.Prelude.{◌≡◌, List, [], ◌∷◌, None}
 use Rattle.vm_superio.specs.Serial.{SerialView, State, TraceEntry, Trace, step_events, write_response, enqueue_response, timeout_response, refusal_in_result, Asked, Sent, Read, Write, Enqueue, CharacterTimeout, ByteRead, conditions_due, bytes_sent}

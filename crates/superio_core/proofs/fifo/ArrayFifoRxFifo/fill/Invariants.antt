@@ -1,3 +1,4 @@
+-- SPDX-License-Identifier: Apache-2.0 OR BSD-3-Clause
 -- The bytes so far follow those that were held.
 use Rattle.std.proofs.Common.{◌≡◌, ◌+◌, ◌++◌, length, take}
 use Rattle.superio_core.specs.Serial.{ring_contents, ring_from}

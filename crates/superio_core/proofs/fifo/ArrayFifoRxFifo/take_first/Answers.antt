@@ -1,3 +1,4 @@
+-- SPDX-License-Identifier: Apache-2.0 OR BSD-3-Clause
 -- The ring without its oldest byte.
 use Rattle.std.proofs.Common.{◌≡◌, ◌-◌, ◌<◌, ◌%◌, suc, min, length, take, drop, get_or, Some, slice_get, sym, ap, ◌∙◌, arith}
 use Rattle.superio_core.specs.Serial.{ring_from}

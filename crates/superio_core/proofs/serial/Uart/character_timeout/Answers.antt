@@ -1,3 +1,4 @@
+-- SPDX-License-Identifier: Apache-2.0 OR BSD-3-Clause
 -- A step keeps a coherent state coherent.
 use Rattle.std.proofs.Common.{sym, subst}
 use Rattle.superio_core.specs.Serial.Operations.{Asked, CharacterTimeout}

@@ -1,3 +1,4 @@
+-- SPDX-License-Identifier: Apache-2.0 OR BSD-3-Clause
 use Rattle.std.proofs.Common.{arith, ◌≡◌, ◌≤◌, Bool, true, false, not, min, length, length-take, ap, sym, ◌∙◌, refl}
 use Rattle.superio_core.specs.Serial.{ring_from, ring_contents}
 use Rattle.superio_core.proofs.serial.Uart.is_coherent.Goals as goal

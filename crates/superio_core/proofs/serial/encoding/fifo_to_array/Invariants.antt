@@ -1,3 +1,4 @@
+-- SPDX-License-Identifier: Apache-2.0 OR BSD-3-Clause
 use Rattle.std.proofs.Common.{◌≡◌, ◌+◌, ◌≤◌, ◌++◌, length, take}
 use Rattle.superio_core.specs.Serial.{ring_contents}
 use Rattle.superio_core.proofs.serial.encoding.fifo_to_array.Given as goal

@@ -1,3 +1,4 @@
+-- SPDX-License-Identifier: Apache-2.0 OR BSD-3-Clause
 use Rattle.std.proofs.Common.{Bool, ◌∷◌, [], take, refl, append_assoc, append-nil, arith}
 use Rattle.std.specs.Bool.{OnTrue}
 use Rattle.std.proofs.lemmas.List.{take_all, take_more_set}

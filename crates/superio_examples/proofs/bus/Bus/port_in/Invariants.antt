@@ -1,3 +1,4 @@
+-- SPDX-License-Identifier: Apache-2.0 OR BSD-3-Clause
 -- The bytes read so far, and then any that are read from here on, are read one after another.
 use Rattle.std.proofs.Common.{List, ℕ, ◌++◌, take}
 use Rattle.superio_core.specs.Serial.{Coherent}

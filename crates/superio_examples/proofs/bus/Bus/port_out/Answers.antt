@@ -1,3 +1,4 @@
+-- SPDX-License-Identifier: Apache-2.0 OR BSD-3-Clause
 use Rattle.std.proofs.Common.{◌≡◌, ◌+◌, ◌<◌, Bool, Result, Ok, [], ◌∷◌, length, drop, get_or, refl, add-one, drop-cons, arith}
 use Rattle.std.specs.Bool.{OnTrue}
 use Rattle.std.proofs.Math.Seq.{drop-length}

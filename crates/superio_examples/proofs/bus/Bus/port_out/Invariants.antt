@@ -1,3 +1,4 @@
+-- SPDX-License-Identifier: Apache-2.0 OR BSD-3-Clause
 -- The bytes written so far, and then the others, are written one after another.
 use Rattle.std.proofs.Common.{drop}
 use Rattle.std.specs.Result.{result_and}

@@ -1,3 +1,4 @@
+-- SPDX-License-Identifier: Apache-2.0 OR BSD-3-Clause
 -- What the writer took, then what is to come, stays. Between pieces nothing is held, and the trigger was not called.
 use Rattle.std.specs.Prelude.{◌≡◌, [], length}
 use Rattle.std.specs.Io.KnownBytes.{Keeps, append_known}

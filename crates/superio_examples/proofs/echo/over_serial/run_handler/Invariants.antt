@@ -1,3 +1,4 @@
+-- SPDX-License-Identifier: Apache-2.0 OR BSD-3-Clause
 -- Before its only turn nothing is done; after it a byte is taken, and nothing is pending.
 use Rattle.std.specs.Prelude.{◌≡◌, ◌<◌, length, ◌⊎◌}
 use Rattle.std.specs.Io.KnownBytes.{Keeps, append_known}

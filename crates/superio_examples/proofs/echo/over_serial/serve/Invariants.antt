@@ -1,3 +1,4 @@
+-- SPDX-License-Identifier: Apache-2.0 OR BSD-3-Clause
 -- The trigger was called exactly while bytes are held. Each run takes one at least.
 use Rattle.std.specs.Prelude.{◌≡◌, length, if◌then◌else◌}
 use Rattle.std.specs.Io.KnownBytes.{Keeps, append_known}

@@ -1,3 +1,4 @@
+-- SPDX-License-Identifier: Apache-2.0 OR BSD-3-Clause
 -- What the events make of the machine keeps the claims.
 use Rattle.std.proofs.Common.{◌≡◌, sym, ap, subst, ◌∙◌, arith, map}
 use Rattle.std.proofs.lemmas.Grind.{common_steps}

@@ -1,3 +1,4 @@
+-- SPDX-License-Identifier: Apache-2.0 OR BSD-3-Clause
 -- What the events that are left make of the machine, after the replies so far, is what all make of the first machine.
 use Rattle.std.proofs.Common.{◌≡◌, ◌++◌, length, drop, vec_len, vec_capacity}
 use Rattle.superio_examples.specs.Monitor.{machine_of, after, replies_to}

@@ -1,3 +1,4 @@
+-- SPDX-License-Identifier: Apache-2.0 OR BSD-3-Clause
 -- The bytes that the port took are the first that waited.
 use Rattle.std.proofs.Common.{◌≡◌, length, rules, refl, ap, ◌∙◌}
 use Rattle.std.specs.List.{refill}

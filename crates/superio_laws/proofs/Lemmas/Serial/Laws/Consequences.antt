@@ -1,3 +1,4 @@
+-- SPDX-License-Identifier: Apache-2.0 OR BSD-3-Clause
 -- A condition is pending by the entries that raised and acknowledged it.
 use Rattle.std.proofs.Common.{◌≡◌, inl, inr, Bool, true, false, not, ◌&&◌, ◌||◌, List, [], ◌∷◌, ◌++◌, refl, ap, sym, subst, append-nil, ℕ, ◌+◌, ◌*◌, ◌≤◌, ◌==◌, arith, ◌∙◌, IsTrue, ◌⊎◌, if◌then◌else◌, sum_by, count_by}
 use Rattle.std.proofs.lemmas.Bool.{and_parts, eqb-true}

@@ -1,3 +1,4 @@
+-- SPDX-License-Identifier: Apache-2.0 OR BSD-3-Clause
 -- A character timeout raises RDA while bytes are held.
 use Rattle.std.proofs.Common.{◌≡◌, ◌+◌, false, ◌&&◌, ◌||◌, ◌∷◌, ◌++◌, refl, ap, ◌∙◌, subst, arith, ℕ, zero, suc, ◌≤◌, ◌<◌, List, [], length, sym, append_assoc, append-nil, length-append, not, IsTrue, take, drop}
 use Rattle.std.proofs.lemmas.Bool.{and_parts, eqb-true}

@@ -1,3 +1,4 @@
+-- SPDX-License-Identifier: Apache-2.0 OR BSD-3-Clause
 -- The interrupt law: IIR shows the pending conditions, and an entry is fitting exactly if it is fitting. And the
 -- interrupt line: a call leaves it by the bits of IIR that it turns.
 use Rattle.std.proofs.Common.{arith, ◌≡◌, ℕ, ◌+◌, Bool, false, not, ◌==◌, ◌&&◌, ◌||◌, List, [], ◌∷◌, ap, sym, ◌∙◌, length, ◌⊎◌, if◌then◌else◌, IsTrue}

@@ -1,3 +1,4 @@
+-- SPDX-License-Identifier: Apache-2.0 OR BSD-3-Clause
 -- One call: the bytes that it takes, accepts and gives, the byte that a THR write sends, and the bits of IIR that it
 -- turns.
 use Rattle.std.proofs.Common.{false, ◌≡◌, ℕ, Bool, true, List, [], ◌∷◌, ◌++◌, length, drop, refl, ap, sym, ◌∙◌, append-nil, ◌<◌, subst, arith, IsTrue, if◌then◌else◌, ◌&&◌, count_by, ◌+◌, not, ◌==◌}

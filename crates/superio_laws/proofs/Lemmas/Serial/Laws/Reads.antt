@@ -1,3 +1,4 @@
+-- SPDX-License-Identifier: Apache-2.0 OR BSD-3-Clause
 -- What a guest reads. Neither the writer nor a restore changes a read: operations and the trigger's answers determine it.
 use Rattle.std.proofs.Common.{arith, ◌≡◌, Bool, List, [], ◌∷◌, ◌++◌, refl, ap, sym, ◌∙◌, append_assoc, append-nil, ℕ, false, ◌==◌, subst, IsTrue, not, ◌&&◌, ◌||◌, length, drop}
 use Rattle.std.proofs.lemmas.Bool.{and_parts, false≢true, eqb-true}

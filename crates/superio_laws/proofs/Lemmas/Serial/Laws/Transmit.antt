@@ -1,3 +1,4 @@
+-- SPDX-License-Identifier: Apache-2.0 OR BSD-3-Clause
 -- What asks a driver for more bytes, and what a refused trigger call costs.
 use Rattle.std.proofs.Common.{◌≡◌, ℕ, ◌+◌, Bool, true, false, not, ◌==◌, ◌&&◌, ◌||◌, inl, List, [], ◌∷◌, ◌++◌, refl, sym, ap, ◌∙◌, arith, IsTrue, Option, if◌then◌else◌, None}
 use Rattle.std.proofs.lemmas.Bool.{and_parts, eqb-true, false≢true}

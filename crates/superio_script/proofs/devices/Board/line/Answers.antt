@@ -1,3 +1,4 @@
+-- SPDX-License-Identifier: Apache-2.0 OR BSD-3-Clause
 -- A line of the serial port leads from its trace to another, and one of the clock adds its access.
 use Rattle.std.proofs.Common.{◌≡◌, ℕ, List, ◌∷◌, Result, Ok, Err, sym, subst, IfOk, OnErr}
 use Rattle.vm_superio.specs.Rtc.{ClockDevice}

@@ -1,3 +1,4 @@
+-- SPDX-License-Identifier: Apache-2.0 OR BSD-3-Clause
 -- No call and no access led to fresh devices.
 use Rattle.std.proofs.Common.{rules, ◌≡◌, ◌∙◌, []}
 use Rattle.superio_core.specs.Rtc.{fresh_clock}

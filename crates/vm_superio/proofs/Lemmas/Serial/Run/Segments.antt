@@ -1,3 +1,4 @@
+-- SPDX-License-Identifier: Apache-2.0 OR BSD-3-Clause
 -- A run by its segments, from its steps: by any account of the port that the steps meet, so by the steps themselves, and
 -- from a coherent start by the history.
 use Rattle.std.proofs.Common.{arith, ◌≡◌, ℕ, List, [], ◌∷◌, sym, subst, not, ◌++◌, refl, ap, ◌∙◌, Option, None, ◌↔◌, IsTrue, append_assoc, append-nil}

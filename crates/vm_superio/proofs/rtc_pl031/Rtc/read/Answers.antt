@@ -1,3 +1,4 @@
+-- SPDX-License-Identifier: Apache-2.0 OR BSD-3-Clause
 -- A read continues each history: it may reach the alarm, and has no other effect.
 use Rattle.std.proofs.Common.{rules, ◌≡◌}
 use Rattle.superio_laws.specs.Rtc.{read, bytes_left, clock_response}

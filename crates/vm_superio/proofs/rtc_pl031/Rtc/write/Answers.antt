@@ -1,3 +1,4 @@
+-- SPDX-License-Identifier: Apache-2.0 OR BSD-3-Clause
 -- A write continues each history, since it leaves the state of its step.
 use Rattle.std.proofs.Common.{◌∙◌, ap}
 use Rattle.superio_laws.specs.Rtc.{write, write_of, clock_step}

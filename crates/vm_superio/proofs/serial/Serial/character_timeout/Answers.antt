@@ -1,3 +1,4 @@
+-- SPDX-License-Identifier: Apache-2.0 OR BSD-3-Clause
 -- The clauses follow from the step.
 use Rattle.std.proofs.Common.{refl, sym, subst, ap, ◌∙◌}
 use Rattle.vm_superio.specs.Serial.{State, RdaCoversHeldBytes, CharacterTimeout, timeout_response, refusal_in_result}

@@ -1,3 +1,4 @@
+-- SPDX-License-Identifier: Apache-2.0 OR BSD-3-Clause
 -- The clauses follow from the step.
 use Rattle.std.proofs.Common.{ap, ◌∙◌}
 use Rattle.vm_superio.specs.Serial.{State, Enqueue, enqueued_bytes}

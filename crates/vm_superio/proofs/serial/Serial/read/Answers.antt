@@ -1,3 +1,4 @@
+-- SPDX-License-Identifier: Apache-2.0 OR BSD-3-Clause
 -- What a step keeps.
 use Rattle.std.proofs.Common.{◌≡◌, ◌≤◌, ◌+◌, sym, ap, ◌∙◌, subst}
 use Rattle.vm_superio.specs.Serial.{Read, Asked, Coherent, read_step, state_with}

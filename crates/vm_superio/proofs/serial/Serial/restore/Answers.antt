@@ -1,3 +1,4 @@
+-- SPDX-License-Identifier: Apache-2.0 OR BSD-3-Clause
 -- A port's own state holds at most 64 bytes, so it is refused only for a refusal of the trigger or of memory.
 use Rattle.std.proofs.Common.{refl, length, ◌≤◌, arith}
 use Rattle.vm_superio.specs.Serial.{Error, Trigger, IOError, FullFifo, Memory, State, conditions_due}

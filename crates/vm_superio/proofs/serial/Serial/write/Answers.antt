@@ -1,3 +1,4 @@
+-- SPDX-License-Identifier: Apache-2.0 OR BSD-3-Clause
 -- The clauses follow from the step.
 use Rattle.vm_superio.specs.Serial.{is_dlab, Write}
 use Rattle.vm_superio.proofs.Lemmas.Serial.{length-answers_of-step}

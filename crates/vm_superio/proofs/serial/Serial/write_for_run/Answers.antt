@@ -1,3 +1,4 @@
+-- SPDX-License-Identifier: Apache-2.0 OR BSD-3-Clause
 -- The step of the registers, with THRE taken back if the first of two calls was refused.
 use Rattle.std.proofs.Common.{rules, refl, ap, ◌∙◌}
 use Rattle.vm_superio.specs.Serial.{state_with, write_step}

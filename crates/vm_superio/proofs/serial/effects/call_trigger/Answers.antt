@@ -1,3 +1,4 @@
+-- SPDX-License-Identifier: Apache-2.0 OR BSD-3-Clause
 -- Two calls of the trigger in a row are linked by the list of both answers.
 use Rattle.vm_superio.proofs.serial.effects.call_trigger.Goals as goal
 
