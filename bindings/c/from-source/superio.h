@@ -1,1 +1,571 @@
-../superio.h
+/* SPDX-License-Identifier: Apache-2.0 OR BSD-3-Clause */
+/*
+ * superio.h: emulated legacy devices for a virtual machine monitor.
+ *
+ * A 16550 serial port, a PL031 real-time clock, and an i8042 controller that
+ * resets the machine. What a call does to a device is proved, for every
+ * argument and every content of its struct.
+ *
+ * How it works
+ * ------------
+ *
+ * A device is a struct of plain fields that you keep. A call takes it by
+ * pointer, changes it, and returns its effects: what is left for you to do.
+ * There are no callbacks and no handles. The library allocates no memory,
+ * keeps no state, makes no system calls, and needs no initialisation. Of other
+ * libraries it needs only memcpy. No call fails, except that a load refuses
+ * bytes that are not a saved state.
+ *
+ *     superio_serial port = superio_serial_new();
+ *
+ *     // The guest writes.
+ *     superio_serial_write_effects written =
+ *         superio_serial_write(&port, offset, value);
+ *     if (written.sends)
+ *         send(value);
+ *     interrupt(written.interrupts);
+ *     if (offset == 4) // MCR: loopback may have ended
+ *         offer_input();
+ *
+ *     // The guest reads.
+ *     superio_serial_read_effects read = superio_serial_read(&port, offset);
+ *     if (read.in_buffer_empty)
+ *         offer_input();
+ *     if (offset == 2 && read.byte & 0x01) // IIR: nothing is pending
+ *         interrupt(superio_serial_character_timeout(&port));
+ *
+ *     // Your event loop makes a turn.
+ *     interrupt(superio_serial_character_timeout(&port));
+ *
+ *     // What `interrupt` does.
+ *     for (int i = 0; i < times; i++) {
+ *         if (!ask_for_interrupt()) {
+ *             ask_again_later(); // superio_serial_interrupts_due(&port) times
+ *             break;
+ *         }
+ *     }
+ *
+ * Rules
+ * -----
+ *
+ * - A device pointer is not NULL. All bytes of its struct are set, by the
+ *   device's `new`, by a load or by a copy. A load alone takes one that is not
+ *   set; if the load fails, it is still not set.
+ * - Any bytes are a valid device. Whatever the struct holds, no call reads or
+ *   writes outside it and the bytes that are passed.
+ * - The library takes no locks. Calls on one device must not overlap in time:
+ *   if your threads share a device, take a lock of your own. Calls on
+ *   different devices may overlap, and so may calls that take the same device
+ *   by a pointer to const.
+ * - A copy of the struct is a copy of the device, for use in the same program.
+ *   To write a device to a file or send it to another machine, save it. A
+ *   saved device has a version, is the same on every machine, and holds no
+ *   byte that the guest has read. A copy may hold such bytes.
+ *
+ * What the object code lacks
+ * --------------------------
+ *
+ * - unwind tables: a backtrace from within a call ends there;
+ * - CET marks: a program linked with it is not marked for shadow stacks or
+ *   indirect branch tracking;
+ * - hidden symbols: a shared library that links the static one exports its
+ *   functions too, unless it is linked with -Wl,--exclude-libs,ALL;
+ * - instrumentation: a sanitizer sees the caller's accesses to a struct, and
+ *   not the library's.
+ */
+#ifndef SUPERIO_H
+#define SUPERIO_H
+
+#include <stdbool.h>
+#include <stddef.h>
+#include <stdint.h>
+
+/*
+ * These let a compiler warn of misuse. Each is empty if the compiler does not
+ * know it.
+ */
+#if defined(__has_attribute)
+#define SUPERIO_HAS_ATTRIBUTE(name) __has_attribute(name)
+#else
+#define SUPERIO_HAS_ATTRIBUTE(name) 0
+#endif
+
+/* Ignoring the result loses work that is left to do. */
+#if SUPERIO_HAS_ATTRIBUTE(warn_unused_result)
+#define SUPERIO_MUST_USE __attribute__((warn_unused_result))
+#else
+#define SUPERIO_MUST_USE
+#endif
+
+/* The first argument is not NULL. */
+#if SUPERIO_HAS_ATTRIBUTE(nonnull)
+#define SUPERIO_NONNULL __attribute__((nonnull(1)))
+#else
+#define SUPERIO_NONNULL
+#endif
+
+/* How an argument's memory is used: it is set if it is read, and it is as
+ * large as a further argument says. */
+#if SUPERIO_HAS_ATTRIBUTE(access)
+#define SUPERIO_ACCESS(...) __attribute__((access(__VA_ARGS__)))
+#else
+#define SUPERIO_ACCESS(...)
+#endif
+
+/* `bytes` is NULL only if `count` is 0. */
+#if SUPERIO_HAS_ATTRIBUTE(diagnose_if)
+#define SUPERIO_COUNTED                                                       \
+    __attribute__((diagnose_if(!bytes && count > 0,                           \
+                               "bytes is NULL, and count is not 0",           \
+                               "warning")))
+#else
+#define SUPERIO_COUNTED
+#endif
+
+/* The minimum size of an array argument. */
+#ifdef __cplusplus
+#define SUPERIO_AT_LEAST(size)
+#else
+#define SUPERIO_AT_LEAST(size) static size
+#endif
+
+#ifdef __clang__
+#pragma clang diagnostic push
+#pragma clang diagnostic ignored "-Wgcc-compat" /* diagnose_if */
+#endif
+
+#ifdef __cplusplus
+extern "C" {
+#endif
+
+/* The version of the library that this header belongs to. */
+#define SUPERIO_VERSION_MAJOR 0
+#define SUPERIO_VERSION_MINOR 2
+#define SUPERIO_VERSION_PATCH 0
+#define SUPERIO_VERSION "0.2.0"
+
+/*
+ * The binary interface that this header describes. Its number changes whenever
+ * a struct or the meaning of a call changes. A program must not call a library
+ * with another number, so compare them once, first of all:
+ *
+ *     if (!SUPERIO_ABI_MATCHES())
+ *         abort();
+ *
+ * A struct does not hold the number: if you keep copies of structs outside the
+ * program, store it with them. A saved device has its own version, which a
+ * load checks.
+ */
+#define SUPERIO_ABI 4
+#define SUPERIO_ABI_MATCHES() (superio_abi() == SUPERIO_ABI)
+
+/* The binary interface of the library that the program runs with. */
+uint32_t superio_abi(void);
+
+/* ------------------------------------------------------------------------- */
+/* The serial port                                                           */
+/* ------------------------------------------------------------------------- */
+
+/* How many received bytes a port holds at most. */
+#define SUPERIO_SERIAL_FIFO_SIZE 64
+
+/* How many I/O ports a serial port takes, from its base on. */
+#define SUPERIO_SERIAL_PORTS 8
+
+/*
+ * A 16550 serial port, reduced to what a guest's driver uses: its registers,
+ * and a receive FIFO of 64 bytes that is always on. The registers are at
+ * offsets 0 to 7 from the port's base. Any other offset reads as 0, and a
+ * write there has no effect.
+ *
+ * The received bytes form a ring: the oldest is at bytes[head % 64], the
+ * others follow it, and bytes[0] follows bytes[63]. At most 64 are held: a
+ * larger `len` counts as 64.
+ */
+typedef struct superio_serial {
+    uint8_t baud_divisor_low;  /* DLL, the low byte of the divisor latch */
+    uint8_t baud_divisor_high; /* DLM, its high byte */
+    uint8_t interrupt_enable;  /* IER. 0x01 enables RDA, received data
+                                  available, and 0x02 enables THRE, transmitter
+                                  holding register empty */
+    uint8_t interrupt_identification; /* IIR without 0xC0. 0x04: RDA is pending,
+                                         0x02: THRE is, 0x01: neither is */
+    uint8_t line_control;      /* LCR. 0x80 is DLAB */
+    uint8_t line_status;       /* LSR. 0x01 is data ready */
+    uint8_t modem_control;     /* MCR. 0x10 is loopback */
+    uint8_t modem_status;      /* MSR */
+    uint8_t scratch;           /* SCR */
+    uint8_t head;              /* the place of the oldest received byte */
+    uint8_t len;               /* how many received bytes are held */
+    uint8_t bytes[SUPERIO_SERIAL_FIFO_SIZE]; /* the received bytes. Those that
+                                                are not held mean nothing */
+} superio_serial;
+
+/*
+ * What a read did. Use the two events to count, to log, or to offer more
+ * input. If both are true, `in_buffer_empty` comes first.
+ */
+typedef struct superio_serial_read_effects {
+    uint8_t byte;         /* what the guest reads */
+    bool buffer_read;     /* event: the guest read the data register */
+    bool in_buffer_empty; /* event: it did, and no byte is held now */
+} superio_serial_read_effects;
+
+/* What a write leaves to you. */
+typedef struct superio_serial_write_effects {
+    bool sends;         /* the written value goes out */
+    uint8_t interrupts; /* how often to ask for the interrupt: 0 to 2 times */
+} superio_serial_write_effects;
+
+/* What an enqueue did, and leaves to you. */
+typedef struct superio_serial_enqueue_effects {
+    size_t accepted;    /* how many bytes it accepted, first ones first */
+    bool fifo_full;     /* there were bytes, but no room */
+    uint8_t interrupts; /* how often to ask for the interrupt: 0 or 1 times */
+} superio_serial_enqueue_effects;
+
+/*
+ * A fresh port: divisor 12, 8 bits a character, OUT2 set, and nothing enabled,
+ * pending or held.
+ */
+superio_serial superio_serial_new(void) SUPERIO_MUST_USE;
+
+/*
+ * The guest reads at `offset`. A read asks for no interrupt. Afterwards do two
+ * things:
+ *
+ * - If `in_buffer_empty` is true, offer the input that waits.
+ * - If `offset` is 2 and bit 0x01 of the byte is set, call
+ *   superio_serial_character_timeout, or input may never reach the guest.
+ */
+superio_serial_read_effects superio_serial_read(superio_serial *port,
+                                                uint8_t offset)
+    SUPERIO_NONNULL SUPERIO_ACCESS(read_write, 1);
+
+/*
+ * The guest writes `value` at `offset`. Afterwards do two things, in this
+ * order:
+ *
+ * 1. If `sends` is true, send the value and flush. Report the event of the
+ *    byte yourself: out_byte if both succeed, and tx_lost_byte if either
+ *    fails. The port is the same either way, and the second step follows
+ *    either way.
+ * 2. Ask for the interrupt as often as `interrupts` says. Stop at the first
+ *    refusal, such as a write to an eventfd that fails. You need not report a
+ *    refusal: the port is the same either way.
+ *
+ * The condition of a refused interrupt stays pending, so no later access asks
+ * for it until the guest has acknowledged it. A guest that waits for the
+ * interrupt may never do so. If your interrupt can be refused, ask again
+ * later, as often as superio_serial_interrupts_due says.
+ *
+ * `interrupts` is 2 only if a write to IER raises both conditions. If the first
+ * of the two is refused, both conditions are pending, and
+ * superio_serial_interrupts_due says 2. The Rust crate vm-superio does not
+ * raise THRE after that refusal: its guest may see 0x04 in IIR where this one
+ * sees 0x06.
+ *
+ * A write to MCR, at offset 4, may end loopback: offer input again that an
+ * enqueue did not accept.
+ */
+superio_serial_write_effects superio_serial_write(superio_serial *port,
+                                                  uint8_t offset,
+                                                  uint8_t value)
+    SUPERIO_MUST_USE SUPERIO_NONNULL SUPERIO_ACCESS(read_write, 1);
+
+/*
+ * Bytes arrive for the guest. The port accepts as many of the `count` bytes as
+ * fit, first ones first. In loopback it accepts none, and `fifo_full` is false.
+ * Afterwards ask for the interrupt as often as `interrupts` says. The bytes
+ * are kept even if that is refused: do not offer them again.
+ *
+ * Keep the bytes that were not accepted. Offer them when a read reports
+ * `in_buffer_empty`, or when the guest leaves loopback.
+ *
+ * `bytes` points to `count` bytes outside the port. If `count` is 0 it may be
+ * NULL.
+ */
+superio_serial_enqueue_effects superio_serial_enqueue(superio_serial *port,
+                                                      const uint8_t *bytes,
+                                                      size_t count)
+    SUPERIO_MUST_USE SUPERIO_NONNULL SUPERIO_COUNTED
+    SUPERIO_ACCESS(read_write, 1) SUPERIO_ACCESS(read_only, 2, 3);
+
+/*
+ * Raises RDA again for bytes that are left: if bytes are held, IER enables RDA
+ * and RDA is not pending, RDA becomes pending. Otherwise nothing happens. DLAB
+ * and loopback make no difference. Returns how often to ask for the interrupt:
+ * 0 or 1 times.
+ *
+ * A guest's read of RBR or IIR ends RDA even if it leaves bytes. Without this
+ * call, these wait without an interrupt until another byte arrives, for which a
+ * full FIFO has no room, or the guest writes IER. A guest that waits for the
+ * interrupt hangs. Make the call
+ *
+ * - after each guest read at offset 2 whose byte has bit 0x01 set, which says
+ *   that nothing is pending;
+ * - once in each turn of your event loop. For a guest whose handler does not
+ *   read IIR until nothing is pending, a timer has to make turns while bytes
+ *   are held.
+ *
+ * With these calls no byte waits for ever in either direction, if in each run
+ * the driver reads out a held byte, and sends one of its own while it has any:
+ * the law console_driver in docs/THEOREM.md states this exactly.
+ */
+uint8_t superio_serial_character_timeout(superio_serial *port)
+    SUPERIO_MUST_USE SUPERIO_NONNULL SUPERIO_ACCESS(read_write, 1);
+
+/* How many bytes fit: 64 minus those that are held. */
+size_t superio_serial_fifo_capacity(const superio_serial *port)
+    SUPERIO_MUST_USE SUPERIO_NONNULL SUPERIO_ACCESS(read_only, 1);
+
+/*
+ * How often to ask for the interrupt now: once for each condition that is both
+ * pending and enabled, 0 to 2 times. The port does not change.
+ *
+ * After a restore, ask that often, so that interrupts that the guest has not
+ * taken reach it from their new source. After a refused interrupt, ask that
+ * often as soon as you can, such as from an event loop. The guest may then be
+ * interrupted again for a condition that it knows of.
+ */
+uint8_t superio_serial_interrupts_due(const superio_serial *port)
+    SUPERIO_MUST_USE SUPERIO_NONNULL SUPERIO_ACCESS(read_only, 1);
+
+/*
+ * Whether the interrupt line is up: while a condition is pending that IER
+ * enables. The port does not change.
+ *
+ * If your interrupt controller takes levels, set your line to it after every
+ * call, reads among them, and raise no interrupt. The line also goes up when
+ * IER enables a condition that is pending already, for which no call asks for
+ * an interrupt.
+ */
+bool superio_serial_interrupt_line(const superio_serial *port)
+    SUPERIO_MUST_USE SUPERIO_NONNULL SUPERIO_ACCESS(read_only, 1);
+
+/*
+ * Whether the port is coherent: `len` is at most 64, data ready says whether
+ * a byte is held, IIR is 1, 2, 4 or 6, and RDA is pending only while a byte is
+ * held. The other fields are free. A new port is coherent. Every call but a
+ * load keeps a port coherent.
+ *
+ * If you restore a port from an untrusted source, you may refuse one that is
+ * not coherent. You need not: every call is safe and does its step from any
+ * bytes. To refuse only too many bytes, as the Rust crate vm-superio does,
+ * compare `len` with 64.
+ */
+bool superio_serial_is_coherent(const superio_serial *port)
+    SUPERIO_MUST_USE SUPERIO_NONNULL SUPERIO_ACCESS(read_only, 1);
+
+/* ------------------------------------------------------------------------- */
+/* The real-time clock                                                       */
+/* ------------------------------------------------------------------------- */
+
+/* How many bytes of guest memory a clock occupies, from its base on. */
+#define SUPERIO_RTC_WINDOW 0x1000
+
+/* What superio_rtc_alarm_due returns if the alarm never comes by itself. */
+#define SUPERIO_RTC_NEVER UINT64_MAX
+
+/*
+ * A PL031 real-time clock. It counts seconds. The library reads no clock: pass
+ * each access its moment `now`, in seconds since 1970.
+ *
+ * The host's time is the low 32 bits of `now`. Guest time is the host's time
+ * plus `offset` if that sum is from 0 to 4294967295, and otherwise the host's
+ * time. So guest time does not wrap at 32 bits: it falls back to the host's
+ * time, and is the sum again when that is in range. A write of v to RTCLR sets
+ * `offset` to v minus the host's time.
+ *
+ * The match register is an alarm. A write to it sets the alarm if the value is
+ * after guest time, and otherwise clears it. The first access, of any kind, at
+ * which guest time has reached the match sets bit 0 of `ris` and clears the
+ * alarm. A write of guest time itself sets bit 0 at once.
+ *
+ * No call asks for an interrupt. If the clock has an interrupt line, set it to
+ * superio_rtc_interrupt_line after each access and after a restore. Also set a
+ * timer for superio_rtc_alarm_due. When the timer goes off, make an access of
+ * your own, such as a read at 0x018 (RTCMIS): a guest that sleeps until the
+ * interrupt makes no access.
+ */
+typedef struct superio_rtc {
+    uint32_t lr;    /* RTCLR, the last loaded value, or 0 */
+    uint32_t mr;    /* RTCMR, the guest time that an alarm waits for */
+    uint32_t imsc;  /* RTCIMSC, the interrupt mask */
+    uint32_t ris;   /* RTCRIS, the raw interrupt status */
+    int64_t offset; /* how far guest time is ahead of the host's, in seconds */
+    uint64_t armed; /* 0: no alarm is set; any other value: one is */
+} superio_rtc;
+
+/* What a read of the clock did. */
+typedef struct superio_rtc_read_effects {
+    uint32_t value;    /* the number whose bytes are read, lowest first */
+    bool invalid_read; /* event: there is nothing to read here; value is 0 */
+} superio_rtc_read_effects;
+
+/* What a write to the clock did. */
+typedef struct superio_rtc_write_effects {
+    bool invalid_write; /* event: this offset takes no write */
+} superio_rtc_write_effects;
+
+/* A fresh clock: guest time is the host's, and no alarm is set. */
+superio_rtc superio_rtc_new(void) SUPERIO_MUST_USE;
+
+/*
+ * The guest reads four bytes at `offset` from the clock's base, at the moment
+ * `now`.
+ */
+superio_rtc_read_effects superio_rtc_read(superio_rtc *clock, uint16_t offset,
+                                          uint64_t now)
+    SUPERIO_NONNULL SUPERIO_ACCESS(read_write, 1);
+
+/*
+ * The guest writes `value`, as four bytes, lowest first, at `offset`, at the
+ * moment `now`.
+ */
+superio_rtc_write_effects superio_rtc_write(superio_rtc *clock, uint16_t offset,
+                                            uint32_t value, uint64_t now)
+    SUPERIO_NONNULL SUPERIO_ACCESS(read_write, 1);
+
+/* Whether the interrupt line is up: bit 0 of `ris & imsc`, as RTCMIS shows. */
+bool superio_rtc_interrupt_line(const superio_rtc *clock)
+    SUPERIO_MUST_USE SUPERIO_NONNULL SUPERIO_ACCESS(read_only, 1);
+
+/*
+ * The seconds from the moment `now` until the alarm is due, if the guest makes
+ * no access until then: an access at that moment finds it reached, and no
+ * earlier access does. It is less than 2^32, and 0 if the alarm is due at
+ * once. It is SUPERIO_RTC_NEVER if no alarm is set or guest time never reaches
+ * the match. The mask plays no part.
+ *
+ * Ask again after each access, since it may change the match, guest time or
+ * the alarm.
+ */
+uint64_t superio_rtc_alarm_due(const superio_rtc *clock, uint64_t now)
+    SUPERIO_MUST_USE SUPERIO_NONNULL SUPERIO_ACCESS(read_only, 1);
+
+/* ------------------------------------------------------------------------- */
+/* The reset controller                                                      */
+/* ------------------------------------------------------------------------- */
+
+/*
+ * The controller's ports on a PC: offsets 0 and 4 of the functions below. Do
+ * not give it the ports between them: 0x61 is system control port B, whose bit
+ * 0x20 Linux waits for.
+ */
+#define SUPERIO_I8042_DATA_PORT 0x60
+#define SUPERIO_I8042_COMMAND_PORT 0x64
+
+/* What a write to the controller leaves to you. */
+typedef struct superio_i8042_write_effects {
+    bool resets; /* the guest asks to reset the machine */
+} superio_i8042_write_effects;
+
+/*
+ * An i8042 keyboard controller that knows one command: 0xFE at offset 4 from
+ * its base resets the machine. It has no state, and so no struct.
+ */
+superio_i8042_write_effects superio_i8042_write(uint8_t offset, uint8_t value)
+    SUPERIO_MUST_USE;
+
+/* What the guest reads at `offset`: 0, at every offset. */
+uint8_t superio_i8042_read(uint8_t offset) SUPERIO_MUST_USE;
+
+/* ------------------------------------------------------------------------- */
+/* Saved devices                                                             */
+/* ------------------------------------------------------------------------- */
+
+/*
+ * A saved device is a string of bytes; docs/SAVED-STATES.md has its encoding.
+ * Two devices have the same string only if their registers, offset, alarm and
+ * held bytes are the same, on any machine. It has no checksum.
+ */
+
+/* The maximum size of a saved port, and the size of a saved clock. */
+#define SUPERIO_SERIAL_SAVED_MAX 81
+#define SUPERIO_RTC_SAVED_SIZE 33
+
+/*
+ * What a load returns: 0, or the first check that the bytes fail, in this
+ * order. The calls return a uint32_t, since the size of an enum is the
+ * compiler's choice.
+ */
+enum superio_saved_state_error {
+    SUPERIO_LOAD_OK = 0,
+    SUPERIO_LOAD_TOO_SHORT = 1,         /* fewer bytes than a header */
+    SUPERIO_LOAD_NOT_A_SAVED_STATE = 2, /* they begin with another magic */
+    SUPERIO_LOAD_OTHER_DEVICE = 3,      /* the state of another device */
+    SUPERIO_LOAD_UNKNOWN_VERSION = 4,   /* the version, at bytes[5], is not 1 */
+    SUPERIO_LOAD_WRONG_LENGTH = 5,      /* the length is not that of the rest,
+                                           or no state of the device has it */
+    SUPERIO_LOAD_TOO_MANY_BYTES = 6,    /* a port that holds more than 64 */
+    SUPERIO_LOAD_INVALID_ARMED = 7      /* an alarm that is neither 0 nor 1 */
+};
+
+/*
+ * Saves a port and returns how many bytes it wrote: 17, plus one for each held
+ * byte. The other bytes do not change.
+ */
+size_t superio_serial_save(
+    const superio_serial *port,
+    uint8_t bytes[SUPERIO_AT_LEAST(SUPERIO_SERIAL_SAVED_MAX)])
+    SUPERIO_MUST_USE SUPERIO_NONNULL SUPERIO_ACCESS(read_only, 1)
+    SUPERIO_ACCESS(write_only, 2);
+
+/*
+ * Makes a port from `count` saved bytes. Any bytes are allowed. The port
+ * changes only if the result is SUPERIO_LOAD_OK. Then ask for the interrupt as
+ * often as superio_serial_interrupts_due says.
+ *
+ * A loaded port holds at most 64 bytes. It need not be coherent:
+ * superio_serial_is_coherent tells. `bytes` points to `count` bytes outside the
+ * port. If `count` is 0 it may be NULL.
+ */
+uint32_t superio_serial_load(superio_serial *port, const uint8_t *bytes,
+                             size_t count)
+    SUPERIO_MUST_USE SUPERIO_NONNULL SUPERIO_COUNTED
+    SUPERIO_ACCESS(write_only, 1) SUPERIO_ACCESS(read_only, 2, 3);
+
+/* Saves a clock to all of the bytes. */
+void superio_rtc_save(const superio_rtc *clock,
+                      uint8_t bytes[SUPERIO_AT_LEAST(SUPERIO_RTC_SAVED_SIZE)])
+    SUPERIO_NONNULL SUPERIO_ACCESS(read_only, 1) SUPERIO_ACCESS(write_only, 2);
+
+/* Makes a clock from `count` saved bytes; see superio_serial_load. */
+uint32_t superio_rtc_load(superio_rtc *clock, const uint8_t *bytes,
+                          size_t count)
+    SUPERIO_MUST_USE SUPERIO_NONNULL SUPERIO_COUNTED
+    SUPERIO_ACCESS(write_only, 1) SUPERIO_ACCESS(read_only, 2, 3);
+
+/* The structs have the sizes that the library gives them. */
+typedef char superio_serial_has_75_bytes[sizeof(superio_serial) == 75 ? 1 : -1];
+typedef char superio_rtc_has_32_bytes[sizeof(superio_rtc) == 32 ? 1 : -1];
+typedef char superio_serial_read_effects_has_3_bytes
+    [sizeof(superio_serial_read_effects) == 3 ? 1 : -1];
+typedef char superio_serial_write_effects_has_2_bytes
+    [sizeof(superio_serial_write_effects) == 2 ? 1 : -1];
+typedef char superio_serial_enqueue_effects_has_2_words
+    [sizeof(superio_serial_enqueue_effects) == 2 * sizeof(size_t) ? 1 : -1];
+typedef char superio_rtc_read_effects_has_8_bytes
+    [sizeof(superio_rtc_read_effects) == 8 ? 1 : -1];
+typedef char superio_rtc_write_effects_has_1_byte
+    [sizeof(superio_rtc_write_effects) == 1 ? 1 : -1];
+typedef char superio_i8042_write_effects_has_1_byte
+    [sizeof(superio_i8042_write_effects) == 1 ? 1 : -1];
+
+#ifdef __cplusplus
+}
+#endif
+
+#ifdef __clang__
+#pragma clang diagnostic pop
+#endif
+
+#undef SUPERIO_HAS_ATTRIBUTE
+#undef SUPERIO_MUST_USE
+#undef SUPERIO_NONNULL
+#undef SUPERIO_ACCESS
+#undef SUPERIO_COUNTED
+#undef SUPERIO_AT_LEAST
+
+#endif
