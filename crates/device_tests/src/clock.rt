@@ -537,3 +537,24 @@ fn an_alarm_compares_guest_time_also_past_its_last_second(rt: HostRuntime) {
         ],
     );
 }
+
+#[test]
+fn a_value_is_read_and_written_like_its_bytes(rt: HostRuntime) {
+    let mut clock = Rtc::with_events(Counts::new());
+    assert!(rt; clock.write_value(0x008, 1_000, 5));
+    assert!(rt; clock.read_value(0x000, 7) == Some(1_002));
+    assert!(rt; !clock.write_value(0x000, 1, 7));
+    assert!(rt; clock.read_value(0x01C, 7).is_none());
+    assert!(rt; invalid(&clock) == [1, 1]);
+}
+
+#[test]
+fn five_fields_are_those_of_a_state_without_an_alarm(rt: HostRuntime) {
+    let state = RtcState::from_five(1, -2, 3, 1, 0);
+    assert!(rt; state.to_five() == Some((1, -2, 3, 1, 0)));
+    let state = RtcState {
+        armed: true,
+        ..state
+    };
+    assert!(rt; state.to_five().is_none());
+}
