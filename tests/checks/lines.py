@@ -10,8 +10,9 @@ from itertools import count, product
 from struct import Struct
 from typing import Callable, Dict, NamedTuple
 
-from oracle import CLOCK_AT, CLOCK_FIELDS, FIFO_SIZE, FRESH, Clock, Port, start_fact
-from program import ROOT, commit
+from oracle import CLOCK_AT, CLOCK_FIELDS, FIFO_SIZE, FRESH, Clock, Port
+from harness import ROOT
+from made import commit
 
 ROOM = 256                # bytes that the output of a script's board takes
 MOST_LINES, RUN = 36, 40  # of a random script, and calls of a random run
@@ -98,7 +99,7 @@ class Board:
     def load(self, kind, data):
         reply = load_reply(kind, data)
         if reply == "ok" and kind == SERIAL:
-            return self.restore(start_fact(data[8:17], data[17:]))
+            return self.restore(data[8:17], data[17:])
         if reply == "ok":
             self.clock = Clock(**dict(zip(CLOCK_FIELDS, CLOCK_CONTENTS.unpack(data[8:]))))
         return reply
@@ -134,7 +135,7 @@ class Monitor(Board):
         return f"{port_text(port.state(), port.held())} {port.room():02x}" if reply == "ok" else reply
 
     def put_port(self, registers, held):
-        return "full" if len(held) > FIFO_SIZE else self.replace_port(start_fact(registers, held))
+        return "full" if len(held) > FIFO_SIZE else self.replace_port(registers, held)
 
     def put_clock(self, lr, offset, mr, imsc, ris, *armed):
         lr, mr, imsc, ris = (int(digits, 16) for digits in (lr, mr, imsc, ris))

@@ -12,7 +12,7 @@ PACKAGE = Path(__file__).resolve().parent.parent
 ROOT = PACKAGE if (PACKAGE / "prebuilt").is_dir() else PACKAGE.parent.parent
 TIMEOUT = 60
 
-sys.path[:0] = [str(PACKAGE), str(ROOT / "tests" / "checks"), str(ROOT / "tests" / "c")]
+sys.path.insert(0, str(PACKAGE))
 ENVIRONMENT = {**os.environ, "PYTHONPATH": str(PACKAGE), "SUPERIO_HISTORY": "", "TERM": "xterm"}
 for name in ("NO_COLOR", "PYTHONDONTWRITEBYTECODE", "PYTHONUNBUFFERED"):
     ENVIRONMENT.pop(name, None)

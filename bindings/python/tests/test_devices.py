@@ -1,5 +1,5 @@
 # SPDX-License-Identifier: Apache-2.0 OR BSD-3-Clause
-"""The devices: what Python adds to the calls, which tests/checks/calls compares with recordings."""
+"""The devices: what Python adds to the calls, which tests/devices/test_calls.py compares with recordings."""
 import copy
 import dataclasses
 import doctest

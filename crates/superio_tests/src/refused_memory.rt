@@ -1,5 +1,5 @@
 // SPDX-License-Identifier: Apache-2.0 OR BSD-3-Clause
-//! What is left if memory is refused. `tests/checks/refused_memory` runs each of these tests without its first
+//! What is left if memory is refused. `tests/devices/test_refused_memory.py` runs each of these tests without its first
 //! allocation, without its second, and so on, until a run has them all. As a run goes without one at most, a call that
 //! was refused memory has to succeed when it is made again.
 use std::alloc::{AllocError, Global};

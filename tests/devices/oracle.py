@@ -170,10 +170,10 @@ class Port(Device):
         return got
 
     def restore(self, *start):
-        """Puts a port with this start, or with none a copy of this one, in its place, if the line takes the calls for
-        what is due then."""
+        """Puts a port with these registers and bytes, or with none a copy of this one, in its place, if the line takes
+        the calls for what is due then."""
         own = len(self.past)
-        self.past += start
+        self.past += [start_fact(*start)] if start else []
         reply = self.retry()
         if reply == "trigger":
             del self.past[own:]

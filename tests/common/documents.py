@@ -1,15 +1,12 @@
 # SPDX-License-Identifier: Apache-2.0 OR BSD-3-Clause
-"""The repository's documents, as one reader of Markdown shows them to all checks, and how a check of them ends."""
+"""The repository's documents, as one reader of Markdown shows them to all tests."""
 import re
 import shutil
-import sys
 from pathlib import Path
 from typing import NamedTuple
 
-from program import report
-from tally import takes_no_argument
+from harness import ROOT
 
-ROOT = Path(__file__).resolve().parents[2]
 # Folders of what is built.
 BUILT = {"out", "target", "build", "__pycache__"}
 BLOCK = re.compile(r"^( *)```(\w*)[^\n]*\n(.*?)^\1```$", re.M | re.S)
@@ -76,9 +73,3 @@ def copy_repository(folder):
     """Copies the repository as it is, with what is not committed yet, without what builds write."""
     left_out = shutil.ignore_patterns(".git", "Cargo.lock", *BUILT)
     shutil.copytree(ROOT, folder, symlinks=True, ignore=left_out, dirs_exist_ok=True)
-
-
-def run(check, said):
-    """Runs a check that takes no argument, and reports its results. `said` is what the check says of itself."""
-    takes_no_argument(said)
-    sys.exit(report(check()))

@@ -1,8 +1,5 @@
-#!/usr/bin/env python3
 # SPDX-License-Identifier: Apache-2.0 OR BSD-3-Clause
-"""Checks that the documents name what the sources have, and that the clauses are all named.
-
-    tests/checks/names
+"""The documents name what the sources have, and the clauses are all named.
 
 In the documents, a contract is cited by one piece of code, such as `Serial::read, write: step, coherent`: each function
 has each of the clauses. A function without a type has that of the function before it. Of other code each file, each
@@ -11,17 +8,15 @@ also in a block for the shell, has to have the options that it is given.
 
 In the other direction, the documents of CLAIMS have to cite each clause of each public function of CRATES. Those of C
 may be cited of another function, such as `Uart::read`. Of LIBRARIES they also have to name each function whose
-clause has no name. README.md has to show the logic that `rt version` prints: proofs depend on it alone. Prints each
-fault, and `N passed, M failed, K skipped` at the end. Exits 1 if something failed.
+clause has no name. README.md has to show the logic that `rt version` prints: proofs depend on it alone.
 """
 import re
-import shutil
-import subprocess
 from dataclasses import replace
 
+import pytest
 from contracts import functions_of, without_generics
-from documents import BUILT, CODE, ROOT, Document, documents, run
-from program import Skipped
+from documents import BUILT, CODE, Document, documents
+from harness import ROOT, at_least, check
 
 CLAIMS = ["docs/PROOFS.md", "docs/SCRIPT.md", "crates/superio_examples/README.md"]
 LIBRARIES = ["superio_core", "superio_laws", "vm_superio"]
@@ -99,42 +94,51 @@ def code_faults(sources, code, covered):
             covered |= {(str(function), "") for function in sources.named(re.sub(r"\(.*", "", code))}
 
 
-def document_results(sources, document, covered):
-    """What a document names, with the place of each fault."""
-    pieces = [(number, code_faults(sources, code, covered))
-              for number, line in enumerate(document.prose.splitlines(), 1) for code in CODE.findall(line)]
-    pieces += [(block.number, command_faults(line)) for block in document.blocks for line in block.lines]
-    for number, faults in pieces:
-        yield "names", "\n".join(f"{document}:{number}: {fault}" for fault in faults) or None
+def document_results(document, covered):
+    """What is wrong with each piece of code of a document, by its line."""
+    for number, line in enumerate(document.prose.splitlines(), 1):
+        yield from ((number, fault) for code in CODE.findall(line) for fault in code_faults(SOURCES, code, covered))
+    for block in document.blocks:
+        yield from ((block.number, fault) for line in block.lines for fault in command_faults(line))
 
 
-def clause_results(sources, covered):
-    """The clauses of public functions, which a citation has to name, and without a name the function."""
-    cited = {clause for _, clause in covered}
-    for function in sources.functions:
+def clauses():
+    """The clauses of public functions that have to be cited. One without a name is so by its function."""
+    for function in SOURCES.functions:
         crate = function.path[0]
         for clause in function.clauses if function.is_public and crate in CRATES else ():
-            is_named = (str(function), clause) in covered or crate == "superio_c" and clause in cited
             if clause or function.has_body and crate in LIBRARIES:
-                yield "clauses", None if is_named else f"docs/PROOFS.md: {function}: {clause or 'it'} is not named"
+                yield str(function), clause
 
 
-def version_fault():
-    """What is wrong with README.md's logic of the kit, or `None`."""
-    if not shutil.which("rt"):
-        return Skipped("rt")
-    version = subprocess.run(["rt", "version"], stdout=subprocess.PIPE, text=True, check=True).stdout.strip()
-    is_shown = version[version.index("logic "):] in Document("README.md").text
-    return None if is_shown else f"README.md does not show the logic of {version}"
+SOURCES = Sources()
+DOCUMENTS = [it for it in documents() if str(it) != "CHANGELOG.md"]   # it names what was
+CITED = set()   # the functions and the clauses that the documents of CLAIMS cite
+for it in CLAIMS:
+    list(document_results(Document(it), CITED))
+PIECES = [code for it in DOCUMENTS for line in it.prose.splitlines() for code in CODE.findall(line)]
 
 
-def check():
-    sources, covered = Sources(), set()
-    for document in documents():
-        if str(document) != "CHANGELOG.md":  # it names what was
-            yield from document_results(sources, document, covered if str(document) in CLAIMS else set())
-    yield from clause_results(sources, covered)
-    yield "versions", version_fault()
+def test_number_of_names():
+    assert len(PIECES) >= 2_000
 
 
-run(check, __doc__)
+@pytest.mark.parametrize("document", at_least(32, DOCUMENTS), ids=str)
+def test_document(document):
+    """A document names nothing that is not there."""
+    faults = [f"{document}:{number}: {fault}" for number, fault in document_results(document, set())]
+    assert not faults, "\n".join(faults)
+
+
+@pytest.mark.parametrize("function, clause", at_least(450, clauses()))
+def test_clause(function, clause):
+    """A document cites each clause."""
+    is_of_c = function.startswith("superio_c::")
+    assert (function, clause) in CITED or is_of_c and clause in {it for _, it in CITED}, "docs/PROOFS.md does not name it"
+
+
+@pytest.mark.needs("kit")
+def test_version():
+    """README.md shows the logic of the kit."""
+    version = check(["rt", "version"]).strip()
+    assert version[version.index("logic "):] in Document("README.md").text

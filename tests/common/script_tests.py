@@ -3,21 +3,20 @@
 Python package and of the page has further lines, which the program refuses."""
 import json
 import lzma
+import random
 import re
-import sys
 from itertools import groupby
 from os.path import commonprefix
-from pathlib import Path
 from typing import NamedTuple
 
 from documents import documents
-from lines import ALL, FURTHER, FURTHER_SCRIPTS, LINES, SCRIPTS, every_load, random_scripts, script_replies
+from harness import ROOT
+from made import every_load, random_script, seeds
+from script import FURTHER_LINES, LINES, run_script, script_of
+from superio.recording import entries_of
 
-ROOT = Path(__file__).resolve().parents[2]
 TESTS = ROOT / "tests" / "data"
 FURTHER_TESTS = TESTS / "further"  # with further lines
-sys.path.append(str(ROOT / "bindings" / "python"))
-from superio.recording import entries_of  # noqa: E402
 
 LOADS = 400  # lines of loads in a script
 END = re.compile(r"bad line \d+|input or output fault|out of memory|script too long")
@@ -40,7 +39,7 @@ class Script(NamedTuple):
     def by_program(self):
         """The same script as the program runs it, which refuses the first of the further lines."""
         lines = self.script.decode("latin-1").split("\n")
-        place = next((place for place, line in enumerate(lines) if line.partition(" ")[0] in FURTHER), None)
+        place = next((place for place, line in enumerate(lines) if line.partition(" ")[0] in FURTHER_LINES), None)
         if place is None:
             return self
         count = place - lines[0].startswith("refuse")
@@ -93,7 +92,7 @@ def scripts_of(path):
 
 def of_documents():
     """The scripts that documents show with their replies."""
-    row = re.compile(rf"({'|'.join(ALL)})( [0-9A-Fa-f]+)*(  .*)?")
+    row = re.compile(rf"({'|'.join(LINES)})( [0-9A-Fa-f]+)*(  .*)?")
     return [script for document in documents() for block in document.blocks
             if block.lines and all(map(row.fullmatch, block.lines))
             for script in of_block(f"{document}:{block.number}", block.lines)]
@@ -109,9 +108,9 @@ class BoardScript(NamedTuple):
     end: str
 
 
-def board_scripts(what, number):
-    """The scripts of tests/data and of documents, in which neither input nor memory fails; loads of any bytes; and
-    random scripts, so many with further lines. Each commit has others."""
+def kept_scripts():
+    """The scripts of tests/data and of documents in which neither input nor memory fails. Those with further lines come
+    for a board that refuses these, too."""
     def of_test(test, is_for_program):
         replies = test.replies.decode("latin-1").split("\n")[:-1]
         return BoardScript(test.place, test.script.decode("latin-1"), is_for_program, replies, test.end)
@@ -121,9 +120,28 @@ def board_scripts(what, number):
     yield from (of_test(test, True) for test in shared if not test.end.startswith(("input", "out")))
     yield from (of_test(test, False) for test in [*further, *of_documents()])
     yield from (of_test(test.by_program, True) for test in further)
-    loads = [f"{line}\n" for line in every_load()]
-    made = [(f"load {place}", "".join(loads[place:place + LOADS]), False) for place in range(0, len(loads), LOADS)]
-    made += ((*it, False) for it in random_scripts(what, number, FURTHER_SCRIPTS))
-    made += ((*it, True) for kinds in (SCRIPTS, FURTHER_SCRIPTS) for it in random_scripts(what, number // 10, kinds))
-    for place, script, is_for_program in made:
-        yield BoardScript(place, script, is_for_program, *script_replies(script, LINES if is_for_program else ALL))
+
+
+def load_scripts():
+    """Loads of any bytes."""
+    calls = [*every_load()]
+    for place in range(0, len(calls), LOADS):
+        script = script_of(calls[place:place + LOADS])
+        yield BoardScript(f"load {place}", script, False, *run_script(script))
+
+
+def made_scripts(what, number):
+    """So many random scripts for a board that has the further lines, and a fifth of that for one that refuses them, half
+    of these without any such line. Each commit has others."""
+    for seed in seeds(what, number):
+        script = random_script(random.Random(seed))
+        yield BoardScript(seed, script, False, *run_script(script))
+    for seed in seeds(f"{what} as the program", number // 5):
+        source = random.Random(seed)
+        script = random_script(source, is_for_program=source.random() < 0.5)
+        yield BoardScript(seed, script, True, *run_script(script, is_for_program=True))
+
+
+def board_scripts(what, number):
+    """All scripts for a board."""
+    return [*kept_scripts(), *load_scripts(), *made_scripts(what, number)]

@@ -1,19 +1,16 @@
-#!/usr/bin/env python3
 # SPDX-License-Identifier: Apache-2.0 OR BSD-3-Clause
-"""Checks what no contract can say: types hide no state, and code calls nothing that no contract sees.
-
-    tests/checks/models
+"""What no contract can say: types hide no state, and code calls nothing that no contract sees.
 
 Contracts see a struct with an `impl Model` through its view, which has to name each field. Each function has a clause,
 or is of an `impl` of a trait, or runs the program. What code takes from std, its macros, attributes and traits, and the
 libraries of crates.txt are of the lists below, which have no cells, threads, files or time, or traits of the crates
-themselves. The crates of tests may do more. Prints each fault, and `N passed, M failed` at the end. Exits 1 if
-something failed.
+themselves. The crates of tests may do more.
 """
 import re
 
+import pytest
 from contracts import code_of, end_of_braces, functions_of
-from documents import ROOT, run
+from harness import ROOT, at_least
 
 TESTS = {"device_tests", "superio_tests"}
 LIBRARIES = {"arrayvec", "circular_buffer", "hex", "staticlib"}
@@ -69,20 +66,25 @@ def unseen(name, text, code):
             yield f"{function.name} without a clause"
 
 
-def check():
-    crates = ROOT / "crates"
+CRATES = ROOT / "crates"
+SOURCES = {str(path.relative_to(CRATES)): path.read_text(encoding="utf-8") for path in sorted(CRATES.glob("*/src/**/*.rt"))
+           if path.relative_to(CRATES).parts[0] not in TESTS}
+MODELS = [(name, *model) for name, text in SOURCES.items() for model in models(text, without_contracts(text))]
+
+
+def test_libraries():
+    """crates.txt uses no library that may have state."""
     used = set(re.findall(r"\w+", (ROOT / "crates.txt").read_text(encoding="utf-8")))
-    unknown = used - {path.name for path in crates.iterdir()} - LIBRARIES
-    yield "libraries", f"crates.txt has {', '.join(unknown)}, which may have state" if unknown else None
-    for path in sorted(crates.glob("*/src/**/*.rt")):
-        name = str(path.relative_to(crates))
-        if name.split("/")[0] not in TESTS:
-            text = path.read_text(encoding="utf-8")
-            code = without_contracts(text)
-            for struct, hidden in models(text, code):
-                yield "models", f"{name}: the view of {struct} leaves out {', '.join(hidden)}" if hidden else None
-            faults = [f"{name}: it has {it}, which no contract sees" for it in unseen(name, text, code)]
-            yield "files", "\n".join(faults) or None
+    assert not used - {path.name for path in CRATES.iterdir()} - LIBRARIES
 
 
-run(check, __doc__)
+@pytest.mark.parametrize("name, struct, hidden", at_least(9, MODELS), ids=str)
+def test_view(name, struct, hidden):
+    """The view of a struct leaves out no field."""
+    assert not hidden
+
+
+@pytest.mark.parametrize("name", at_least(51, SOURCES))
+def test_source(name):
+    """A source has nothing that no contract sees."""
+    assert not list(unseen(name, SOURCES[name], without_contracts(SOURCES[name])))

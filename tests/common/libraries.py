@@ -2,9 +2,9 @@
 """The files of the C library: where they are, and the digests by which others compare them."""
 import hashlib
 import re
-from pathlib import Path
 
-ROOT = Path(__file__).resolve().parents[2]
+from harness import ROOT
+
 PREBUILT = ROOT / "prebuilt"
 HEADER = ROOT / "bindings" / "c" / "superio.h"
 # What programs have compiled into them of the header, as a table, which Python reads.

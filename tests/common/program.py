@@ -1,5 +1,5 @@
 # SPDX-License-Identifier: Apache-2.0 OR BSD-3-Clause
-"""The program `superio`: how it is built, and how checks run it."""
+"""The program `superio`: how it is built, and how tests run it."""
 import os
 import re
 import shutil
@@ -9,13 +9,16 @@ import tempfile
 from concurrent.futures import ThreadPoolExecutor
 from pathlib import Path
 
-from tally import NotBuilt, Skipped, report  # noqa: F401, which checks of the program use
+from harness import ROOT
 
-ROOT = Path(__file__).resolve().parents[2]
 CRATES = ROOT / "crates"
 PROGRAM = CRATES / "superio" / "out" / "superio"
 TESTS = CRATES / "superio_tests" / "out" / "superio_tests_tests"
 TIMEOUT = 60  # seconds that one run of the program may take
+
+
+class NotBuilt(OSError):
+    """A program or a library could not be built. The text says why."""
 
 
 def build(*steps):
@@ -52,10 +55,8 @@ def proved_program():
     return PROGRAM if is_current else None
 
 
-def built_program(arguments=()):
-    """The program that the arguments name, or else the proved one, which is proved and built if it is not there."""
-    if arguments:
-        return Path(arguments[0]).resolve()
+def built_program():
+    """The proved program, which is proved and built if it is not there."""
     if not proved_program():
         build(*((crate, "lib") for crate in crates_below("superio")), ("superio", "run"))
     return PROGRAM
@@ -89,16 +90,9 @@ def run_all(program, scripts, *arguments):
         yield from pool.map(lambda script: run(program, script, *arguments), scripts)
 
 
-def commit():
-    """The commit, so that each tries other cases and can try its own again. Without one, as in a release: ''."""
-    try:
-        return subprocess.run(["git", "rev-parse", "HEAD"], cwd=ROOT, capture_output=True, text=True).stdout.strip()
-    except OSError:
-        return ""
-
-
-def check_program(check):
-    """Reports what a check of the built program yields, as `report` does. A first argument names another program."""
-    def results():
-        yield from check(built_program(sys.argv[1:]))
-    return report(results())
+def built_tests():
+    """The proved tests of superio_tests, which are proved and built if they are missing or older than the sources."""
+    sources = max(path.stat().st_mtime for path in CRATES.glob("*/src/**/*.rt"))
+    if not TESTS.exists() or TESTS.stat().st_mtime < sources:
+        build(("superio_tests", "test"))
+    return TESTS

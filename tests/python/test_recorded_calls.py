@@ -1,11 +1,10 @@
 # SPDX-License-Identifier: Apache-2.0 OR BSD-3-Clause
-"""The recorded calls of tests/data/calls over the package, and those that tests/checks/lines.py makes up."""
+"""The recorded calls of tests/data/calls over the Python package, and every answer in every state."""
 import re
-import unittest
 
-import support  # noqa: F401, which finds the modules of tests
-
-from lines import every_answer, recording_of, recordings
+import pytest
+from harness import at_least
+from recorded import difference, every_answer, recording_of, recordings, rows_of
 
 from superio import Board, Command, Rtc, RtcState, Serial, SerialState
 from superio.board import Counts
@@ -71,17 +70,11 @@ def of_device(reply):
     return re.sub(r" W\w\w(?= W)| [Flo]\b", "", reply).replace("io", "ok")
 
 
-class Calls(unittest.TestCase):
-    def compare(self, recording):
-        devices, rows = Devices(), [line.split(" = ") for line in recording.splitlines() if " = " in line]
-        self.assertTrue(rows)
-        for call, reply in rows:
-            self.assertEqual(of_device(reply), devices.make(call), call)
+RECORDED = {**recordings(), "every answer": recording_of(every_answer())}
 
-    def test_recorded_calls(self):
-        for name, recording in recordings().items():
-            with self.subTest(name):
-                self.compare(recording)
 
-    def test_every_answer(self):
-        self.compare(recording_of(every_answer()))
+@pytest.mark.parametrize("name", at_least(4, RECORDED))
+def test_calls(name):
+    rows, devices = [(call, of_device(reply)) for call, reply in rows_of(RECORDED[name])], Devices()
+    assert rows
+    assert not difference(rows, [devices.make(call) for call, _ in rows])

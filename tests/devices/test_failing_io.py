@@ -1,36 +1,34 @@
-#!/usr/bin/env python3
 # SPDX-License-Identifier: Apache-2.0 OR BSD-3-Clause
-"""Checks how the program ends if a read or a write fails, and that it takes bytes in pieces.
-
-    tests/checks/failing_io [PROGRAM]
+"""How the program ends if a read or a write fails, and that it takes bytes in pieces.
 
 The system makes the faults, after each part of a script of every form and of its replies, and over scripts that are bad
 or too long. docs/SCRIPT.md says how each run has to end, and shows what a failure of standard error does. It promises
 nothing of what was printed before a failed write; here that is what the file has room for. The tests of `object_calls`
 in crates/superio_tests have faults of every kind, and interruptions, over objects of their own.
-
-PROGRAM takes the place of crates/superio/out/superio, as in `tests/checks/scripts`. Prints what differs, and
-`N passed, M failed` at the end. Exits 1 if something failed.
 """
 import contextlib
 import os
 import resource
 import socket
 import subprocess
-import sys
 import tempfile
 
-from program import TIMEOUT, check_program
+import pytest
+from harness import at_least
 from script_tests import TESTS, Script, scripts_of
 
-LONGEST_BAD = Script("the longest script", b"kr 04\n" * 10_922 + b"kr 0", b"00\n" * 10_922, "bad line 10923")
-BAD_LATER = Script("a bad line after a reply", b"kr 04\nkr 5\n", b"00\n", "bad line 2")
+pytestmark = pytest.mark.needs("kit")
+
+LIMIT = 60
+FORM = next(scripts_of(TESTS / "scripts.txt"))   # of every form of line
+LONGEST_BAD = Script("longest", b"kr 04\n" * 10_922 + b"kr 0", b"00\n" * 10_922, "bad line 10923")
+BAD_LATER = Script("bad later", b"kr 04\nkr 5\n", b"00\n", "bad line 2")
 TOO_LONG = Script("too long", b"kr 04\n" * 12_000, b"", "script too long")
 
 
 def ended(command, **options):
     """How a run ended, what it printed and what it said."""
-    ran = subprocess.run(command, **{"stdout": subprocess.PIPE, **options}, stderr=subprocess.PIPE, timeout=TIMEOUT)
+    ran = subprocess.run(command, **{"stdout": subprocess.PIPE, **options}, stderr=subprocess.PIPE, timeout=LIMIT)
     return ran.returncode, ran.stdout, ran.stderr
 
 
@@ -39,10 +37,10 @@ def in_pieces(program, script, piece):
     ours, theirs = socket.socketpair(socket.AF_UNIX, socket.SOCK_SEQPACKET)
     with subprocess.Popen([program], stdin=theirs, stdout=subprocess.PIPE, stderr=subprocess.PIPE) as process:
         theirs.close()
-        with ours, contextlib.suppress(BrokenPipeError):  # it may read no further
+        with ours, contextlib.suppress(BrokenPipeError):   # it may read no further
             for place in range(0, len(script), piece):
                 ours.send(script[place:place + piece])
-        output, errors = process.communicate(timeout=TIMEOUT)
+        output, errors = process.communicate(timeout=LIMIT)
         return process.returncode, output, errors
 
 
@@ -75,24 +73,40 @@ def fault(script, printed=0):
     return script._replace(replies=script.replies[:printed], end="input or output fault")
 
 
-def cases(form):
-    """The runs, given a script of every form: the kind of each, how it is run, with what, and what has to come."""
-    yield from (("pieces", in_pieces, piece, form) for piece in range(1, 33))
-    yield from (("pieces", in_pieces, piece, TOO_LONG) for piece in (4_096, 65_536))
-    yield from (("failing reads", read_fails_after, count, fault(form)) for count in range(len(form.script) + 1))
-    yield from (("failing reads", redirected, source, fault(form)) for source in ("< /", "<&-"))
-    for script, step in ((form, 1), (BAD_LATER, 1), (LONGEST_BAD, 1_365)):
-        rooms = range(0, len(script.replies), step)
-        yield from (("failing writes", with_room, room, fault(script, room)) for room in rooms)
-        yield "failing writes", with_room, len(script.replies), script
-        yield from (("failing writes", redirected, output, fault(script)) for output in ("> /dev/full", ">&-"))
+PIECES = at_least(34, [*((FORM, piece) for piece in range(1, 33)), (TOO_LONG, 4_096), (TOO_LONG, 65_536)])
+ROOMS = at_least(190, [(script, room) for script, step in ((FORM, 1), (BAD_LATER, 1), (LONGEST_BAD, 1_365))
+                       for room in [*range(0, len(script.replies), step), len(script.replies)]])
 
 
-def check(program):
-    """Makes each run, and compares how it ended."""
-    for kind, run, how, script in cases(next(scripts_of(TESTS / "scripts.txt"))):
-        wrong = script.difference(run(program, script.script, how))
-        yield f"runs with {kind}", wrong and f"{run.__name__} {how}: {wrong}"
+@pytest.mark.parametrize("script, piece", PIECES, ids=lambda it: getattr(it, "place", it))
+def test_pieces(program, script, piece):
+    assert not script.difference(in_pieces(program, script.script, piece))
 
 
-sys.exit(check_program(check))
+@pytest.mark.parametrize("count", range(len(FORM.script) + 1))
+def test_read_fails_after(program, count):
+    assert not fault(FORM).difference(read_fails_after(program, FORM.script, count))
+
+
+@pytest.mark.parametrize("source", ["< /", "<&-"])
+def test_no_input(program, source):
+    assert not fault(FORM).difference(redirected(program, FORM.script, source))
+
+
+@pytest.mark.parametrize("script, room", ROOMS, ids=lambda it: getattr(it, "place", it))
+def test_output_has_room(program, script, room):
+    expected = fault(script, room) if room < len(script.replies) else script
+    assert not expected.difference(with_room(program, script.script, room))
+
+
+@pytest.mark.parametrize("output", ["> /dev/full", ">&-"])
+@pytest.mark.parametrize("script", [FORM, BAD_LATER, LONGEST_BAD], ids=lambda it: getattr(it, "place", it))
+def test_no_output(program, script, output):
+    assert not fault(script).difference(redirected(program, script.script, output))
+
+
+@pytest.mark.parametrize("wrong", ["true", "cat"])
+def test_wrong_program(wrong):
+    """A program that hides a fault is found wrong."""
+    assert fault(FORM).difference(redirected(f"/bin/{wrong}", FORM.script, "> /dev/full"))
+    assert fault(FORM).difference(read_fails_after(f"/bin/{wrong}", FORM.script, 9))

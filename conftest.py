@@ -1,0 +1,132 @@
+# SPDX-License-Identifier: Apache-2.0 OR BSD-3-Clause
+"""The tools that tests need, what is built for them once, and that no test passes without having run.
+
+A test says what it needs: `@pytest.mark.needs("cargo")`. If the tool is missing the test fails, with the package of
+Debian 12 to install. Only --without leaves tests out. Any other skip, and any expected failure, fails.
+"""
+import os
+import platform
+import shutil
+import subprocess
+from functools import lru_cache
+from glob import glob
+from pathlib import Path
+
+import pytest
+from harness import ROOT, check
+from hypothesis import HealthCheck, settings
+
+# What a test may need: a command, a file, or a module of Debian's Python that has to be there, and the package of Debian
+# 12 that has it.
+TOOLS = {
+    "kit": ("rt", "the Rattle kit, which is no package"),
+    "cc": ("cc", "gcc"),
+    "c++": ("g++", "g++"),
+    "clang": ("clang", "clang"),
+    "make": ("make", "make"),
+    "cargo": ("cargo", "cargo"),
+    "node": ("node", "nodejs"),
+    "npm": ("npm", "npm"),
+    "tsc": ("tsc", "node-typescript"),
+    "chromium": ("chromium", "chromium"),
+    "git": ("git", "git"),
+    "pip": ("import pip", "python3-pip"),
+    "setuptools": ("import setuptools.build_meta", "python3-setuptools"),
+    "wheel": ("import wheel", "python3-wheel"),
+    "venv": ("import venv, ensurepip", "python3-venv"),
+    "twine": ("twine", "twine"),
+}
+
+LEFT_OUT = pytest.StashKey()   # of a test that --without leaves out
+
+common = {"deadline": None, "suppress_health_check": list(HealthCheck), "print_blob": True}
+settings.register_profile("quick", max_examples=50, derandomize=True, **common)
+settings.register_profile("thorough", max_examples=3000, **common)
+settings.load_profile(os.environ.get("HYPOTHESIS_PROFILE", "quick"))
+
+
+def pytest_addoption(parser):
+    parser.addoption("--without", default="", metavar="TOOL,..",
+                     help=f"leave out the tests that need one of these: {', '.join(TOOLS)}")
+    parser.addoption("--program", type=Path, help="a program in place of crates/superio/out/superio")
+
+
+@lru_cache(maxsize=None)
+def is_there(what):
+    """Whether a command, a file, or what a line of Python imports is there."""
+    if what.startswith("import "):
+        return subprocess.run(["/usr/bin/python3", "-c", what], capture_output=True).returncode == 0
+    return bool(glob(what)) if what.startswith("/") else shutil.which(what) is not None
+
+
+def left_out(config):
+    return set(filter(None, config.getoption("--without").split(",")))
+
+
+def needed(item):
+    return {tool for mark in item.iter_markers("needs") for tool in mark.args}
+
+
+def pytest_configure(config):
+    if unknown := left_out(config) - set(TOOLS):
+        raise pytest.UsageError(f"--without: there is no tool {', '.join(sorted(unknown))}")
+
+
+def pytest_runtest_setup(item):
+    """Fails a test whose tool is missing. What --without names is skipped, also if it is there."""
+    if tools := sorted(needed(item) & left_out(item.config)):
+        item.stash[LEFT_OUT] = True
+        pytest.skip(f"without {', '.join(tools)}")
+    for tool in sorted(needed(item)):
+        what, package = TOOLS[tool]
+        is_given = tool == "kit" and item.config.getoption("--program")
+        if not is_given and not is_there(what):
+            pytest.fail(f"{what} is missing: install {package}, or run with --without {tool}", pytrace=False)
+
+
+@pytest.hookimpl(hookwrapper=True)
+def pytest_runtest_makereport(item):
+    """A test that is skipped otherwise, or that is expected to fail, has failed: nobody asked for it."""
+    report = (yield).get_result()
+    if report.skipped and LEFT_OUT not in item.stash:
+        report.outcome, report.longrepr = "failed", f"skipped itself: {report.longrepr}"
+
+
+@pytest.hookimpl(hookwrapper=True)
+def pytest_make_collect_report(collector):
+    """So has a file that is skipped whole, as by `importorskip`."""
+    report = (yield).get_result()
+    if report.skipped:
+        report.outcome, report.longrepr = "failed", f"{collector.nodeid} skipped itself: {report.longrepr}"
+
+
+def pytest_terminal_summary(terminalreporter, config):
+    if tools := left_out(config):
+        number = len(terminalreporter.stats.get("skipped", ()))
+        terminalreporter.write_line(f"NOT TRIED: {number} tests, since --without names {', '.join(sorted(tools))}")
+
+
+@pytest.fixture(scope="session")
+def program(request):
+    """The proved program, which is proved and built if it is missing or older than its sources."""
+    from program import built_program
+    given = request.config.getoption("--program")
+    return given.resolve() if given else built_program()
+
+
+@pytest.fixture(scope="session")
+def prebuilt_library():
+    """The shared library of prebuilt for this processor, by ctypes."""
+    import abi
+    from libraries import SHARED
+    return abi.load(ROOT / "prebuilt" / f"{platform.machine()}-linux" / SHARED)
+
+
+@pytest.fixture(scope="session")
+def source_library(tmp_path_factory):
+    """The same library as Cargo makes it of bindings/c/from-source."""
+    import abi
+    folder = tmp_path_factory.mktemp("from-source")
+    check(["cargo", "rustc", "--crate-type", "cdylib", "--release", "--quiet", "--offline", "--manifest-path",
+           ROOT / "bindings/c/from-source/Cargo.toml", "--target-dir", folder])
+    return abi.load(folder / "release" / "libsuperio_c.so")

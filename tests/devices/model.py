@@ -1,0 +1,157 @@
+# SPDX-License-Identifier: Apache-2.0 OR BSD-3-Clause
+"""The devices in plain Python, step by step, as docs/DEVICES.md has them: fast, and easy to read.
+
+Its port and its clock have the calls of those in oracle.py, which search the past instead. It is written from the page,
+and not from the code.
+"""
+FIFO_SIZE = 64
+RDA, THRE, NONE = 0x04, 0x02, 0x01             # of IIR
+ENABLED_BY = {RDA: 0x01, THRE: 0x02}           # in IER
+DLAB, LOOPBACK, READY, FIFO_BITS = 0x80, 0x10, 0x01, 0xC0   # of LCR, of MCR, of LSR, and of what a guest reads of IIR
+FRESH = {"DLL": 0x0C, "DLM": 0, "IER": 0, "IIR": NONE, "LCR": 0x03, "LSR": 0x60, "MCR": 0x08, "MSR": 0xB0, "SCR": 0}
+BY_OFFSET = ["RBR", "IER", "IIR", "LCR", "MCR", "LSR", "MSR", "SCR"]
+LOOPED = {0x01: 0x20, 0x02: 0x10, 0x04: 0x40, 0x08: 0x80}   # DTR as DSR, RTS as CTS, OUT1 as RI, OUT2 as DCD
+
+CLOCK_FIELDS = ["LR", "MR", "IMSC", "RIS", "offset", "armed"]
+CLOCK_AT = {0x00: "DR", 0x04: "MR", 0x08: "LR", 0x0C: "CR", 0x10: "IMSC", 0x14: "RIS", 0x18: "MIS", 0x1C: "ICR"}
+IDENTIFICATION = bytes.fromhex("31 10 04 00 0d f0 05 b1")
+
+
+class Port:
+    """A serial port over objects, as in oracle.py."""
+
+    def __init__(self, objects):
+        self.objects, self.registers, self.bytes = objects, dict(FRESH), b""
+
+    def at(self, offset):
+        """The name of the register at an offset."""
+        if offset < 2 and self.registers["LCR"] & DLAB:
+            return ("DLL", "DLM")[offset]
+        return BY_OFFSET[offset] if offset < 8 else None
+
+    def raises(self, *conditions):
+        """Raises conditions in order, up to a refusal, and returns whether there was none."""
+        for condition in conditions:
+            if self.registers["IER"] & ENABLED_BY[condition] and not self.registers["IIR"] & condition:
+                self.registers["IIR"] = self.registers["IIR"] & ~NONE | condition
+                if not self.objects.line():
+                    return False
+        return True
+
+    def read(self, offset):
+        name = self.at(offset)
+        if name == "RBR":
+            return f"{self.take():02x}"
+        value = self.registers.get(name, 0)
+        if name == "IIR":
+            value, self.registers["IIR"] = value | FIFO_BITS, NONE
+        if name == "MSR" and self.registers["MCR"] & LOOPBACK:
+            value = value & 0x0F | sum(seen for bit, seen in LOOPED.items() if self.registers["MCR"] & bit)
+        return f"{value:02x}"
+
+    def take(self):
+        """Takes the oldest byte, or 0 if there is none."""
+        byte, self.bytes = (self.bytes or b"\0")[0], self.bytes[1:]
+        self.registers["IIR"] = self.registers["IIR"] & ~RDA or NONE
+        if not self.bytes:
+            self.registers["LSR"] &= ~READY
+            self.objects.tell("e")
+        self.objects.tell("b")
+        return byte
+
+    def write(self, offset, value):
+        name = self.at(offset)
+        if name == "RBR" and self.registers["MCR"] & LOOPBACK:
+            return self.receive(bytes([value]), "ok")
+        if name == "RBR":
+            is_sent = self.objects.write(value)
+            self.objects.tell("o" if is_sent else "l")
+            return "trigger" if not self.raises(THRE) else "ok" if is_sent else "io"
+        if name in ("DLL", "DLM", "LCR", "MCR", "SCR"):
+            self.registers[name] = value
+        if name == "IER":
+            self.registers["IER"] = value & 0x0F
+            return "ok" if self.raises(*[RDA] * bool(self.bytes), THRE) else "trigger"
+        return "ok"
+
+    def receive(self, data, reply):
+        """Takes what fits of some bytes."""
+        data = data[:self.room()]
+        if not data:
+            return reply
+        self.bytes += data
+        self.registers["LSR"] |= READY
+        return reply if self.raises(RDA) else "trigger"
+
+    def enqueue(self, data):
+        if self.registers["MCR"] & LOOPBACK:
+            return "00"
+        room = self.room()
+        return "full" if data and not room else self.receive(data, f"{min(len(data), room):02x}")
+
+    def character_timeout(self):
+        return "ok" if self.raises(*[RDA] * bool(self.bytes)) else "trigger"
+
+    def drain(self):
+        got = b""
+        while self.at(0) == "RBR" and self.registers["LSR"] & READY:
+            got += bytes([self.take()])
+        return got.hex()
+
+    def due(self):
+        """The conditions that are pending and enabled."""
+        return [it for it, bit in ENABLED_BY.items() if self.registers["IER"] & bit and self.registers["IIR"] & it]
+
+    def retry(self):
+        return "ok" if all(self.objects.line() for _ in self.due()) else "trigger"
+
+    def restore(self, *start):
+        before = self.registers, self.bytes
+        if start:
+            self.registers, self.bytes = dict(zip(FRESH, start[0])), start[1]
+        if self.retry() == "ok":
+            return "ok"
+        self.registers, self.bytes = before
+        return "trigger"
+
+    def room(self):
+        return FIFO_SIZE - len(self.bytes)
+
+    def held(self):
+        return self.bytes
+
+    def state(self):
+        return bytes(self.registers.values())
+
+
+class Clock:
+    """A clock, as in oracle.py."""
+
+    def __init__(self, **fields):
+        self.fields = {**dict.fromkeys(CLOCK_FIELDS, 0), **fields}
+
+    def state(self):
+        return dict(self.fields)
+
+    def access(self, moment, offset, value=None):
+        """Makes an access. Returns the number that a read shows, 0 for a write, or None for an invalid access."""
+        host, fields, name = moment % 2**32, self.fields, CLOCK_AT.get(offset)
+        guest = host + fields["offset"]
+        time = guest if 0 <= guest < 2**32 else host
+        if fields["armed"] and time >= fields["MR"]:
+            fields.update(armed=0, RIS=fields["RIS"] | 1)
+        if value is None:
+            if 0xFE0 <= offset < 0x1000:
+                return IDENTIFICATION[(offset - 0xFE0) // 4]
+            return {**fields, "DR": time, "CR": 1, "MIS": fields["RIS"] & fields["IMSC"]}.get(name)
+        if name == "MR":
+            fields.update(MR=value, armed=int(value > time), RIS=fields["RIS"] | (value == time))
+        elif name == "LR":
+            fields.update(LR=value, offset=value - host)
+        elif name == "CR" and value == 1:
+            fields.update(LR=0, offset=0)
+        elif name == "IMSC":
+            fields["IMSC"] = value & 1
+        elif name == "ICR":
+            fields["RIS"] &= ~value
+        return 0 if name in ("MR", "LR", "CR", "IMSC", "ICR") else None

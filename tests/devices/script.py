@@ -1,0 +1,69 @@
+# SPDX-License-Identifier: Apache-2.0 OR BSD-3-Clause
+"""The lines of scripts, by docs/SCRIPT.md, and the calls of a board that they stand for: a name and its arguments."""
+import re
+
+from board import Board
+
+BYTES = "1 to 128 bytes, which may be left out"
+# Beside each line the call, and how many digits its numbers have, or that it has bytes.
+PROGRAM_LINES = {
+    "sr": ("serial_read", 2), "sw": ("serial_write", 2, 2), "sq": ("enqueue", BYTES), "sc": ("capacity",),
+    "sd": ("drain",), "ss": ("restore",), "so": ("sent",), "st": ("interrupts",), "se": ("events",),
+    "cr": ("clock_read", 16, 4), "cw": ("clock_write", 16, 4, 8), "kr": ("controller_read", 2),
+    "kw": ("controller_write", 2, 2), "refuse": ("refuse", 16),
+}
+# Those that the program refuses, and boards of the Python package and of the page have.
+FURTHER_LINES = {"si": ("timeout",), "sb": ("save",), "sl": ("load", BYTES), "cb": ("clock_save",),
+                 "cl": ("clock_load", BYTES)}
+LINES = {**PROGRAM_LINES, **FURTHER_LINES}
+NAMES = {call: name for name, (call, *_) in LINES.items()}
+
+
+def syntax_of(name):
+    """The syntax of a line, with H for a digit and HH.. for bytes, as a document has it."""
+    return " ".join([name, *("HH.." if digits == BYTES else "H" * digits for digits in LINES[name][1:])])
+
+
+def form_of(lines):
+    """What each line matches."""
+    forms = "|".join(map(syntax_of, lines)).replace(" HH..", "( (HH){1,128})?")
+    return re.compile(forms.replace("H", "[0-9A-Fa-f]"))
+
+
+FORMS = {False: form_of(LINES), True: form_of(PROGRAM_LINES)}   # by whether the lines are the program's alone
+
+
+def line_of(call, *arguments):
+    """A call as a line."""
+    name = NAMES[call]
+    words = [it.hex() if digits == BYTES else f"{it:0{digits}x}" for it, digits in zip(arguments, LINES[name][1:])]
+    return " ".join(filter(None, [name, *words]))
+
+
+def call_of(line):
+    """The call of a line that has the right form."""
+    name, *words = line.split(" ")
+    call, *digits = LINES[name]
+    return call, *(bytes.fromhex(word) if it == BYTES else int(word, 16) for word, it in zip(words, digits))
+
+
+def script_of(calls):
+    """The script that makes these calls."""
+    return "".join(f"{line_of(*call)}\n" for call in calls)
+
+
+def replies_of(board, calls):
+    """What a board replies to calls. A `refuse` has no reply."""
+    replies = [getattr(board, name)(*arguments) for name, *arguments in calls]
+    return [reply for reply in replies if reply is not None]
+
+
+def run_script(script, is_for_program=False, board=None):
+    """The replies of a script with a character for each byte, and what its run says at the end: nothing, or which line
+    is the first bad one."""
+    board, replies, form = board or Board(), [], FORMS[is_for_program]
+    for number, line in enumerate(script.removesuffix("\n").split("\n") if script else [], 1):
+        if not form.fullmatch(line) or line.startswith("refuse") and number > 1:
+            return replies, f"bad line {number}"
+        replies += replies_of(board, [call_of(line)])
+    return replies, ""

@@ -1,0 +1,85 @@
+# SPDX-License-Identifier: Apache-2.0 OR BSD-3-Clause
+"""Recorded calls, which tests/README.md describes, over the Rust crate and over both models.
+
+The files of tests/data/calls have what the Rust crate vm-superio did, or what was worked out by hand, so nothing needs
+that crate. Rust makes further calls: those of tests/c/shared.txt and tests/compare/panics.txt, every answer in every
+state, loads of any bytes, and random calls, others with each commit. These have to do what the search of the past says.
+tests/c, tests/js and tests/python make recorded calls, too.
+"""
+import model
+import oracle
+import pytest
+from board import Board
+from cargo import COMPARISON, Comparison
+from harness import ROOT, at_least
+from made import every_load, fewest, seeds
+from recorded import Recorder, difference, every_answer, random_recorded, recording_of, recordings, rows_of
+from script import line_of, replies_of
+
+RECORDED = {name: rows_of(text) for name, text in recordings().items()}
+FURTHER = {name: rows_of(text) for name, text in
+           recordings(ROOT / "tests/c/shared.txt", COMPARISON / "panics.txt").items()}
+RUNS = 1_025   # of 40 calls each
+
+
+def test_number_of_calls():
+    assert sum(map(len, RECORDED.values())) >= 211_850
+    assert sum(map(len, FURTHER.values())) >= 150
+    at_least(39_552, every_answer())
+    at_least(62_000, every_load())
+
+
+@pytest.mark.parametrize("devices", [oracle, model], ids=lambda it: it.__name__)
+@pytest.mark.parametrize("name", at_least(3, RECORDED))
+def test_models(name, devices):
+    recorder, rows = Recorder(devices), RECORDED[name]
+    assert not difference(rows, [recorder.make(call) for call, _ in rows])
+
+
+def test_models_agree():
+    """Both models do the same in every answer, in loads and in random calls."""
+    for calls in [[*every_answer()], *random_recorded(seeds("Rust", RUNS))]:
+        assert not difference(rows_of(recording_of(calls)), [*map(Recorder(model).make, calls)])
+    calls = [*every_load()]
+    assert replies_of(Board(oracle), calls) == replies_of(Board(model), calls)
+
+
+@pytest.fixture(scope="module")
+def rust(tmp_path_factory):
+    """The program that makes calls over bindings/rust. Gives a function that makes calls, and returns what each did."""
+    comparison = Comparison(tmp_path_factory.mktemp("rust"))
+    built = comparison.build()
+    assert built.returncode == 0, built.stdout
+    return lambda calls: [line.partition(" = ")[2] for line in comparison.make(calls)]
+
+
+@pytest.mark.needs("cargo", "cc")
+@pytest.mark.parametrize("name", [*RECORDED, *FURTHER])
+def test_rust(rust, name):
+    rows = {**RECORDED, **FURTHER}[name]
+    assert not difference(rows, rust([call for call, _ in rows]))
+
+
+@pytest.mark.needs("cargo", "cc")
+def test_every_answer_in_rust(rust):
+    rows = rows_of(recording_of(every_answer()))
+    assert not difference(rows, rust([call for call, _ in rows]))
+
+
+@pytest.mark.needs("cargo", "cc")
+def test_every_load_in_rust(rust):
+    calls = [*every_load()]
+    rows = list(zip([line_of(*call) for call in calls], replies_of(Board(), calls)))
+    assert not difference(rows, rust([call for call, _ in rows]))
+
+
+@pytest.mark.needs("cargo", "cc")
+def test_random_calls_in_rust(rust):
+    """A failure shows the fewest calls of a run that differ."""
+    runs = random_recorded(seeds("Rust", RUNS))
+    made = iter(rust([call for calls in runs for call in calls]))
+    for calls in runs:
+        rows = rows_of(recording_of(calls))
+        if difference(rows, [next(made, "no call") for _ in calls]):
+            few = fewest(calls, lambda it: difference(rows_of(recording_of(it)), rust(it)))
+            pytest.fail(difference(rows_of(recording_of(few)), rust(few)) or "only after other runs", pytrace=False)

@@ -1,0 +1,126 @@
+# SPDX-License-Identifier: Apache-2.0 OR BSD-3-Clause
+"""Random calls from seeds, by the program, the C library and the Python package, and by both models: the search of the
+past in oracle.py, and the steps of model.py. Each commit has other seeds. A failure shows the fewest calls that differ,
+as a script to paste into the program, an issue or a file of tests/data.
+"""
+import random
+from concurrent.futures import ThreadPoolExecutor
+
+import made
+import model
+import oracle
+import pytest
+from board import Board
+from harness import at_least
+from made import SAVED, SHOWN, broken_lines, fewest, random_calls, random_script, seeds, shown
+from script import FURTHER_LINES, LINES, PROGRAM_LINES, replies_of, run_script, script_of
+from script_tests import Script
+from sides import CBoard, PythonBoard, run
+
+FOR_PROGRAM, FOR_BOARD, AS_TEXT = 8_000, 4_000, 800
+BROKEN = at_least(1_206, dict.fromkeys(broken_lines()))
+
+
+def calls_of(seed, is_for_program):
+    return [*random_calls(random.Random(seed), is_for_program), *(SHOWN if is_for_program else SAVED)]
+
+
+def compare(seed, calls, ends, replies, expected):
+    """Fails with the fewest calls that differ, if any do. Both functions give the replies to calls."""
+    if replies(calls) != expected(calls):
+        few = fewest(calls[:-len(ends)], lambda it: replies([*it, *ends]) != expected([*it, *ends]))
+        calls = [*few, *ends]
+        pytest.fail(f"seed {seed}\n{shown(calls, replies(calls), expected(calls))}", pytrace=False)
+
+
+def by_search(calls):
+    return replies_of(Board(oracle), calls)
+
+
+def by_steps(calls):
+    return replies_of(Board(model), calls)
+
+
+@pytest.mark.needs("kit")
+def test_program(program):
+    def by_program(calls):
+        return run(program, script_of(calls))[0].split("\n")[:-1]
+    for seed in seeds("program", FOR_PROGRAM):
+        compare(seed, calls_of(seed, True), SHOWN, by_program, by_steps)
+
+
+@pytest.mark.parametrize("library", ["prebuilt", pytest.param("source", marks=pytest.mark.needs("cargo", "cc"))])
+def test_c(library, request):
+    library = request.getfixturevalue(f"{library}_library")
+    for seed in seeds("board", FOR_BOARD):
+        compare(seed, calls_of(seed, False), SAVED, lambda calls: replies_of(CBoard(library), calls), by_steps)
+
+
+def test_python():
+    for seed in seeds("board", FOR_BOARD):
+        compare(seed, calls_of(seed, False), SAVED, lambda calls: replies_of(PythonBoard(), calls), by_steps)
+
+
+@pytest.mark.parametrize("what, number, is_for_program", [("program", FOR_PROGRAM, True), ("board", FOR_BOARD, False)])
+def test_models(what, number, is_for_program):
+    """The search of the past and the model of steps agree on the calls that all others make."""
+    for seed in seeds(what, number):
+        compare(seed, calls_of(seed, is_for_program), SHOWN if is_for_program else SAVED, by_search, by_steps)
+
+
+def run_all(program, scripts):
+    """Runs scripts as text side by side, and gives what differs from the search of the past."""
+    def difference(text):
+        replies, end = run_script(text, is_for_program=True)
+        printed = "".join(f"{reply}\n" for reply in replies).encode()
+        got, status, errors = run(program, text)
+        return Script("script", text.encode("latin-1"), printed, end).difference(
+            (status, got.encode("latin-1"), errors.encode()))
+    with ThreadPoolExecutor() as pool:
+        return [it for it in pool.map(difference, scripts) if it]
+
+
+@pytest.mark.needs("kit")
+def test_broken_lines(program):
+    """Each broken line alone, and after a good one: the reply before it comes, and which line is bad."""
+    assert not run_all(program, [script for line in BROKEN for script in (f"{line}\n", f"sc\n{line}")])
+
+
+@pytest.mark.needs("kit")
+@pytest.mark.parametrize("is_for_program", [True, False], ids=["its own lines", "further lines"])
+def test_broken_scripts(program, is_for_program):
+    """Scripts as text, of which some are broken. With further lines, the program ends at the first."""
+    texts = [random_script(random.Random(seed), is_for_program) for seed in seeds("text", AS_TEXT)]
+    assert not run_all(program, texts)
+
+
+def test_each_line_is_made():
+    """Random scripts have every line, and those for the program every one of its own."""
+    for is_for_program, lines in (True, PROGRAM_LINES), (False, LINES):
+        calls = [it for seed in seeds("program", 400) for it in random_calls(random.Random(seed), is_for_program)]
+        assert {name for name, *_ in calls} == {call for call, *_ in lines.values()}
+    assert {*PROGRAM_LINES} == {*LINES} - {*FURTHER_LINES}
+
+
+class WrongPort(model.Port):
+    """Loses an interrupt: a read of IIR leaves RDA pending, as in a 16550A."""
+
+    def read(self, offset):
+        is_pending = self.registers["IIR"] & model.RDA
+        reply = super().read(offset)
+        if offset == 2 and is_pending and self.bytes:
+            self.registers["IIR"] = model.RDA
+        return reply
+
+
+def test_a_wrong_model_is_found(monkeypatch):
+    """Random calls find it, and shrink to few."""
+    wrong = type("wrong", (), {"Port": WrongPort, "Clock": model.Clock})
+    for seed in seeds("wrong", 200):
+        calls = calls_of(seed, False)
+        if replies_of(Board(wrong), calls) != by_steps(calls):
+            few = fewest(calls, lambda it: replies_of(Board(wrong), it) != by_steps(it))
+            assert len(few) <= 4
+            assert "the model:" in made.shown(few, replies_of(Board(wrong), few), by_steps(few))
+            return
+    pytest.fail("no random calls found a wrong model")

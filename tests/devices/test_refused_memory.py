@@ -1,0 +1,104 @@
+# SPDX-License-Identifier: Apache-2.0 OR BSD-3-Clause
+"""Memory that is refused, one allocation after another, to the program and to tests in Rattle.
+
+Each script below, and each test of `refused_memory` in crates/superio_tests, runs without its first allocation, without
+its second, and so on, until a run has them all. Each of a script's other runs must end as out of memory, and print the
+replies before the line that wanted it. A test must pass each time: it knows what may be left.
+"""
+import re
+import subprocess
+from itertools import count
+
+import pytest
+from harness import ROOT, at_least, check, run
+from program import built_tests
+from script_tests import of_block
+
+pytestmark = pytest.mark.needs("kit", "cc")
+
+LIMIT = 60
+# Loaded before the C library, it refuses the allocation whose number, from 1, the environment has, and says so.
+REFUSING = """
+#include <stdlib.h>
+#include <unistd.h>
+
+void *__libc_realloc(void *block, size_t size);
+
+void *realloc(void *block, size_t size)
+{
+    static long allocations;
+    if (++allocations != atol(getenv("REFUSED")))
+        return __libc_realloc(block, size);
+    return write(2, "refused\\n", 8) == 8 ? NULL : (abort(), NULL);
+}
+
+void *malloc(size_t size)
+{
+    return realloc(NULL, size);
+}
+"""
+SAID = b"refused\n"
+# Scripts, and how many replies they print without each allocation: none without the buffer of the output, that for the
+# script and the port, and then those before an `ss`.
+SCRIPTS = [
+    (["kr 04  00", "sq 61  01", "ss  ok", "sr 00  61", "kr 5", "bad line 5"], [0, 0, 0, 2, 2]),
+    (["kr 5", "bad line 1"], [0, 0, 0]),
+]
+SOURCE = (ROOT / "crates/superio_tests/src/refused_memory.rt").read_text(encoding="utf-8")
+NAMES = at_least(8, re.findall(r"^#\[test\]\n(?:#\[.*\n)*(?:pub )?fn (\w+)", SOURCE, re.M))
+
+
+@pytest.fixture(scope="module")
+def refusing(tmp_path_factory):
+    """The library that refuses memory."""
+    path = tmp_path_factory.mktemp("refusing") / "refusing.so"
+    check(["cc", "-shared", "-fPIC", "-fno-builtin", "-Wall", "-Werror", "-x", "c", "-", "-o", path], "", input=REFUSING)
+    return path
+
+
+@pytest.fixture(scope="module")
+def tests():
+    return built_tests()
+
+
+def runs(library, command, script=b""):
+    """Runs a command without each of its allocations in turn, and then with all. Gives the number of the allocation,
+    whether it was refused, and the status, the output and the errors."""
+    for number in count(1):
+        ran = subprocess.run(command, input=script, capture_output=True, timeout=LIMIT,
+                             env={"LD_PRELOAD": str(library), "REFUSED": str(number)})
+        is_refused = SAID in ran.stderr
+        yield number, is_refused, (ran.returncode, ran.stdout, ran.stderr.replace(SAID, b"", 1))
+        if not is_refused:
+            return
+
+
+@pytest.mark.parametrize("rows, printed", SCRIPTS, ids=lambda it: it[0] if isinstance(it[0], str) else "")
+def test_script(refusing, program, rows, printed):
+    script, = of_block("the script", rows)
+    found = list(runs(refusing, [program], script.script))
+    for (number, is_refused, got), before in zip(found, [*printed, None]):
+        replies = b"".join(script.replies.splitlines(keepends=True)[:before])
+        expected = script._replace(place=f"allocation {number}", replies=replies, end="out of memory")
+        difference = (expected if is_refused else script).difference(got)
+        assert difference is None, difference
+    assert len(found) == len(printed) + 1
+
+
+@pytest.mark.parametrize("name", NAMES)
+def test_in_rattle(refusing, tests, name):
+    """A test passes without each of its allocations, of which it has some."""
+    found = list(runs(refusing, [tests, f"refused_memory::{name}"]))
+    for number, _, (status, _, errors) in found:
+        assert status == 0, f"without allocation {number}: {errors.decode(errors='replace')}"
+    assert len(found) > 1
+
+
+def test_each_is_named(tests):
+    listed = run([tests, "--list"]).stdout
+    assert sorted(re.findall(r"^refused_memory::(\w+): test$", listed, re.M)) == sorted(NAMES)
+
+
+def test_number_of_allocations(refusing, tests):
+    """So many in all: 39, with the runs that have them all."""
+    assert sum(len(list(runs(refusing, [tests, f"refused_memory::{name}"]))) for name in NAMES) >= 39

@@ -1,0 +1,43 @@
+# SPDX-License-Identifier: Apache-2.0 OR BSD-3-Clause
+"""A number that several files state is the same in all of them.
+
+tests/documents/facts.txt has a block for each fact, such as the offset of a register: lines with a file and a text that has
+to stand in it, wherever lines break there. After a change of the number, the block names the other places.
+"""
+import re
+from collections import defaultdict
+
+import pytest
+from harness import ROOT, at_least
+
+NUMBER = re.compile(r"\b(?:0x[0-9A-Fa-f]+|\d[\d,_]*)\b")
+BLOCKS = [[tuple(line.split(": ", 1)) for line in block.splitlines()]
+          for block in (ROOT / "tests/documents/facts.txt").read_text(encoding="utf-8").split("\n\n")[1:]]
+
+
+def text_of(file):
+    """The words of a file. Those of a binary are the power of two that its size does not reach."""
+    path = ROOT / file
+    if path.suffix in (".a", ".wasm"):
+        return f"less than {1 << (path.stat().st_size // 1000).bit_length()} kB"
+    return " ".join(path.read_text(encoding="utf-8").split())
+
+
+def numbers_of(block):
+    """Beside each number of a block the files that state it."""
+    files = defaultdict(set)
+    for file, text in block:
+        for number in NUMBER.findall(text):
+            files[int(number.replace(",", ""), 0)].add(file)
+    return files
+
+
+@pytest.mark.parametrize("file, text", at_least(150, [place for block in BLOCKS for place in block]))
+def test_place(file, text):
+    assert text in text_of(file), f"{file} has no {text!r}"
+
+
+@pytest.mark.parametrize("number, files", at_least(60, [it for block in BLOCKS for it in numbers_of(block).items()]),
+                         ids=lambda it: hex(it) if isinstance(it, int) else ", ".join(sorted(it)))
+def test_number(number, files):
+    assert len(files) > 1, f"of this block, only {', '.join(files)} has {number}"

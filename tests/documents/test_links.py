@@ -1,0 +1,53 @@
+# SPDX-License-Identifier: Apache-2.0 OR BSD-3-Clause
+"""Each link of the documents leads somewhere, and the code that they quote is there.
+
+A link leads to a file or a folder of the repository, and an anchor to a heading. Those of the libraries that a user
+copies lead to these. A fenced block is an excerpt if the line before it ends with a colon and links to a source: this
+has its lines, in their order, and may have others between them.
+"""
+import re
+
+import pytest
+from documents import Document, documents
+from harness import ROOT, at_least
+
+DOCUMENTS = at_least(33, documents())
+# The libraries that a user copies, by docs/rattle.md.
+COPIED = [ROOT / "crates" / name for name in ("superio_core", "superio_laws", "vm_superio")]
+SOURCE = re.compile(r".*\]\(([^)#]+\.(?:antt|c|h|mjs|py|rs|rt))\)[^\n]*:\s*\Z")   # before an excerpt
+LINKS = at_least(300, [(document, link) for document in DOCUMENTS for link in document.links
+                       if not re.match(r"\w+:", link)])
+EXCERPTS = at_least(9, [(document, block, SOURCE.search(block.before)[1]) for document in DOCUMENTS
+                        for block in document.blocks if SOURCE.search(block.before)])
+
+
+def target(document, link):
+    """The path and the anchor that a link leads to."""
+    name, _, anchor = link.partition("#")
+    own = ROOT / document.path
+    return (own.parent / name).resolve() if name else own, anchor
+
+
+@pytest.mark.parametrize("document, link", LINKS, ids=str)
+def test_link(document, link):
+    path, anchor = target(document, link)
+    own = (ROOT / document.path).parents
+    assert path.exists(), "leads nowhere"
+    assert any(map(path.is_relative_to, COPIED if {*COPIED} & {*own} else [ROOT])), "leads out of what is copied"
+    assert not anchor or anchor in Document(path.relative_to(ROOT)).anchors, "there is no such heading"
+
+
+@pytest.mark.parametrize("document, block, source", EXCERPTS,
+                         ids=lambda it: "" if isinstance(it, tuple) else str(it))
+def test_excerpt(document, block, source):
+    """Looking for a line takes those before it, so that the next has to stand below."""
+    rest = map(str.strip, (ROOT / document.path.parent / source).read_text(encoding="utf-8").splitlines())
+    for line in filter(str.strip, block.lines):
+        assert line.strip() in rest, f"{source} has no line {line!r} there"
+
+
+@pytest.mark.parametrize("document", [it for it in DOCUMENTS if str(it) != "README.md"], ids=str)
+def test_is_linked(document):
+    """Another document links to each. A link to a folder leads to its README.md."""
+    paths = {target(other, link)[0] for other, link in LINKS if other.path != document.path}
+    assert paths & {ROOT / document.path, (ROOT / document.path).parent}

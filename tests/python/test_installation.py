@@ -1,0 +1,256 @@
+# SPDX-License-Identifier: Apache-2.0 OR BSD-3-Clause
+"""The package as an index and pip take it, what every Python that it is for needs, and the library that it finds."""
+import ast
+import ctypes
+import os
+import re
+import shutil
+import stat
+import sys
+import tarfile
+import zipfile
+from pathlib import Path
+
+import pytest
+from harness import ROOT, at_least
+from header import read_header
+from support import ENVIRONMENT, PACKAGE, TIMEOUT, ended
+
+import superio
+from superio import LibraryError, library, registers
+from superio.saved import SAVED_STATE_ERRORS
+
+# What Python got after 3.8, and what someone may use without a thought: names, and two ways to write an annotation.
+NEWER = re.compile(r"\b(removeprefix|removesuffix|randbytes|bit_count|pairwise|batched|is_relative_to|StrEnum|Self|"
+                   r"cache|datetime.UTC|TypeAlias|Annotated|ParamSpec|override|file_digest|zoneinfo|tomllib|strict|"
+                   r"slots|kw_only|root_dir)\b|\.parents\[[^]]*:|(?:: |-> |\[)(?:dict|list|set|tuple|type)\[|"
+                   r"(?:: |-> )[\w.]+ \| ")
+
+CLEAN = {**{name: value for name, value in ENVIRONMENT.items() if name not in ("PYTHONPATH", library.VARIABLE)},
+         "PIP_DISABLE_PIP_VERSION_CHECK": "1", "PIP_NO_INDEX": "1", "PIP_NO_BUILD_ISOLATION": "0"}
+LIBRARY = library.open_library()._name
+BUILD = "from setuptools import build_meta as it; import sys; print(getattr(it, sys.argv[1])(sys.argv[2]))"
+PYTHON = "/usr/bin/python3"   # which has what a build needs, as Debian's packages have it: no test asks a network
+PIP = [PYTHON, "-m", "pip", "--quiet"]
+MACHINES = sorted(path.parent.name.partition("-")[0] for path in ROOT.glob(f"prebuilt/*-linux/{library.FILE_NAME}"))
+TAGS = "manylinux_2_17_{0}.manylinux2014_{0}.musllinux_1_1_{0}"
+
+
+@pytest.mark.parametrize("path", at_least(16, [*(PACKAGE / "superio").glob("*.py"), PACKAGE / "setup.py", ROOT / "superio"]),
+                         ids=lambda it: it.name)
+def test_python_3_8_takes(path):
+    text = path.read_text(encoding="utf-8")
+    ast.parse(text, str(path), feature_version=(3, 8))
+    assert [line for line in text.splitlines() if NEWER.search(line)] == []
+
+
+def environment(folder):
+    """The Python of a fresh virtual environment. It has no pip, which takes time: this Python's pip serves it. What a
+    build needs is that of the system."""
+    done = ended([PYTHON, "-m", "venv", "--without-pip", "--system-site-packages", folder], env=CLEAN)
+    if done[0]:
+        raise OSError(done[2])
+    return folder / "bin" / "python3"
+
+
+def copied(folder, mode=0o644):
+    """The package in a folder with what of the repository it is built of, all with one mode."""
+    place = folder / "bindings" / "python"
+    ignored = shutil.ignore_patterns("__pycache__", "*.egg-info", "dist")
+    for name in ("bindings/python", "LICENSES", "prebuilt", "examples/linux-boot"):
+        shutil.copytree(ROOT / name, folder / name, symlinks=True, ignore=ignored)
+    shutil.copy(ROOT / "examples" / "three_devices.script", folder / "examples")
+    for path in folder.rglob("*"):
+        if path.is_file() and not path.is_symlink():
+            path.chmod(mode)
+    return place
+
+
+needs_python = pytest.mark.needs("pip", "setuptools", "wheel", "venv")
+
+
+class Archives:
+    """The sources, and a wheel for each processor of `prebuilt`."""
+
+    def __init__(self, folder):
+        self.folder, self.place, self.made = folder, copied(folder / "one"), folder / "made"
+        self.sources = self.build("build_sdist", self.place, self.made)
+        self.wheels = {machine: self.build("build_wheel", self.place, self.made,
+                                           _PYTHON_HOST_PLATFORM=f"linux-{machine}") for machine in MACHINES}
+        with tarfile.open(self.sources) as archive:
+            archive.extractall(folder)
+        self.unpacked = folder / self.sources.name[:-len(".tar.gz")]
+
+    @staticmethod
+    def build(kind, place, into, **variables):
+        """Writes a wheel or the sources, as pip would have it done, and gives the path."""
+        into.mkdir(exist_ok=True)
+        status, printed, errors = ended([PYTHON, "-c", BUILD, kind, into], cwd=place, env={**CLEAN, **variables})
+        if status:
+            raise OSError(errors)
+        return into / printed.splitlines()[-1]
+
+
+@pytest.fixture(scope="module")
+def archives(tmp_path_factory):
+    return Archives(tmp_path_factory.mktemp("archives"))
+
+
+@needs_python
+@pytest.mark.needs("twine")
+def test_an_index_takes_them(archives):
+    done = ended(["twine", "--no-color", "check", "--strict", archives.sources, *archives.wheels.values()], env=CLEAN)
+    assert (done[0], done[1].count("PASSED")) == (0, 1 + len(MACHINES)), done
+
+
+@needs_python
+@pytest.mark.parametrize("machine", at_least(2, MACHINES))
+def test_wheel(archives, machine):
+    path, info = archives.wheels[machine], f"superio-{superio.__version__}.dist-info"
+    assert path.name == f"superio-{superio.__version__}-py3-none-{TAGS.format(machine)}.whl"
+    with zipfile.ZipFile(path) as wheel:
+        for file in wheel.infolist():
+            # setuptools writes RECORD itself, and the group may write that.
+            mode = 0o664 if file.filename == f"{info}/RECORD" else 0o644
+            assert (file.compress_type, stat.S_IMODE(file.external_attr >> 16)) == (zipfile.ZIP_DEFLATED, mode), file
+        library_of_it = (ROOT / "prebuilt" / f"{machine}-linux" / library.FILE_NAME).read_bytes()
+        assert wheel.read(f"superio/{library.FILE_NAME}") == library_of_it
+        for name, kept in ("APACHE", "Apache-2.0"), ("BSD", "BSD-3-Clause"):
+            assert wheel.read(f"{info}/LICENSE-{name}") == (ROOT / "LICENSES" / f"{kept}.txt").read_bytes()
+        said, names = wheel.read(f"{info}/METADATA").decode(), set(wheel.namelist())
+        assert "\nRoot-Is-Purelib: false\n" in wheel.read(f"{info}/WHEEL").decode()
+    modules = {f"superio/{file.name}" for file in (PACKAGE / "superio").glob("*.py")}
+    own = {f"superio/{name}" for name in ("py.typed", "superio.abi", library.FILE_NAME)}
+    assert {name for name in names if not name.startswith(info)} == modules | own
+    assert "\nRequires-Python: >=3.8\n" in said
+    assert re.findall(r"\]\((?!https?://)[^)]*\)", said) == [], "links that an index cannot follow"
+
+
+@needs_python
+def test_others_make_the_same_bytes(archives):
+    """With other modes and another time zone, at another time, in another folder, and from the sources alone."""
+    other, into = copied(archives.folder / "another place", 0o600), archives.folder / "again"
+    variables = {"TZ": "Asia/Tokyo", "LC_ALL": "C", "_PYTHON_HOST_PLATFORM": f"linux-{MACHINES[0]}"}
+    before, wheel = os.umask(0o077), archives.wheels[MACHINES[0]]
+    try:
+        for kind, place, made in (("build_sdist", other, archives.sources), ("build_wheel", other, wheel),
+                                  ("build_sdist", archives.unpacked, archives.sources),
+                                  ("build_wheel", archives.unpacked, wheel)):
+            again = archives.build(kind, place, into, **variables)
+            assert (again.name, again.read_bytes()) == (made.name, made.read_bytes()), place
+    finally:
+        os.umask(before)
+
+
+@needs_python
+@pytest.mark.parametrize("what", ["wheel", "sources", "folder", "editable folder"])
+def test_installed_by_pip(archives, what, tmp_path):
+    """Into a fresh environment."""
+    wheel = archives.wheels[os.uname().machine]
+    words = {"wheel": [wheel], "sources": [archives.sources], "folder": [archives.place],
+             "editable folder": ["-e", archives.place]}[what]
+    python = environment(tmp_path / "environment")
+    done = ended([*PIP, "--python", python, "install", *words], env=CLEAN, timeout=TIMEOUT * 5, cwd="/")
+    assert done[0] == 0, done
+    said = ended([python, "-m", "superio"], b"read LSR\n", cwd="/", env=CLEAN)
+    assert said == (0, "LSR = 0x60  THRE TEMT\n", "")
+    found = ended([python, "-c", "import superio; print(superio.__file__)"], cwd="/", env=CLEAN)[1]
+    assert Path(found).is_relative_to(archives.place) == ("-e" in words), found
+
+
+@needs_python
+def test_the_sources_have_tests_that_pass(archives):
+    done = ended([sys.executable, "-m", "unittest", "discover", "tests"], cwd=archives.unpacked, env=CLEAN)
+    assert re.search(r"\nRan [3-9]\d tests in .*\n\nOK \(skipped=2\)\n$", done[2]), done
+
+
+@needs_python
+def test_a_wheel_with_another_library(archives, tmp_path):
+    """It has only the tag of the machine: nobody knows what the library needs."""
+    path = archives.build("build_wheel", archives.place, tmp_path / "named", **{library.VARIABLE: LIBRARY})
+    assert path.name.endswith(f"-py3-none-linux_{os.uname().machine}.whl")
+    with pytest.raises(OSError, match="/nowhere/lib.so is not there: set SUPERIO_LIBRARY"):
+        archives.build("build_wheel", archives.place, tmp_path / "none", **{library.VARIABLE: "/nowhere/lib.so"})
+    assert [*(tmp_path / "none").iterdir()] == []
+
+
+def test_the_library_of_the_system(tmp_path):
+    """A library that the system finds serves a package that has none beside it, and without one it says so."""
+    shutil.copytree(PACKAGE / "superio", tmp_path / "superio", ignore=shutil.ignore_patterns("*.so.*"))
+    command = [sys.executable, "-m", "superio"]
+    variables = {**CLEAN, "PYTHONPATH": str(tmp_path), "LD_LIBRARY_PATH": str(tmp_path)}
+    status, _, errors = ended(command, b"kr 04\n", cwd="/", env=variables)
+    assert status == 2 and errors.endswith("set SUPERIO_LIBRARY to its path\n"), errors
+    (tmp_path / library.FILE_NAME).symlink_to(LIBRARY)
+    assert ended(command, b"kr 04\n", cwd="/", env=variables) == (0, "00\n", "")
+
+
+DECLARED = read_header(ctypes.sizeof(ctypes.c_size_t))
+TYPES = {"bool": ctypes.c_bool, "void": None, "size_t": ctypes.c_size_t, "const uint8_t *": ctypes.c_char_p,
+         **{f"{name}_t": getattr(ctypes, f"c_{name}") for name in ("uint8", "uint16", "uint32", "uint64", "int64")},
+         **library.STRUCTS}
+
+
+def type_of(declared):
+    """The type of a field or of a parameter of the header."""
+    if declared.kind in TYPES:
+        kind = TYPES[declared.kind]
+        return kind * DECLARED.constants[declared.length] if declared.length else kind
+    return ctypes.POINTER(TYPES[re.fullmatch(r"(?:const )?(\w+) \*", declared.kind)[1]])
+
+
+def parameter_of(declared):
+    """An array parameter is a pointer."""
+    return type_of(declared._replace(kind=f"{declared.kind} *", length="") if declared.length else declared)
+
+
+@pytest.mark.parametrize("name", at_least(7, DECLARED.structs))
+def test_struct(name):
+    """A struct has the fields and the size of the header."""
+    fields = [(field.name, type_of(field)) for field in DECLARED.structs[name]]
+    assert library.STRUCTS[name]._fields_ == fields
+    assert ctypes.sizeof(library.STRUCTS[name]) == DECLARED.sizes[name]
+
+
+def test_all_are_there():
+    found = library.open_library()
+    assert isinstance(found, ctypes.PyDLL), "calls on one device may overlap: they give up Python's lock"
+    assert library.PROTOTYPES.keys() == DECLARED.functions.keys()
+    assert library.STRUCTS.keys() == DECLARED.structs.keys() == DECLARED.sizes.keys()
+
+
+@pytest.mark.parametrize("name", at_least(21, DECLARED.functions))
+def test_function(name):
+    """A function has the prototype of the header. Otherwise ctypes passes and returns an `int`, whose 32 bits many
+    numbers fit by chance."""
+    declared, function = DECLARED.functions[name], getattr(library.open_library(), name)
+    expected = TYPES[declared.returned], [parameter_of(parameter) for parameter in declared.parameters]
+    assert library.PROTOTYPES[name] == expected
+    assert (function.restype, function.argtypes) == expected
+
+
+def test_constants_are_those_of_the_header():
+    named = {"VERSION": superio.__version__, "ABI": library.ABI, "SERIAL_SAVED_MAX": library.SERIAL_SAVED_MAX,
+             "RTC_SAVED_SIZE": library.RTC_SAVED_SIZE, "SERIAL_FIFO_SIZE": registers.FIFO_SIZE,
+             "LOAD_OK": 0, **{f"LOAD_{reason.upper().replace(' ', '_')}": number
+                              for number, reason in enumerate(SAVED_STATE_ERRORS, 1)}}
+    assert {name: DECLARED.constants[f"SUPERIO_{name}"] for name in named} == named
+    errors = [name for name in DECLARED.constants if name.startswith("SUPERIO_LOAD_") and name != "SUPERIO_LOAD_OK"]
+    assert len(errors) == len(SAVED_STATE_ERRORS)
+
+
+OWN, HERE = library.ABI, LIBRARY
+
+
+@pytest.mark.parametrize("said, named, constants", [
+    ("/nowhere/lib.so cannot be loaded", "/nowhere/lib.so", {}),
+    ("none.so cannot be loaded: .* set SUPERIO_LIBRARY", "", {"FILE_NAME": "none.so"}),
+    ("libc.so.6 cannot be loaded", "libc.so.6", {}),
+    *((f"interface {OWN}, .* needs {other}:", HERE, {"ABI": other})   # newer than the package, or older
+      for other in (OWN - 1, OWN + 1, OWN + 256))])
+def test_a_library_is_refused(said, named, constants, monkeypatch):
+    monkeypatch.setenv(library.VARIABLE, named)
+    for name, value in constants.items():
+        monkeypatch.setattr(library, name, value)
+    with pytest.raises(LibraryError, match=said):
+        library.open_library()

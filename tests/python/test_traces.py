@@ -1,0 +1,164 @@
+# SPDX-License-Identifier: Apache-2.0 OR BSD-3-Clause
+"""Recorded traces in the viewer of the Python package: how they are searched, listed and drawn."""
+import io
+import lzma
+import re
+from contextlib import redirect_stderr
+from xml.etree import ElementTree
+
+import pytest
+from harness import ROOT
+from support import run
+
+from superio.recording import picture, replay
+from superio.script import BadLine, text_of
+from superio.view import Viewer, table
+
+RECORDING = ROOT / "examples" / "linux-boot" / "boot.recording.xz"
+WITH_INPUT = RECORDING.with_name("console.recording.xz")
+FIGURE = ROOT / "docs" / "linux-boot.svg"
+
+TRACE = b"""\
+# both conditions, a refusal, and a reset
+refuse 0000000000000002
+sw 01 01                             ok
+sq 6162                              02
+sr 05                                61
+sr 00                                61
+sw 01 03                             trigger
+sr 02                                c4
+sw 00 41                             ok
+si                                   ok
+
+2 kr 04  00
+kw 04 fe  ok
+"""
+
+# The calls that commands lead to, one after the other in TRACE, or what is said where none is.
+PLACES = [("next", 2), ("next 3", 5), ("back 2", 3), ("next thre", 8), ("back rda", 6), ("back rda", 3),
+          ("next input", "no input further on"), ("first", 1), ("next interrupt", 3), ("next refused", 6),
+          ("next sent", 8), ("next reset", 12), ("back IIR", 7), ("back lsr", 4), ("first", 1),
+          ("next difference", 12), ("goto 4", 4), ("next change", 5), ("back input", 3), ("last", 12),
+          ("next", "there is no call further on"), ("goto 0", "there is no call before"),
+          ("goto x", "the syntax is: goto N"), ("first", 1), ("back", "there is no call before"), ("", 2),
+          ("foo", "no command is called foo: help lists them"), ("next timeout", 9)]
+
+# Traces, and the bars of their lanes in the picture.
+PICTURES = [
+    (b"sw 01 01\nsq 61\nsr 02\nsr 05\n",
+     ["RDA pending", "M320 80v-34h200v34z", "bytes held", "M320 128v-5h600v5z", "interrupts", "M320 176v-34h200v34z"]),
+    # A refused call is no interrupt.
+    (b"refuse 0000000000000001\nsw 01 01\nsq 61\nsr 05\n",
+     ["RDA pending", "M520 80v-34h400v34z", "bytes held", "M520 128v-5h400v5z", "refused", "M520 176v-34h200v34z"]),
+    # A column of many calls has their mean.
+    (b"sq 61\nsr 00\n" * 800, ["bytes held", "M120 80v-5h800v5z"]),
+    (b"sq " + b"00" * 32 + b"\nsr 05\n", ["bytes held", "M120 80v-17h800v17z"]),
+    (b"sr 05\n", []),
+]
+
+
+def steps_of(trace):
+    return list(replay("trace", trace.splitlines(keepends=True)))
+
+
+def said(viewer, line):
+    """What the viewer says to a command."""
+    viewer.stdout = io.StringIO()
+    with redirect_stderr(viewer.stdout):
+        viewer.onecmd(line)
+    return viewer.stdout.getvalue()
+
+
+def test_each_piece_begins_on_a_fresh_board():
+    steps = steps_of(b"sw 07 05\n\nsr 07\n# comment\nsr 07\n\n\nrefuse 0000000000000001\n")
+    assert [(step.piece, step.call.reply) for step in steps] == [(1, "ok"), (2, "00"), (2, "00"), (3, None)]
+
+
+def test_short_forms():
+    steps = steps_of(b'sent "Hi"\npolled "!"\nso "Hi!"\nsq "ab"  02\nreceived "ab"\n2 sr 05  60\n')
+    lines = "sw 00 48,sw 00 69,sr 05,sw 00 21,so,sq 6162,sr 05,sr 00,sr 05,sr 00,sr 05,sr 05"
+    assert ",".join(text_of(step.call.command) for step in steps) == lines
+    assert not any(step.differs for step in steps)
+
+
+@pytest.mark.parametrize("trace, reason", [
+    (b"sr 05\nsr 5\n", 'trace:2: "sr 5": the syntax is: sr OO'),
+    (b'sent "\xc3\xa9"\n', "the text is no JSON string of ASCII"),
+    (b"sr 05\nrefuse 0000000000000001\n", "a mask comes before every other line")])
+def test_faults(trace, reason):
+    with pytest.raises(BadLine, match=reason):
+        steps_of(trace)
+
+
+def test_places():
+    viewer = Viewer(steps_of(TRACE), "trace", None)
+    for line, place in PLACES:
+        expected = place if isinstance(place, str) else f"call {place} of 12"
+        assert said(viewer, line).partition(",")[0].strip() == expected, line
+    assert "nothing is called foo" in said(viewer, "next foo")
+
+
+def test_what_is_shown():
+    viewer = Viewer(steps_of(TRACE), "trace", None)
+    assert said(viewer, "goto 6") == (
+        "call 6 of 12, piece 1: sw 01 03  trigger\n  IER: ok; interrupt for RDA refused\n"
+        "  IER 0x01 -> 0x03  RDA THRE\n  IIR 0xc1 -> 0xc4  RDA\n  interrupt refused\n")
+    assert "  pending: RDA\n" in said(viewer, "regs")
+    rows = said(viewer, "list").splitlines()
+    assert [int(row.lstrip("> ").split()[0]) for row in rows] == [*range(1, 12)]
+    assert ">       6  sw 01 03" in rows[5]
+
+
+def test_a_reply_that_differs():
+    steps = steps_of(TRACE)
+    assert [number for number, step in enumerate(steps, 1) if step.differs] == [12]
+    assert table(steps).endswith("     12  kw 04 fe                  reset  recorded: ok\n")
+
+
+@pytest.mark.parametrize("trace, parts", PICTURES, ids=lambda it: str(it)[:30])
+def test_bars(trace, parts):
+    drawn = picture(steps_of(trace), "a <title> & more")
+    ElementTree.fromstring(drawn)
+    assert re.findall(r'(?:"end">|d=")([^"<]+)(?:</text>|" fill)', drawn) == parts
+
+
+@pytest.mark.parametrize("form", ["table", "svg"])
+def test_written(form, tmp_path):
+    steps, path = steps_of(TRACE), tmp_path / "a file"
+    assert run("view", "-", f"--{form}", path, script=TRACE) == (0, "", "")
+    assert path.read_text() == {"table": table(steps), "svg": picture(steps, "-")}[form]
+
+
+def test_figure(tmp_path):
+    """The figure of the documents is that of the recording."""
+    assert run("view", RECORDING, "--svg", tmp_path / "figure") == (0, "", "")
+    assert (tmp_path / "figure").read_text() == FIGURE.read_text()
+
+
+@pytest.mark.parametrize("recording, rows, row", [
+    (RECORDING, 42839 + 66, "  26491  sw 01 0f                  ok        IER 0x00 -> 0x0f  RDA THRE RLS "
+                            "MS, IIR 0xc1 -> 0xc2  THRE, interrupt taken\n"),
+    (WITH_INPUT, None, "  sq 756e616d65202d73720a   0a        ")], ids=["boot", "console"])
+def test_table_of_a_recording(recording, rows, row):
+    status, output, errors = run("view", recording, "--table")
+    assert (status, errors) == (0, "")
+    assert output.count("\n") == (rows or output.count("\n"))
+    assert "recorded:" not in output
+    assert row in output
+
+
+def test_bytes_that_linux_leaves():
+    """In its paste it reads that nothing is pending, and leaves bytes. Each time a timeout interrupts it again."""
+    steps = list(replay("trace", lzma.decompress(WITH_INPUT.read_bytes()).splitlines(keepends=True)))
+    left = [len(then.call.before.serial.in_buffer) for step, then in zip(steps, steps[1:])
+            if (step.call.command.values, step.call.reply) == ((2,), "c1") and then.call.answers == (True,)]
+    assert left == [17] * 15
+
+
+@pytest.mark.parametrize("packed", [RECORDING.read_bytes()[:-100], TRACE], ids=["cut short", "not packed"])
+def test_a_damaged_recording(packed, tmp_path):
+    path = tmp_path / "trace.xz"
+    path.write_bytes(packed)
+    status, output, errors = run("view", path, "--table")
+    assert (status, output) == (1, "")
+    assert errors.startswith(f"{path}: ")
