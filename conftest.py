@@ -2,40 +2,19 @@
 """The tools that tests need, what is built for them once, and that no test passes without having run.
 
 A test says what it needs: `@pytest.mark.needs("cargo")`. If the tool is missing the test fails, with the package of
-Debian 12 to install. Only --without leaves tests out. Any other skip, and any expected failure, fails.
+Debian 12 to install. Only --without leaves tests out. What no package of Debian has, such as KVM, is marked
+`@pytest.mark.where("kvm")`: such a test runs where that is there. Any other skip, and any expected failure, fails. The
+last lines name all that was not tried, and why.
 """
 import os
 import platform
-import shutil
-import subprocess
-from functools import lru_cache
-from glob import glob
+from collections import Counter
 from pathlib import Path
 
 import pytest
 from harness import ROOT, check
 from hypothesis import HealthCheck, settings
-
-# What a test may need: a command, a file, or a module of Debian's Python that has to be there, and the package of Debian
-# 12 that has it.
-TOOLS = {
-    "kit": ("rt", "the Rattle kit, which is no package"),
-    "cc": ("cc", "gcc"),
-    "c++": ("g++", "g++"),
-    "clang": ("clang", "clang"),
-    "make": ("make", "make"),
-    "cargo": ("cargo", "cargo"),
-    "node": ("node", "nodejs"),
-    "npm": ("npm", "npm"),
-    "tsc": ("tsc", "node-typescript"),
-    "chromium": ("chromium", "chromium"),
-    "git": ("git", "git"),
-    "pip": ("import pip", "python3-pip"),
-    "setuptools": ("import setuptools.build_meta", "python3-setuptools"),
-    "wheel": ("import wheel", "python3-wheel"),
-    "venv": ("import venv, ensurepip", "python3-venv"),
-    "twine": ("twine", "twine"),
-}
+from tools import PLACES, TOOLS, is_there, missing
 
 LEFT_OUT = pytest.StashKey()   # of a test that --without leaves out
 
@@ -49,14 +28,6 @@ def pytest_addoption(parser):
     parser.addoption("--without", default="", metavar="TOOL,..",
                      help=f"leave out the tests that need one of these: {', '.join(TOOLS)}")
     parser.addoption("--program", type=Path, help="a program in place of crates/superio/out/superio")
-
-
-@lru_cache(maxsize=None)
-def is_there(what):
-    """Whether a command, a file, or what a line of Python imports is there."""
-    if what.startswith("import "):
-        return subprocess.run(["/usr/bin/python3", "-c", what], capture_output=True).returncode == 0
-    return bool(glob(what)) if what.startswith("/") else shutil.which(what) is not None
 
 
 def left_out(config):
@@ -74,13 +45,14 @@ def pytest_configure(config):
 
 def pytest_runtest_setup(item):
     """Fails a test whose tool is missing. What --without names is skipped, also if it is there."""
-    if tools := sorted(needed(item) & left_out(item.config)):
-        item.stash[LEFT_OUT] = True
-        pytest.skip(f"without {', '.join(tools)}")
+    tools = sorted(needed(item) & left_out(item.config))
+    places = [it for mark in item.iter_markers("where") for it in mark.args if not is_there(PLACES[it])]
+    if tools or places:
+        item.stash[LEFT_OUT] = f"--without names {', '.join(tools)}" if tools else f"there is no {', '.join(places)}"
+        pytest.skip(item.stash[LEFT_OUT])
     for tool in sorted(needed(item)):
-        what, package = TOOLS[tool]
         is_given = tool == "kit" and item.config.getoption("--program")
-        if not is_given and not is_there(what):
+        for what, package in {} if is_given else missing(tool).items():
             pytest.fail(f"{what} is missing: install {package}, or run with --without {tool}", pytrace=False)
 
 
@@ -100,10 +72,10 @@ def pytest_make_collect_report(collector):
         report.outcome, report.longrepr = "failed", f"{collector.nodeid} skipped itself: {report.longrepr}"
 
 
-def pytest_terminal_summary(terminalreporter, config):
-    if tools := left_out(config):
-        number = len(terminalreporter.stats.get("skipped", ()))
-        terminalreporter.write_line(f"NOT TRIED: {number} tests, since --without names {', '.join(sorted(tools))}")
+def pytest_terminal_summary(terminalreporter):
+    reasons = Counter(report.longrepr[2].removeprefix("Skipped: ") for report in terminalreporter.stats.get("skipped", ()))
+    for reason, number in sorted(reasons.items()):
+        terminalreporter.write_line(f"NOT TRIED: {number} tests, since {reason}")
 
 
 @pytest.fixture(scope="session")

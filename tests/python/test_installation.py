@@ -66,7 +66,7 @@ def copied(folder, mode=0o644):
     return place
 
 
-needs_python = pytest.mark.needs("pip", "setuptools", "wheel", "venv")
+needs_python = pytest.mark.needs("pip")
 
 
 class Archives:

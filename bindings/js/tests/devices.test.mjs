@@ -1,7 +1,7 @@
 // SPDX-License-Identifier: Apache-2.0 OR BSD-3-Clause
 /**
  * What the package does by itself: layouts, copies, refused arguments, names, and what superio.d.ts and package.json
- * say of it. tests/js/check makes recorded calls with it too, over the board of the page.
+ * say of it. tests/js makes recorded calls with it too, over the board of the page.
  */
 import assert from "node:assert/strict";
 import { readFileSync, readdirSync } from "node:fs";

@@ -1,0 +1,84 @@
+# SPDX-License-Identifier: Apache-2.0 OR BSD-3-Clause
+"""The header and the compilers that use it, and the prebuilt libraries, which are those of the sources."""
+import re
+import subprocess
+from pathlib import Path
+
+import pytest
+from builds import COMPILERS, compilers_for
+from harness import ROOT, at_least, check, run
+from header import read_header
+from libraries import INTERFACE, PREBUILT, library_sums, source_line, sums_of
+
+HERE = Path(__file__).parent
+WARNINGS = ["-O1", "-Wall", "-Wextra", "-pedantic", "-I", ROOT / "bindings" / "c"]
+# What a line of superio.abi says of a program.
+CONDITIONS = [
+    (r"abi (\d+)", r"SUPERIO_ABI == \1"),
+    (r"constant (\w+) (\d+)", r"\1 == \2ull"),
+    (r"field (\w+)\.(\w+) \w+ at (\d+) size (\d+)", r"offsetof(\1, \2) == \3 && sizeof(((\1 *)0)->\2) == \4"),
+    (r"struct (\w+) size (\d+)", r"sizeof(\1) == \2"),
+]
+# The names that the header uses for itself.
+HIDDEN = ["HAS_ATTRIBUTE", "MUST_USE", "NONNULL", "ACCESS", "COUNTED", "AT_LEAST"]
+CALLER = """#include <superio.h>
+void use(uint64_t result);
+void make(superio_serial *port, superio_rtc *clock);
+void make(superio_serial *port, superio_rtc *clock) {{ (void)port, (void)clock; {} }}
+"""
+MISTAKES = at_least(30, [re.split("  +", row) for row in (HERE / "mistakes.txt").read_text("ascii").splitlines()
+                         if row and not row.startswith("#")])
+
+
+def test_prebuilt_sums():
+    files = [path.relative_to(PREBUILT).as_posix() for path in PREBUILT.glob("*/*")]
+    assert sorted((PREBUILT / "SHA256SUMS").read_text("ascii").splitlines()) == sorted(sums_of(PREBUILT, files))
+
+
+def test_prebuilt_is_of_the_sources():
+    assert source_line() in (PREBUILT / "SOURCES").read_text("ascii").splitlines(), "run tools/prebuild"
+
+
+@pytest.mark.needs("kit")
+def test_prebuilt_is_what_a_build_gives(tmp_path):
+    """From the proofs, byte for byte."""
+    check([ROOT / "tools" / "prebuild", tmp_path], timeout=3600, stderr=subprocess.STDOUT)
+    assert library_sums(tmp_path) == library_sums(PREBUILT)
+
+
+def test_version():
+    constants = read_header().constants
+    version = (ROOT / "VERSION").read_text("ascii").strip()
+    assert version == constants["SUPERIO_VERSION"] == ".".join(
+        str(constants[f"SUPERIO_VERSION_{part}"]) for part in ("MAJOR", "MINOR", "PATCH"))
+
+
+@pytest.mark.parametrize("name", ["replay.c", "mistakes.txt"])
+def test_each_function_is_called(name):
+    called = set(re.findall(r"\b(superio_\w+)\(", (HERE / name).read_text(encoding="utf-8")))
+    assert not {*at_least(21, read_header().functions)} - called
+
+
+@pytest.mark.parametrize("compiler", compilers_for("x86_64", "aarch64"))
+def test_header(compiler, tmp_path):
+    """The header may be read twice, leaves none of its own names, and is what superio.abi says."""
+    said = [[found.expand(condition) for form, condition in CONDITIONS if (found := re.fullmatch(form, line))][0]
+            for line in INTERFACE.read_text("ascii").splitlines() if not line.startswith("function ")]
+    source = tmp_path / "header.c"
+    source.write_text("#include <superio.h>\n" * 2 + "".join(
+        f"#ifdef SUPERIO_{name}\n#error SUPERIO_{name}\n#endif\n" for name in HIDDEN) + "".join(
+        f"typedef char said_{number}[{condition} ? 1 : -1];\n" for number, condition in enumerate(said)), "ascii")
+    for words in {compiler, compiler.replace("c99", "c11")}:
+        check([*words.split(), *WARNINGS, "-Werror", "-fsyntax-only", source], "")
+
+
+@pytest.mark.parametrize("compiler", [COMPILERS["gcc"], COMPILERS["clang"]])
+@pytest.mark.parametrize("row", MISTAKES, ids=lambda row: row[0])
+def test_mistake(compiler, row, tmp_path):
+    """A compiler warns of each mistake of mistakes.txt, and of nothing else."""
+    call, *warnings = row
+    wanted = warnings["clang" in compiler and len(warnings) > 1]
+    source = tmp_path / "mistake.c"
+    source.write_text(CALLER.format(call), "ascii")
+    said = run([*compiler.split(), *WARNINGS, "-c", source, "-o", "/dev/null"]).stdout
+    assert said == "" if wanted == "nothing" else all(it in said for it in wanted.split(", "))

@@ -1,0 +1,120 @@
+# SPDX-License-Identifier: Apache-2.0 OR BSD-3-Clause
+"""Programs in C and C++ over the prebuilt library and over the one from source, here and on other processors.
+
+The Makefile builds and runs them, for this processor by gcc, with sanitizers, and by clang, and for others by Debian's
+cross compilers and qemu's user mode.
+
+- replay.c calls each function: recorded calls, some with values from the data sheets, every answer, loads and random
+  calls, which do what a search of the past says.
+- paste.c and the demo of examples/c print what they should, and the demo does the duties of demo.txt.
+- console.c has guests that receive and send at once, and no byte waits for ever, unless a monitor or a driver breaks a
+  rule.
+"""
+import re
+from pathlib import Path
+
+import pytest
+from board import Board
+from builds import HOST, PROCESSORS, compilers_for, make_words, prebuilt
+from cargo import toolchain_for
+from harness import ROOT, at_least, check
+from libraries import STATIC
+from made import commit, every_load, seeds
+from recorded import every_answer, random_recorded, recording_of, recordings
+from script import line_of, replies_of
+
+HERE = Path(__file__).parent
+LOADED_CALLS, RUNS = 20_000, 2_500
+DEMO = at_least(260, re.findall(r"^\w.*", (HERE / "demo.txt").read_text("ascii"), re.M))
+OTHERS = ["s390x", "arm"]   # for which there is only the library from source
+
+
+def loads():
+    """Loads into new devices, as lines of scripts."""
+    calls = [("load", bytes.fromhex(Board().save())), ("clock_load", bytes.fromhex(Board().clock_save())), *every_load()]
+    calls = calls[:LOADED_CALLS]
+    return "".join(f"{line_of(*call)} = {reply}\n" for call, reply in zip(calls, replies_of(Board(), calls)))
+
+
+@pytest.fixture(scope="session")
+def calls(tmp_path_factory):
+    """A file of what every library does, and how many calls it has: first C's own, which begin with new devices, then the
+    recordings, which begin with a new clock, and at the end loads and random calls."""
+    random_calls = [call for run in random_recorded(seeds("C", RUNS)) for call in run]
+    text = "".join([*{**recordings(HERE / "own.txt"), **recordings(), **recordings(HERE / "shared.txt")}.values(),
+                    recording_of(every_answer()), loads(), recording_of(random_calls)])
+    number, path = text.count(" = "), tmp_path_factory.mktemp("calls") / "calls"
+    assert number >= 371_000
+    path.write_text(text, "ascii")
+    return path, number
+
+
+@pytest.fixture(scope="session")
+def from_source(tmp_path_factory):
+    """Gives the library that Cargo makes of bindings/c/from-source for a processor."""
+    folder = tmp_path_factory.mktemp("from-source")
+
+    def build(processor):
+        target = PROCESSORS[processor][0]
+        toolchain = toolchain_for(target)
+        check([toolchain.cargo, "rustc", "--target", target, "--crate-type", "staticlib", "--release", "--quiet",
+               "--offline", "--manifest-path", ROOT / "bindings" / "c" / "from-source" / "Cargo.toml"],
+              env=toolchain.environment(CARGO_TARGET_DIR=str(folder)))
+        return folder / target / "release" / STATIC
+    return build
+
+
+def cases(*processors):
+    """Compilers, each with the processor that it is for."""
+    return [pytest.param(*it.values, processor, id=f"{processor} {it.id}", marks=it.marks)
+            for processor in processors for it in compilers_for(processor)]
+
+
+def in_c(parameters):
+    """Those compilers that compile C."""
+    return [it for it in parameters if "-xc " in it.values[0]]
+
+
+PREBUILT, SOURCE = at_least(5, cases("x86_64", "aarch64")), at_least(6, cases(HOST, *OTHERS))
+needs_make, needs_cargo = pytest.mark.needs("make"), pytest.mark.needs("cargo", "make")
+
+
+def replay(compiler, processor, library, calls, folder):
+    path, number = calls
+    check(make_words(compiler, processor, library, folder, "calls", f"CALLS={path}"),
+          f"{number} calls did the same, 0 did not\n")
+
+
+def exchange(compiler, processor, library, folder):
+    said = check(make_words(compiler, processor, library, folder, "exchanges", f"SEED={commit()}"))
+    assert sum(map(int, re.findall(r"^\d+ of (\d+) exchanges stalled: ", said, re.M))) >= 25_000
+
+
+@needs_make
+@pytest.mark.parametrize("compiler, processor", PREBUILT)
+def test_calls(compiler, processor, calls, tmp_path):
+    replay(compiler, processor, prebuilt(processor), calls, tmp_path)
+
+
+@needs_make
+@pytest.mark.parametrize("compiler, processor", in_c(PREBUILT))
+def test_examples(compiler, processor, tmp_path):
+    check(make_words(compiler, processor, prebuilt(processor), tmp_path, "examples"))
+
+
+@needs_make
+@pytest.mark.parametrize("compiler, processor", in_c(cases(HOST)))
+def test_exchanges(compiler, processor, tmp_path):
+    exchange(compiler, processor, prebuilt(processor), tmp_path)
+
+
+@needs_cargo
+@pytest.mark.parametrize("compiler, processor", SOURCE)
+def test_calls_from_source(compiler, processor, calls, from_source, tmp_path):
+    replay(compiler, processor, from_source(processor), calls, tmp_path)
+
+
+@needs_cargo
+@pytest.mark.parametrize("compiler, processor", in_c(SOURCE))
+def test_examples_from_source(compiler, processor, from_source, tmp_path):
+    check(make_words(compiler, processor, from_source(processor), tmp_path, "examples"))

@@ -1,0 +1,56 @@
+# SPDX-License-Identifier: Apache-2.0 OR BSD-3-Clause
+"""What tests need of a machine, and the packages of Debian 12 that have it. As a program it prints the packages of all
+that is missing, but for the kit, which is no package; those of another architecture end with its name."""
+import shutil
+import subprocess
+from functools import lru_cache
+from glob import glob
+
+# Beside each name that a test may need: commands, files, or imports of Debian's Python, each with its package.
+TOOLS = {
+    "kit": {"rt": "the Rattle kit, which is no package"},
+    "cc": {"cc": "gcc", "gcc": "gcc"},
+    "c++": {"g++": "g++"},
+    "clang": {"clang": "clang", "clang++": "clang"},
+    "make": {"make": "make"},
+    "git": {"git": "git"},
+    "cargo": {"cargo": "cargo", "rustc": "rustc", "cc": "gcc"},
+    "node": {"node": "nodejs"},
+    "npm": {"npm": "npm"},
+    "tsc": {"tsc": "node-typescript"},
+    "wasm": {"/usr/bin/rustc": "rustc", "/usr/lib/rustlib/wasm32-unknown-unknown": "libstd-rust-dev-wasm32",
+             "wasm-ld": "lld"},
+    "chromium": {"chromium": "chromium"},
+    "pip": {"import pip": "python3-pip", "import setuptools.build_meta": "python3-setuptools",
+            "import wheel": "python3-wheel", "import venv, ensurepip": "python3-venv"},
+    "twine": {"twine": "twine"},
+    # Other processors: a compiler and its C library, an emulator, and the library of Debian's Rust.
+    "x86_64": {"x86_64-linux-gnu-gcc": "gcc-x86-64-linux-gnu", "qemu-x86_64": "qemu-user"},
+    "aarch64": {"aarch64-linux-gnu-gcc": "gcc-aarch64-linux-gnu", "qemu-aarch64": "qemu-user",
+                "/usr/aarch64-linux-gnu/lib/libc.a": "libc6-dev-arm64-cross"},
+    "s390x": {"s390x-linux-gnu-gcc": "gcc-s390x-linux-gnu", "qemu-s390x": "qemu-user",
+              "/usr/s390x-linux-gnu/lib/libc.a": "libc6-dev-s390x-cross", "/usr/bin/rustc": "rustc",
+              "/usr/lib/rustlib/s390x-unknown-linux-gnu/lib/libcore-*": "libstd-rust-dev:s390x"},
+    "arm": {"arm-linux-gnueabihf-gcc": "gcc-arm-linux-gnueabihf", "qemu-arm": "qemu-user",
+            "/usr/arm-linux-gnueabihf/lib/libc.a": "libc6-dev-armhf-cross", "/usr/bin/rustc": "rustc",
+            "/usr/lib/rustlib/armv7-unknown-linux-gnueabihf/lib/libcore-*": "libstd-rust-dev:armhf"},
+}
+# What no package of Debian 12 has: tests of it run where it is there.
+PLACES = {"KVM": "/dev/kvm", "Deno": "deno"}
+
+
+@lru_cache(maxsize=None)
+def is_there(what):
+    """Whether a command, a file, or what a line of Python imports is there."""
+    if what.startswith("import "):
+        return subprocess.run(["/usr/bin/python3", "-c", what], capture_output=True).returncode == 0
+    return bool(glob(what)) if what.startswith("/") else shutil.which(what) is not None
+
+
+def missing(tool):
+    """What of a tool is missing, with its package."""
+    return {what: package for what, package in TOOLS[tool].items() if not is_there(what)}
+
+
+if __name__ == "__main__":
+    print("\n".join(sorted({package for tool in TOOLS if tool != "kit" for package in missing(tool).values()})))

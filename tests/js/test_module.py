@@ -1,0 +1,28 @@
+# SPDX-License-Identifier: Apache-2.0 OR BSD-3-Clause
+"""The WebAssembly module is that of its digests and of bindings/js/module.mjs, and of a build, byte for byte;
+superio.cjs is what web/build.py makes of the modules."""
+import pytest
+from build import REQUIRED, required
+from harness import at_least
+from prebuild import EMBEDDED, MODULE, PREBUILT, build, embedded, listed
+
+
+@pytest.mark.parametrize("name, line", at_least(2, listed().items()))
+def test_digest(name, line):
+    assert line in (PREBUILT / name).read_text("ascii").splitlines(), "run web/prebuild.py"
+
+
+def test_required():
+    assert REQUIRED.read_text("utf-8") == required(), "run web/build.py"
+
+
+def test_embedded():
+    assert EMBEDDED.read_text("ascii") == embedded(), "run web/prebuild.py"
+
+
+@pytest.mark.needs("wasm")
+def test_build(tmp_path):
+    place = tmp_path / "superio.wasm"
+    built = build(place)
+    assert built.returncode == 0, built.stdout
+    assert place.read_bytes() == (PREBUILT / MODULE).read_bytes()
