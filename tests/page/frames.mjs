@@ -1,19 +1,20 @@
 // SPDX-License-Identifier: Apache-2.0 OR BSD-3-Clause
 /**
- * Tries the page docs/try.html in frames of this one, which tests/page/check opens in a browser, with what is to be
- * tried in the element `tried`. Tells on the console, as JSON, of what kind each thing is, how many, and what is wrong.
+ * Tries the page docs/try.html in frames of this one, which test_page.py opens in a browser, with what is to be tried
+ * in the element `tried`. Tells on the console, as JSON, the kind and the name of each thing, how many, and what is wrong.
  */
-const { address, shown, features, pictures, scripts } = JSON.parse(document.getElementById("tried").textContent);
-const [HEIGHT, WIDTHS, SCHEMES, MOST_MILLISECONDS] = [860, [1280, 400], ["light", "dark"], 500];
+const { address, shown, features, looks, pictures, scripts } = JSON.parse(document.getElementById("tried").textContent);
+const [HEIGHT, WIDTH, SCHEME, MOST_MILLISECONDS] = [860, 1280, "light", 500];
 
-const tell = (kind, wrong, number = 1) => console.log(JSON.stringify({ kind, number, wrong: wrong.join("\n  ") }));
+const tell = (kind, name, wrong, number = 1) =>
+  console.log(JSON.stringify({ kind, name, number, wrong: wrong.join("\n  ") }));
 const until = async (test) => { while (!test()) await new Promise((done) => setTimeout(done)); };
 
 /** The window of the page, and how many milliseconds after its start it was there, at the fastest. */
 let [page, fastest] = [null, Infinity];
 
 /** Opens the page anew, with a fragment of its address. */
-async function open(fragment, width = WIDTHS[0], scheme = SCHEMES[0]) {
+async function open(fragment, width = WIDTH, scheme = SCHEME) {
   const frame = document.createElement("iframe");
   Object.assign(frame, { src: address + fragment, width, height: HEIGHT });
   frame.style.colorScheme = scheme;
@@ -104,7 +105,7 @@ async function tryFeature(feature) {
       await STEPS[step](...words);
     }
   }
-  tell("features", wrong.map((what) => `${name}: ${what}`));
+  tell("feature", name, wrong);
 }
 
 /** How much a text stands out from what is behind it, from 1 to 21, by the formula of WCAG. */
@@ -135,8 +136,8 @@ async function tryLooks(width, scheme) {
     "has no name": controls.filter((one) => !one.computedName),
     "is too wide": [page.document.scrollingElement].filter((one) => one.scrollWidth > width),
   };
-  tell("controls in two widths and schemes", Object.entries(faults).flatMap(([what, elements]) =>
-    elements.map((one) => `${width} pixels, ${scheme}: this ${what}: ${one.outerHTML.slice(0, 90)}`)), controls.length);
+  tell("looks", `${width} ${scheme}`, Object.entries(faults).flatMap(([what, elements]) =>
+    elements.map((one) => `this ${what}: ${one.outerHTML.slice(0, 90)}`)), controls.length);
 }
 
 /**
@@ -155,7 +156,7 @@ async function take([name, fragment, width, wanted]) {
     .replace(/^([^@\s}][^{]*) \{[^}]*\}\n/gm, (rule, selector) => isUsed(selector) ? rule : "");
   const elements = new XMLSerializer().serializeToString(page.document.querySelector("main"));
   const parts = [width, page.document.body.offsetHeight, styles, elements];
-  console.log(JSON.stringify({ kind: "pictures", number: 1, name, parts }));
+  console.log(JSON.stringify({ kind: "picture", name, parts, wrong: "" }));
 }
 
 /** Tries whether the page replies to scripts as it should, and each ends so. */
@@ -164,15 +165,16 @@ async function tryScripts() {
   const different = scripts.map(([place, script, isForProgram, replies, end]) =>
     [place, script, JSON.stringify({ replies, end }), JSON.stringify(page.superio.runScript(script, isForProgram))])
     .filter(([, , expected, got]) => got !== expected).slice(0, 10);
-  tell("scripts", different.map((one) => one.join("\n  ")), scripts.length);
+  tell("scripts", "all", different.map((one) => one.join("\n  ")), scripts.length);
 }
 
 /** Waits for what is tried, and tells if it cannot be. */
-const end = (what, trying) => trying.catch((error) => tell("features", [`${what}: ${error}`]));
+const end = (kind, name, trying) => trying.catch((error) => tell(kind, name, [`${error}`]));
 
-for (const feature of features) await end(feature, tryFeature(feature));
-for (const width of WIDTHS) for (const scheme of SCHEMES) await end("looks", tryLooks(width, scheme));
-for (const picture of pictures) await end(picture, take(picture));
-await end("scripts", tryScripts());
-tell("loading", fastest > MOST_MILLISECONDS ? [`the page took ${fastest} milliseconds at its fastest`] : []);
+for (const feature of features) await end("feature", feature.split("\n")[0], tryFeature(feature));
+for (const [width, scheme] of looks) await end("looks", `${width} ${scheme}`, tryLooks(width, scheme));
+for (const picture of pictures) await end("picture", picture[0], take(picture));
+if (scripts.length) await end("scripts", "all", tryScripts());
+if (fastest === Infinity) await open("");
+tell("loading", "all", fastest > MOST_MILLISECONDS ? [`the page took ${fastest} milliseconds at its fastest`] : []);
 console.log(JSON.stringify({ end: true }));

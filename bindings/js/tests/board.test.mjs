@@ -1,6 +1,6 @@
 // SPDX-License-Identifier: Apache-2.0 OR BSD-3-Clause
 /**
- * What the board of the page makes of calls as a script for the program, where no user can soon get. tests/page/check
+ * What the board of the page makes of calls as a script for the program, where no user can soon get. tests/page
  * tries the rest.
  */
 import assert from "node:assert/strict";

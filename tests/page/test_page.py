@@ -1,0 +1,166 @@
+# SPDX-License-Identifier: Apache-2.0 OR BSD-3-Clause
+"""The page docs/try.html: what it has packed, and what it does in a headless Chromium.
+
+Each control does what features.txt says, and the console stays empty: the page lets the browser refuse any request. It
+fits two widths and two schemes of colours, its controls have names for a screen reader, and it loads fast. It replies to
+scripts as a search of the past does, and docs/try.svg and docs/try-narrow.svg show what it does; --write-pictures writes
+them anew.
+"""
+import json
+import os
+import re
+import subprocess
+import threading
+from pathlib import Path
+
+import pytest
+from build import PAGE, sources, unpacked
+from documents import Document
+from harness import ROOT, at_least
+from script_tests import board_scripts
+
+HERE = Path(__file__).parent
+MOST_BYTES, RANDOM_SCRIPTS = 70_000, 10_000
+LIMIT = 240   # seconds for all that is tried in the browser
+# Frames of files may be read, and elements have the names that a screen reader says. The super-user has no sandbox.
+BROWSER = ["chromium", "--headless", "--disable-gpu", "--no-first-run", "--hide-scrollbars", "--window-size=1300,900",
+           "--force-prefers-reduced-motion", "--enable-logging=stderr", "--allow-file-access-from-files",
+           "--enable-blink-features=ComputedAccessibilityInfo", *(["--no-sandbox"] if os.geteuid() == 0 else [])]
+TOLD = re.compile(r'CONSOLE\S+ "(.*)", source: ')
+# A Linux whose driver reads 256 bytes of a paste, as it does at an interrupt, while 17 more arrive. As many wait then.
+BOOT = ";".join(f"sw 00 {byte:02x}" for byte in b"ttyS0 at I/O 0x3f8 is a 16550A\r\n\r\n~ # head -c 4096 | md5sum\r\n")
+PASTE = b"Linux takes 256 bytes at an interrupt, and leaves the others. " * 5
+PIECES = "".join(f"sq {PASTE[begin:end].hex()};{'sr 02;' * (begin == 0)}{'sr 05;sr 00;' * read}" for begin, end, read in
+                 ((0, 64, 17), (64, 81, 64), (81, 145, 64), (145, 209, 64), (209, 273, 47)))
+SHOWN = f"#sw 03 03;sw 04 0b;sw 01 05;{BOOT};sr 02;{PIECES}sr 02".replace(" ", "+")
+# The pictures of docs: each with the width of the window, and the parts of the page that it has.
+PICTURES = [("try.svg", SHOWN, 1200, "#port, #host, #why"), ("try-narrow.svg", SHOWN, 400, "#port, #host")]
+DRAWN = """<svg xmlns="http://www.w3.org/2000/svg" width="{0}" height="{1}" viewBox="0 0 {0} {1}" role="img">
+<title>A serial port in which bytes wait without an interrupt: registers with their bits, FIFO, line, terminal</title>
+<foreignObject width="{0}" height="{1}">
+<body xmlns="http://www.w3.org/1999/xhtml" style="color-scheme: light dark; border-radius: 10px"><style>
+{2}</style>
+{3}
+</body></foreignObject>
+</svg>
+"""
+FEATURES = re.sub(r"^# .*\n", "", (HERE / "features.txt").read_text("utf-8"), flags=re.M).strip().split("\n\n")
+FEATURES = {feature.split("\n")[0]: feature for feature in at_least(34, FEATURES)}
+LOOKS = {f"{width} {scheme}": (width, scheme) for width in (1280, 400) for scheme in ("light", "dark")}
+PICTURES = {picture[0]: picture for picture in PICTURES}
+LEAST_CONTROLS = 75   # in each of LOOKS
+
+
+# The file
+
+def links():
+    """The links of the page, and those of its modules to headings."""
+    found = set(re.findall(r'<a href="([^"@#]+(?:#[\w-]+)?)"', PAGE.read_text("utf-8")))
+    for name, document in (("board", "DEVICES"), ("why", "DEVICES"), ("page", "DEVICES"), ("boot", "GUESTS")):
+        text = (ROOT / "web" / f"{name}.mjs").read_text("utf-8")
+        found.update(f"{document}.md#{heading}" for heading in re.findall(r'\.",\s+"([a-z0-9-]+)"\]', text))
+    return sorted(found)
+
+
+def test_packed():
+    assert unpacked(PAGE.read_text("utf-8")) == sources(), "run web/build.py"
+
+
+def test_size():
+    assert PAGE.stat().st_size <= MOST_BYTES
+
+
+@pytest.mark.parametrize("link", at_least(19, links()))
+def test_link(link):
+    name, _, heading = link.partition("#")
+    path = PAGE.parent / name
+    assert path.is_file()
+    assert not heading or heading in Document(path).anchors
+
+
+# In a browser
+
+def browse(folder, tried):
+    """What frames.mjs tells in a browser. What the page tells, and an early end, is wrong."""
+    text = json.dumps({"address": PAGE.as_uri(), "shown": SHOWN, **tried}).replace("<", r"\u003c")
+    page = folder / "frames.html"
+    page.write_text(f'<!doctype html><body><script type="application/json" id="tried">{text}</script>'
+                    f'<script type="module" src="{(HERE / "frames.mjs").as_uri()}"></script>', "ascii")
+    words = [*BROWSER, f"--user-data-dir={folder}", page.as_uri()]
+    with subprocess.Popen(words, stdout=subprocess.DEVNULL, stderr=subprocess.PIPE, encoding="utf-8") as browser:
+        timer = threading.Timer(LIMIT, browser.kill)
+        timer.start()
+        for found in filter(None, map(TOLD.search, browser.stderr)):
+            what = json.loads(found[1]) if found[1].startswith("{") else {"kind": "console", "wrong": found[1]}
+            if "end" in what:
+                break
+            yield what
+        else:
+            yield {"kind": "console", "wrong": f"the browser ended, or took more than {LIMIT} seconds"}
+        timer.cancel()
+        browser.terminate()
+
+
+@pytest.fixture(scope="module")
+def told(request, tmp_path_factory):
+    """Opens the browser once, for the tests of this file that are run. Gives a function that gives what was told of a
+    kind and a name, of which something has to be told, and all that the console had besides."""
+    items = [item for item in request.session.items if item.path == Path(__file__)]
+    names = {item.callspec.params["name"] for item in items if hasattr(item, "callspec") and "name" in item.callspec.params}
+    has_scripts = any(item.name == "test_scripts" for item in items)
+    tried = {kind: [row for name, row in rows.items() if name in names] for kind, rows in (
+        ("features", FEATURES), ("looks", LOOKS), ("pictures", PICTURES))}
+    tried["scripts"] = board_scripts("page", RANDOM_SCRIPTS) if has_scripts else []
+    rows = [*browse(tmp_path_factory.mktemp("browser"), tried)]
+
+    def of(kind, name="all"):
+        found = [row for row in rows if (row["kind"], row.get("name", "all")) == (kind, name)]
+        console = [row["wrong"] for row in rows if row["kind"] == "console"]
+        assert found or kind == "console", console
+        return console if kind == "console" else found[0]
+    return of
+
+
+@pytest.mark.needs("chromium")
+@pytest.mark.parametrize("name", FEATURES)
+def test_feature(told, name):
+    assert not told("feature", name)["wrong"]
+
+
+@pytest.mark.needs("chromium")
+@pytest.mark.parametrize("name", LOOKS)
+def test_looks(told, name):
+    """At a width and in a scheme of colours, nothing is cut or too wide, each text stands out, and controls have names."""
+    said = told("looks", name)
+    assert not said["wrong"]
+    assert said["number"] >= LEAST_CONTROLS
+
+
+@pytest.mark.needs("chromium")
+@pytest.mark.parametrize("name", PICTURES)
+def test_picture(told, name, request):
+    """The picture of the documents is that of the page, but for its height, which depends on the fonts."""
+    said = told("picture", name)
+    assert not said["wrong"]
+    path, picture = ROOT / "docs" / name, DRAWN.format(*said["parts"]).replace("\r", "")
+    if request.config.getoption("--write-pictures"):
+        path.write_text(picture, "utf-8")
+    kept, now = (re.sub(r' (height="\d+"|viewBox="[^"]*")', "", text) for text in (path.read_text("utf-8"), picture))
+    assert kept == now, f"{name} shows another page: run pytest tests/page --write-pictures"
+
+
+@pytest.mark.needs("chromium")
+def test_scripts(told):
+    said = told("scripts")
+    assert not said["wrong"]
+    assert said["number"] >= 12_300
+
+
+@pytest.mark.needs("chromium")
+def test_loading(told):
+    assert not told("loading")["wrong"]
+
+
+@pytest.mark.needs("chromium")
+def test_console(told):
+    assert not told("console")
