@@ -2,7 +2,7 @@
 #
 # The C library. Plain `make` installs nothing: it says what there is, and what comes next.
 #
-#     make check
+#     make check-library
 #     make install PREFIX=/usr DESTDIR=tree LIBDIR=lib64
 #     make uninstall, with the same variables
 #
@@ -28,7 +28,7 @@ pc = sed -e 's|@up@|$(up)|' -e 's|@version@|$(version)|'
 # A recipe is one script, which ends at the first command that fails.
 .ONESHELL:
 .SHELLFLAGS = -ec
-.PHONY: all from-source check install uninstall clean installcheck installcheck-rust dist
+.PHONY: all from-source check check-library install uninstall clean installcheck installcheck-rust dist
 
 # Refuses a folder without the libraries, before anything is written. Otherwise $1 is the static one, and $2 the shared.
 define find
@@ -44,14 +44,14 @@ endef
 all: $(if $(filter $(BUILT),$(LIBRARIES)),from-source)
 	@$(find)
 	echo "Built: $$1 and $$2"
-	echo "Next: make check, and make install, which writes below $(PREFIX) if you give no PREFIX and no DESTDIR"
+	echo "Next: make check-library, and make install, which writes below $(PREFIX) if you give no PREFIX and no DESTDIR"
 
 # Compiles the erased sources.
 from-source:
 	$(CARGO) build --release --offline --manifest-path bindings/c/from-source/Cargo.toml
 
 # Tests the static library with a C compiler.
-check:
+check-library:
 	@$(find)
 	$(MAKE) -C tests/c LIBRARY="$$(realpath --relative-to=tests/c "$$1")"
 
@@ -77,7 +77,11 @@ uninstall:
 	    [ ! -d "$$folder" ] || rmdir --ignore-fail-on-non-empty "$$folder"
 	done
 
-# Removes what all and check write.
+# Tests all of the repository. OPTIONS are those of tools/check, such as "--without kit,node".
+check:
+	tools/check $(OPTIONS)
+
+# Removes what all and check-library write.
 clean:
 	rm -rf bindings/c/from-source/target bindings/c/from-source/Cargo.lock
 	cd out 2> /dev/null && rm -f $(notdir $(basename $(wildcard tests/c/*.c examples/c/*.c))) || true

@@ -24,6 +24,11 @@ TOOLS = {
     "pip": {"import pip": "python3-pip", "import setuptools.build_meta": "python3-setuptools",
             "import wheel": "python3-wheel", "import venv, ensurepip": "python3-venv"},
     "twine": {"twine": "twine"},
+    "reuse": {"reuse": "reuse"},
+    "pkg-config": {"pkg-config": "pkg-config"},
+    "cmake": {"cmake": "cmake"},
+    "debian": {"dpkg-buildpackage": "dpkg-dev", "dh": "debhelper", "lintian": "lintian", "mk-origtargz": "devscripts",
+               "/usr/bin/cargo": "cargo", "/usr/bin/rustc": "rustc"},
     # Other processors: a compiler and its C library, an emulator, and the library of Debian's Rust.
     "x86_64": {"x86_64-linux-gnu-gcc": "gcc-x86-64-linux-gnu", "qemu-x86_64": "qemu-user"},
     "aarch64": {"aarch64-linux-gnu-gcc": "gcc-aarch64-linux-gnu", "qemu-aarch64": "qemu-user",

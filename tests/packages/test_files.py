@@ -1,0 +1,80 @@
+# SPDX-License-Identifier: Apache-2.0 OR BSD-3-Clause
+"""What a packager takes from the repository: licenses, versions, the number of the binary interface, and dates."""
+import re
+
+import pytest
+from documents import BUILT
+from harness import ROOT, at_least, check
+from interface import ABI, SYMBOLS, VERSION, debian_symbols, interface, kept, lost
+
+# The files that are used without VERSION, each with the form in which it has the version. Each form is there once.
+PLACES = [
+    ("CHANGELOG.md", r"\A(?s:.*?)^## (\d+\.\d+\.\d+) - .+$", VERSION),
+    ("bindings/js/package.json", r'^  "version": "(.+)",$', VERSION),
+    ("bindings/python/superio/__init__.py", r'^__version__ = "(.+)"$', VERSION),
+    ("bindings/superio/Cargo.toml", r'^version = "(.+)"$', VERSION),
+    ("bindings/rust/Cargo.toml", r'^superio = \{ version = "(.+?)"', VERSION),
+    ("bindings/c/from-source/Cargo.toml", r'^version = "(.+)"$', VERSION),
+    ("bindings/c/from-source/Cargo.toml", r'^superio = \{ version = "(.+?)"', VERSION),
+    ("debian/changelog", r"\Asuperio \((.+)\+ds-\d+\) ", VERSION),
+    # The same for the number of the binary interface, which the name of the shared library ends with.
+    ("bindings/js/module.mjs", r"^export const ABI = (\d+);$", ABI),
+    ("bindings/c/from-source/src/lib.rs", r"^const ABI: u32 = (\d+);$", ABI),
+    ("debian/control", r"^Package: libsuperio(\d+)$", ABI),
+]
+# Copies that a package has for itself, of what stands elsewhere: a package takes no file from above it.
+COPIES = {
+    **{f"bindings/{package}/LICENSE-{short}": f"LICENSES/{text}.txt"
+       for package in ("superio", "rust", "c/from-source", "python")
+       for short, text in (("APACHE", "Apache-2.0"), ("BSD", "BSD-3-Clause"))},
+    "bindings/c/from-source/superio.h": "bindings/c/superio.h",
+}
+# The line in which a source names its licenses, and which files are sources.
+LICENSE = "SPDX-License-" "Identifier: Apache-2.0 OR BSD-3-Clause"
+SOURCE = re.compile(r".+\.([ch]|S|py|rs|rt|antt|[cm]?[jt]s|pyi)|Makefile")
+UNREAD = {".git", *BUILT}
+HEADINGS = re.findall(r"^## (.*)$", (ROOT / "CHANGELOG.md").read_text(encoding="utf-8"), re.M)
+
+
+def unlicensed():
+    """The sources that do not name their licenses in one of the first lines."""
+    for path in sorted(ROOT.rglob("*")):
+        if not UNREAD & set(path.relative_to(ROOT).parts) and path.is_file():
+            with path.open("rb") as file:
+                head = [file.readline(200).decode(errors="replace") for _ in range(3)]
+            if (SOURCE.fullmatch(path.name) or head[0].startswith("#!")) and LICENSE not in "".join(head):
+                yield str(path.relative_to(ROOT))
+
+
+@pytest.mark.needs("reuse")
+def test_reuse():
+    check(["reuse", "--root", ROOT, "lint"])
+
+
+@pytest.mark.parametrize("copy", COPIES)
+def test_copy(copy):
+    assert (ROOT / copy).read_bytes() == (ROOT / COPIES[copy]).read_bytes()
+
+
+def test_each_source_names_its_licenses():
+    assert not list(unlicensed()), f"no line '{LICENSE}' near the start"
+
+
+def test_interface():
+    """superio.abi and Debian's table are those of the header, and nothing is gone while the number is the same."""
+    assert not lost()
+    assert kept() == interface(), "run tools/write-abi"
+    assert SYMBOLS.read_text(encoding="ascii") == debian_symbols(), "run tools/write-abi"
+
+
+@pytest.mark.parametrize("heading", at_least(2, HEADINGS))
+def test_release_has_a_date(heading):
+    """Only the first may be unreleased."""
+    dated = heading.replace("unreleased", "2000-01-01") if heading == HEADINGS[0] else heading
+    assert re.fullmatch(r"\d+\.\d+\.\d+ - \d{4}-\d\d-\d\d", dated)
+
+
+@pytest.mark.parametrize("name, form, wanted", at_least(11, PLACES))
+def test_number(name, form, wanted):
+    """A version, or the number of the binary interface, is the same in each file that repeats it."""
+    assert re.findall(form, (ROOT / name).read_text(encoding="utf-8"), re.M) == [wanted]
