@@ -27,8 +27,8 @@ TOOLS = {
     "reuse": {"reuse": "reuse"},
     "pkg-config": {"pkg-config": "pkg-config"},
     "cmake": {"cmake": "cmake"},
-    "debian": {"dpkg-buildpackage": "dpkg-dev", "dh": "debhelper", "lintian": "lintian", "mk-origtargz": "devscripts",
-               "/usr/bin/cargo": "cargo", "/usr/bin/rustc": "rustc"},
+    "debian-rust": {"/usr/bin/cargo": "cargo", "/usr/bin/rustc": "rustc"},
+    "debian": {"dpkg-buildpackage": "dpkg-dev", "dh": "debhelper", "lintian": "lintian", "mk-origtargz": "devscripts"},
     # Other processors: a compiler and its C library, an emulator, and the library of Debian's Rust.
     "x86_64": {"x86_64-linux-gnu-gcc": "gcc-x86-64-linux-gnu", "qemu-x86_64": "qemu-user"},
     "aarch64": {"aarch64-linux-gnu-gcc": "gcc-aarch64-linux-gnu", "qemu-aarch64": "qemu-user",

@@ -95,7 +95,7 @@ def packages(debian):
     return folder, root
 
 
-needs_debian = pytest.mark.needs("debian", "cargo")
+needs_debian = pytest.mark.needs("debian", "debian-rust")
 
 
 @needs_debian

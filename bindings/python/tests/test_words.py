@@ -252,7 +252,7 @@ class Words(FolderTest):
 
 
 class Documents(unittest.TestCase):
-    """What documents show at the viewer's prompt and at that of Python. `tests/checks/paste` types into the shell."""
+    """What documents show at the viewer's prompt and at that of Python. `tests/documents/test_paste.py` types into the shell."""
 
     def blocks_with(self, text):
         found = [block for path in [PACKAGE / "README.md", *sorted((ROOT / "docs").glob("*.md"))] for block in

@@ -1,0 +1,92 @@
+# SPDX-License-Identifier: Apache-2.0 OR BSD-3-Clause
+"""The commands of the documents work as a new user pastes them into a fresh copy of the repository.
+
+Each fenced `sh` block is run by bash with an empty environment and a new home, with the programs of /usr/bin alone, and
+with those beside `rt` if a command is of KIT. It has to succeed, and to print what a `text` block after it shows, if
+there is one before a heading; what follows a prompt there, such as `superio> `, is its input. What takes long is
+shortened: `tools/check` prints its help, and pytest only collects.
+
+The steps of rattle.md are carried out beside a link to this repository, with the file that claims.md shows, up to a
+proved claim. This proves the libraries first, in minutes, unless `rt` proved them here.
+"""
+import os
+import re
+import shutil
+
+import pytest
+from documents import HEADING, Document, copy_repository
+from harness import ROOT, at_least, run
+
+DOCUMENTS = ("README.md", "CONTRIBUTING.md", "docs/*.md", "bindings/*/README.md", "tests/README.md")
+# Their commands are for a folder of the user's own, and for a host with KVM, where tests/kvm runs them.
+ELSEWHERE = ("docs/rattle.md", "docs/claims.md", "docs/MONITOR.md")
+KIT = re.compile(r"^(?:rt|tools/run|tools/prebuild)\b", re.M)
+# The tools that programs in commands are of, as tests name them.
+PROGRAMS = {"cc": "cc", "cargo": "debian-rust", "git": "git", "make": "make", "npm": "npm", "pkg-config": "pkg-config",
+            "venv": "pip", "pip": "pip"}
+PROMPT = re.compile(r"\w+> ")
+SHORTER = [(r"^tools/check\b[^#\n]*", "tools/check --help "), (r"^(python3 -m pytest)\b", r"\1 --collect-only -q")]
+BUILT = "crates/superio/out/superio"
+
+
+def commands_of(document):
+    """The commands of a document block by block, each with its place, what is typed, and what they have to print."""
+    blocks = document.blocks
+    for block, after in zip(blocks, [*blocks[1:], None]):
+        is_shown = after and after.language == "text" and not HEADING.search(after.before)
+        shown = [f"{line}\n" for line in after.lines] if is_shown else []
+        typed = "".join(line[PROMPT.match(line).end():] for line in shown if PROMPT.match(line))
+        if block.language == "sh":
+            printed = "".join(line for line in shown if not PROMPT.match(line))
+            yield f"{document}:{block.number - 1}", "\n".join(block.lines), typed, printed
+
+
+def cases():
+    """The documents that have commands, each with its blocks, marked with what they need. Blocks for the kit come apart."""
+    for path in sorted(path.relative_to(ROOT) for pattern in DOCUMENTS for path in ROOT.glob(pattern)):
+        blocks = list(commands_of(Document(path))) if str(path) not in ELSEWHERE else []
+        for is_for_kit in (False, True):
+            some = [block for block in blocks if bool(KIT.search(block[1])) == is_for_kit]
+            commands = "\n".join(commands for _, commands, *_ in some)
+            tools = {tool for program, tool in PROGRAMS.items() if re.search(rf"\b{program}\b", commands)}
+            if some:
+                yield pytest.param(some, id=f"{path}{' with the kit' * is_for_kit}",
+                                   marks=pytest.mark.needs(*sorted(tools), *["kit"] * is_for_kit))
+
+
+def paste(folder, where, commands, typed, printed):
+    """Pastes commands into a folder. They do what their document says, and nothing asks a network."""
+    kit = [os.path.dirname(shutil.which("rt"))] if KIT.search(commands) else []
+    for form, shorter in SHORTER:
+        commands = re.sub(form, shorter, commands, flags=re.M)
+    environment = {"HOME": str(folder.parent), "PATH": ":".join([*kit, "/usr/bin", "/bin"]), "PIP_NO_INDEX": "1",
+                   "CARGO_NET_OFFLINE": "true"}
+    ran = run(["/bin/bash", "-e", "-c", commands], cwd=folder, input=typed, timeout=1800, env=environment)
+    assert ran.returncode == 0 and "Traceback" not in ran.stdout, f"{where}: status {ran.returncode}\n{ran.stdout}"
+    assert printed in ran.stdout, f"{where} printed:\n{ran.stdout}"
+
+
+@pytest.mark.parametrize("blocks", at_least(9, cases()))
+def test_document(blocks, tmp_path):
+    """A block finds what those before it left."""
+    top = tmp_path / "fimolavand"
+    copy_repository(top)
+    if (ROOT / BUILT).is_file():   # else `tools/run` proves it again
+        (top / BUILT).parent.mkdir()
+        shutil.copy(ROOT / BUILT, top / BUILT)
+    for block in blocks:
+        paste(top, *block)
+
+
+@pytest.mark.needs("kit")
+def test_first_crate(tmp_path):
+    """The steps of rattle.md and claims.md."""
+    rattle, claims = (Document(f"docs/{name}.md") for name in ("rattle", "claims"))
+    [claim] = [block.lines for block in claims.blocks if block.language == "rust"]
+    [(where, last, typed, printed)] = commands_of(claims)
+    steps = [*(commands for _, commands, *_ in commands_of(rattle)), "cp ../../own.rt src", last]
+    own = tmp_path / "own"
+    own.mkdir()
+    (own / "fimolavand").symlink_to(ROOT)
+    (own / "own.rt").write_text("\n".join([*claim, ""]), encoding="utf-8")
+    paste(own, where, "\n".join(steps), typed, printed)
