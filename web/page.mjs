@@ -4,7 +4,7 @@ import { CLOCK, DLAB, SERIAL, isThere, serialRegister } from "../bindings/js/reg
 import { Board, hex, hexOf, parse, programLines, runScript, syntaxOf } from "./board.mjs";
 import { Boot, RECORDINGS } from "./boot.mjs";
 import {
-  CONDITIONS, WITHOUT_EFFECT, dateOf, lineFormat, plural, quoted, ruleOf, short, shownRegisters, storyOf, told,
+  CONDITIONS, dateOf, lineFormat, plural, quoted, ruleOf, short, shownRegisters, storyOf, told,
 } from "./why.mjs";
 
 const id = (name) => document.getElementById(name);
@@ -200,8 +200,7 @@ function rowOf({ name, bits }, label, before, after, turn) {
 function serialRow(register) {
   const { name, offset, latched, access } = register;
   const place = hex(offset, 2);
-  const written = serialRegister(offset, latched ? DLAB : 0, true).name;
-  const isIgnored = WITHOUT_EFFECT.includes(written);
+  const { name: written, ignored: isIgnored } = serialRegister(offset, latched ? DLAB : 0, true);
   const read = element("button", { type: "button", title: `sr ${place}`, "aria-label": `Read ${name}` }, "Read");
   const input = element("input", { placeholder: "value", autocomplete: "off", "aria-label": `Value for ${written}` });
   const write = element("button", isIgnored ?

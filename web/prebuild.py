@@ -11,6 +11,7 @@ libstd-rust-dev-wasm32 and lld. Prints nothing if all is well. Otherwise it says
 import base64
 import ctypes
 import json
+import re
 import shutil
 import sys
 import tempfile
@@ -21,7 +22,7 @@ sys.path[:0] = [str(ROOT / "tests" / "common"), str(ROOT / "bindings" / "python"
 from cargo import DEBIAN_RUSTC  # noqa: E402
 from libraries import PREBUILT, replace_lines, source_line, sums_of  # noqa: E402
 from superio.library import ABI, RTC_SAVED_SIZE, RtcStruct  # noqa: E402
-from superio.registers import CLOCK, SERIAL, RtcState  # noqa: E402
+from superio.registers import CLOCK, SERIAL, RtcState, SerialState  # noqa: E402
 from superio.saved import SAVED_STATE_ERRORS  # noqa: E402
 from harness import run, takes_no_argument  # noqa: E402
 
@@ -61,16 +62,18 @@ def build(place):
 
 def tables():
     """The tables of the Python package, by their names in module.mjs: a register without its text, and with its bits
-    from the lowest on; of a field of the clock's struct the name, the place, the kind, and whether it is a flag."""
+    from the lowest on; the registers of the port's struct, in their order; of a field of the clock's struct the name,
+    the place, the kind, and whether it is a flag."""
     serial, clock = ([one._replace(bits=sorted(one.bits))._asdict() for one in registers.values()]
                      for registers in (SERIAL, CLOCK))
     for row in (*serial, *clock):
         del row["about"]
     fields = [(name, getattr(RtcStruct, name).offset, KINDS[kind], isinstance(getattr(RtcState, name), bool))
               for name, kind in RtcStruct._fields_]
+    port = [re.sub("_(.)", lambda found: found[1].upper(), name) for name in SerialState.kinds()]
     return {"ABI": ABI, "CLOCK_SIZE": ctypes.sizeof(RtcStruct), "CLOCK_SAVED_SIZE": RTC_SAVED_SIZE,
-            "SAVED_STATE_ERRORS": SAVED_STATE_ERRORS, "CLOCK_STRUCT": fields, "SERIAL_ROWS": serial,
-            "CLOCK_ROWS": clock}
+            "SAVED_STATE_ERRORS": SAVED_STATE_ERRORS, "PORT_FIELDS": port, "CLOCK_STRUCT": fields,
+            "SERIAL_ROWS": serial, "CLOCK_ROWS": clock}
 
 
 def embedded():

@@ -1,10 +1,7 @@
 // SPDX-License-Identifier: Apache-2.0 OR BSD-3-Clause
 /** What a call did and by which rule, in sentences. docs/DEVICES.md has the rules, and a sentence names its part. */
-import { SERIAL, clockRegister, serialRegister } from "../bindings/js/registers.mjs";
+import { DLAB, SERIAL, clockRegister, serialRegister } from "../bindings/js/registers.mjs";
 import { LINES, hex } from "./board.mjs";
-
-/** The registers to which a write changes nothing. */
-export const WITHOUT_EFFECT = ["FCR", "LSR", "MSR"];
 
 const bitOf = (register, name) => SERIAL[register].bits.find(([, one]) => one === name)[0];
 const LOOP = bitOf("MCR", "LOOP");
@@ -153,13 +150,12 @@ export function storyOf([name, bit, enable, how], calls, board) {
 /** A line, of which at most so many characters are shown. */
 export const short = (line, most) => line.length <= most ? line : `${line.slice(0, most - 2)}..`;
 
-/** The registers of a board as a guest would read them, by name, without changing it. */
+/** The registers of a board as a guest would read them, by name, whatever DLAB is, without changing it. */
 export function shownRegisters(board) {
-  const port = board.serial.clone();
-  const state = port.state;
-  return {
-    RBR: state.inBuffer[0] ?? 0, DLL: state.baudDivisorLow, IER: state.interruptEnable, DLM: state.baudDivisorHigh,
-    LCR: state.lineControl, MCR: state.modemControl, LSR: state.lineStatus, MSR: port.read(SERIAL.MSR.offset).byte,
-    SCR: state.scratch, IIR: port.read(SERIAL.IIR.offset).byte,
-  };
+  const shown = Object.values(SERIAL).filter(({ access }) => access.includes("r")).map(({ name, offset, latched }) => {
+    const port = board.serial.clone();
+    if (latched !== null) port.write(SERIAL.LCR.offset, latched ? DLAB : 0);
+    return [name, port.read(offset).byte];
+  });
+  return Object.fromEntries(shown);
 }

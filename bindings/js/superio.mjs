@@ -6,13 +6,16 @@
  * superio.d.ts says what each call does, takes and returns. Each makes the call of that name of superio.h, compiled to
  * WebAssembly, on a copy of the device's struct. A wrong argument throws an error that names it, and changes nothing.
  */
-import text, { ABI, CLOCK_SAVED_SIZE, CLOCK_SIZE, CLOCK_STRUCT, SAVED_STATE_ERRORS } from "./module.mjs";
+import text, { ABI, CLOCK_SAVED_SIZE, CLOCK_SIZE, CLOCK_STRUCT, PORT_FIELDS, SAVED_STATE_ERRORS } from "./module.mjs";
 import { RegisterError, clockOffset, serialOffset } from "./registers.mjs";
 
 export { RegisterError };
 
 const FIFO_SIZE = 64;
-const PORT_SIZE = 75;
+// A port's struct has its registers, the place of the oldest byte, how many bytes it holds, and the ring.
+const LINE_CONTROL = PORT_FIELDS.indexOf("lineControl");
+const [HEAD, COUNT, RING] = [0, 1, 2].map((place) => PORT_FIELDS.length + place);
+const PORT_SIZE = RING + FIFO_SIZE;
 // More bytes than this are refused as those are: a header gives a length of 16 bits.
 const LONGEST = 8 + 0xffff + 1;
 
@@ -93,14 +96,6 @@ function load(device, call, bytes) {
   const error = onDevice(device, call, DEVICE, PASSED, pass(bytes));
   if (error) throw new SavedStateError(Object.keys(SAVED_STATE_ERRORS)[error - 1]);
 }
-
-/**
- * The fields of a port's struct, each of one byte, in their order. Then come the place of the oldest byte and the
- * count.
- */
-const PORT_FIELDS = ["baudDivisorLow", "baudDivisorHigh", "interruptEnable", "interruptIdentification", "lineControl",
-  "lineStatus", "modemControl", "modemStatus", "scratch"];
-const [LINE_CONTROL, HEAD, COUNT, RING] = [4, 9, 10, 11];
 
 /** A 16550 serial port with a receive FIFO of 64 bytes. */
 export class Serial {

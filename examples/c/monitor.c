@@ -1,7 +1,8 @@
 /* SPDX-License-Identifier: Apache-2.0 OR BSD-3-Clause */
 /*
- * A monitor in small: a bus, an input loop, a refused interrupt, a clock with an alarm, a migration, and a reset. The
- * "guest" is the calls in main and in handle, and time is what main says.
+ * A monitor in small: a bus, an input loop, output that waits for its reader, a refused interrupt, a clock with an
+ * alarm, a migration, and a reset. The "guest" is the calls in main and in handle, and time is what main says. With
+ * threads, a lock around each function would do, since none of them waits.
  */
 #include <ctype.h>
 #include <stdio.h>
@@ -16,6 +17,10 @@ struct machine {
     superio_serial serial;
     superio_rtc clock;
     char input[128];     /* what has not gone to the guest yet */
+    uint8_t output[128]; /* what the guest has sent, and its reader has not taken yet */
+    size_t queued;       /* how many bytes of output there are */
+    size_t dropped;      /* how many bytes the guest has sent while there was no room */
+    bool reader_is_busy; /* the reader of the output takes nothing now */
     bool feeds_early;    /* input need not wait until the guest is ready: one that polls never says so */
     bool is_ready;       /* the guest has enabled the interrupt of received data, and no other test of its port */
     bool has_level;      /* the interrupt line is a level, and takes no edges */
@@ -39,7 +44,7 @@ static bool raise_interrupt(struct machine *machine) {
     return !machine->line_is_down;
 }
 
-/* A level: it is what the port says. A monitor calls KVM_IRQ_LINE with it. */
+/* A level: it is what the port says. A monitor calls KVM_IRQ_LINE with it, if it has changed. */
 static void set_level(struct machine *machine) {
     machine->is_interrupted = superio_serial_interrupt_line(&machine->serial);
 }
@@ -56,13 +61,9 @@ static void interrupt(struct machine *machine, unsigned times) {
     machine->was_refused |= times > 0;
 }
 
-/* What the event loop does in each turn: bytes that the guest left interrupt it again, and refusals are retried. */
-static void turn(struct machine *machine) {
-    unsigned times = superio_serial_character_timeout(&machine->serial);
-    if (machine->was_refused)
-        times = superio_serial_interrupts_due(&machine->serial); /* the timeout's interrupt among them */
-    machine->was_refused = false;
-    interrupt(machine, times);
+/* Prints a byte from the guest, which must not reach a terminal as it is: it could be part of an escape sequence. */
+static void print_output(uint8_t byte) {
+    printf(isprint(byte) && byte != '\\' ? "output: %c\n" : "output: \\x%02x\n", byte);
 }
 
 /* Offers the input once the guest is ready for it, and keeps what does not fit. */
@@ -76,9 +77,36 @@ static void feed(struct machine *machine) {
     interrupt(machine, done.interrupts);
 }
 
-/* Prints a byte from the guest, which must not reach a terminal as it is: it could be part of an escape sequence. */
-static void print_output(uint8_t byte) {
-    printf(isprint(byte) && byte != '\\' ? "output: %c\n" : "output: \\x%02x\n", byte);
+/* Passes the output on as far as its reader takes it. A monitor writes to a file that does not block. */
+static void flush_output(struct machine *machine) {
+    size_t count = machine->reader_is_busy ? 0 : machine->queued;
+    for (size_t i = 0; i < count; i++)
+        print_output(machine->output[i]);
+    machine->queued -= count;
+    memmove(machine->output, machine->output + count, machine->queued);
+}
+
+/* Sends a byte. To wait for the reader here would keep the lock from the input and the other accesses of the guest, and
+ * LSR cannot make the guest wait, since it always shows an empty transmitter. So what finds no room is dropped. */
+static void send_byte(struct machine *machine, uint8_t byte) {
+    if (machine->queued == sizeof machine->output)
+        flush_output(machine);
+    if (machine->queued < sizeof machine->output)
+        machine->output[machine->queued++] = byte;
+    else
+        machine->dropped++;
+    flush_output(machine);
+}
+
+/* What the event loop does in each turn, after the poll: output goes on, bytes that the guest left interrupt it again,
+ * and refusals are retried. */
+static void turn(struct machine *machine) {
+    flush_output(machine);
+    unsigned times = superio_serial_character_timeout(&machine->serial);
+    if (machine->was_refused)
+        times = superio_serial_interrupts_due(&machine->serial); /* the timeout's interrupt among them */
+    machine->was_refused = false;
+    interrupt(machine, times);
 }
 
 /* What follows each access of the clock: its line is a level, and a timer has to go off when the alarm is due. */
@@ -91,12 +119,13 @@ static void follow_clock(const struct machine *machine) {
         printf("alarm in %llu s\n", (unsigned long long)due);
 }
 
-/* Resets the machine: its devices are new. The time and the input that waits stay, until the new guest is ready. */
+/* Resets the machine: the port is new, and its line is set by it. The clock goes on, with its time, alarm, mask and
+ * status, as long as the machine has power. The input that waits stays too, until the new guest is ready. */
 static void reset(struct machine *machine) {
     puts("reset");
     machine->serial = superio_serial_new();
-    machine->clock = superio_rtc_new();
     machine->is_ready = machine->was_refused = machine->is_interrupted = false;
+    interrupt(machine, 0);
     follow_clock(machine);
 }
 
@@ -108,7 +137,7 @@ static void port_write(struct machine *machine, uint16_t port, uint8_t value) {
     } else if (port >= COM1 && port < COM1 + SUPERIO_SERIAL_PORTS) {
         superio_serial_write_effects done = superio_serial_write(&machine->serial, (uint8_t)(port - COM1), value);
         if (done.sends)
-            print_output(value);
+            send_byte(machine, value);
         interrupt(machine, done.interrupts);
         machine->is_ready |= (machine->serial.interrupt_enable & 0x03) == 0x01; /* RDA, and THRE not */
         if (port == COM1 + 1 || port == COM1 + 4) /* the guest may be ready now, or have left loopback */
@@ -147,7 +176,7 @@ static void alarm_is_due(struct machine *machine) {
     follow_clock(machine);
 }
 
-/* Moves the devices to another machine as saved bytes, with the input that waits beside them. */
+/* Moves the devices to another machine as saved bytes, with the input and the output that wait beside them. */
 static struct machine migrate(const struct machine *machine) {
     uint8_t serial[SUPERIO_SERIAL_SAVED_MAX], clock[SUPERIO_RTC_SAVED_SIZE];
     size_t count = superio_serial_save(&machine->serial, serial);
@@ -156,6 +185,8 @@ static struct machine migrate(const struct machine *machine) {
     other.is_ready = machine->is_ready;
     other.feeds_early = machine->feeds_early;
     strcpy(other.input, machine->input);
+    other.queued = machine->queued;
+    memcpy(other.output, machine->output, machine->queued);
     check(superio_serial_load(&other.serial, serial, count) == SUPERIO_LOAD_OK, "loading the serial port");
     check(superio_rtc_load(&other.clock, clock, sizeof clock) == SUPERIO_LOAD_OK, "loading the clock");
     printf("moved a clock, a port of %zu bytes, and %zu of input\n", count, strlen(other.input));
@@ -214,6 +245,10 @@ int main(void) {
     }
     printf("%d bytes received\n", received);
     port_write(&other, COM1, 0x1B); /* escape */
+    other.reader_is_busy = true;
+    for (int i = 0; i < 130; i++)
+        port_write(&other, COM1, '.');
+    printf("%zu bytes of output wait, and %zu were dropped\n", other.queued, other.dropped);
     printf("ports 0x61 and 0x400 read %02x and %02x, and the controller %02x\n", port_read(&other, 0x61),
            port_read(&other, COM1 + SUPERIO_SERIAL_PORTS), port_read(&other, 0x64));
     port_write(&other, SUPERIO_I8042_COMMAND_PORT, 0xFE);

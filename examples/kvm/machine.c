@@ -10,6 +10,7 @@ enum { CPUID_ENTRIES = 256, TSS_ADDRESS = 0xFFFBD000, PAGE = 4096 };
 int vm, vcpu;
 _Alignas(PAGE) uint8_t memory[MEMORY_SIZE];
 static struct kvm_run *run;
+static int line; /* the serial port's interrupt. KVM makes one edge of each write to this eventfd */
 
 static void add_memory(uint32_t slot, uint64_t start, uint64_t end) {
     struct kvm_userspace_memory_region region = {slot, 0, start, end - start, (uintptr_t)memory + start};
@@ -45,10 +46,17 @@ void machine_create(void) {
     KVM(vm, KVM_REINJECT_CONTROL, &(struct kvm_reinject_control){.pit_reinject = 0});
     add_memory(0, 0, CLOCK_BASE);
     add_memory(1, CLOCK_BASE + SUPERIO_RTC_WINDOW, MEMORY_SIZE);
+    line = must(eventfd(0, EFD_NONBLOCK | EFD_CLOEXEC), "the interrupt");
+    KVM(vm, KVM_IRQFD, &((struct kvm_irqfd){.fd = (uint32_t)line, .gsi = SERIAL_IRQ}));
     vcpu = KVM(vm, KVM_CREATE_VCPU, NULL);
     set_cpuid(kvm);
     run = mmap(NULL, (size_t)KVM(kvm, KVM_GET_VCPU_MMAP_SIZE, NULL), PROT_READ | PROT_WRITE, MAP_SHARED, vcpu, 0);
     must(run == MAP_FAILED ? -1 : 0, "the vCPU's exits");
+}
+
+/* Interrupts the guest for the serial port, by an edge. Returns false if that is refused. */
+bool machine_interrupt(void) {
+    return eventfd_write(line, 1) == 0;
 }
 
 /* A byte at a port. Of the ports from 0x60 to 0x64 the reset controller has the first and the last. Where no device is,

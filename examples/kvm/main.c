@@ -11,10 +11,12 @@ static const char USAGE[] =
     "Boots IMAGE if it is a bzImage of Linux, with the command line WORDS. Starts any other at 0x7C00 in real mode.\n"
     "With -e the guest gets input before it has enabled its interrupt, as one that polls needs it.\n"
     "Ctrl-A x leaves. Ctrl-A before any other key stands for that key.\n";
-enum { CTRL_A = 0x01 };
+enum { CTRL_A = 0x01, PATIENCE = 1000 /* milliseconds */ };
 
 pthread_mutex_t lock = PTHREAD_MUTEX_INITIALIZER;
 static struct termios before; /* the terminal's settings, if there is one */
+static int timer;             /* of the next turn of the event loop */
+static unsigned long dropped; /* bytes of output */
 
 /* The result of a call that has to succeed. */
 int must(int result, const char *what) {
@@ -31,7 +33,10 @@ static void restore_terminal(void) {
 /* The caller, of either thread, holds the lock and keeps it, so that the other one does nothing more. */
 void monitor_end(int status, const char *why) {
     restore_terminal();
-    warnx("%s", why);
+    if (dropped > 0)
+        warnx("%s; %lu bytes of output were dropped", why, dropped);
+    else
+        warnx("%s", why);
     _exit(status);
 }
 
@@ -53,15 +58,35 @@ static void open_terminal(void) {
     tcsetattr(STDIN_FILENO, TCSANOW, &raw);
 }
 
-/* Sends a byte, unless nobody reads any more. LSR always says that the transmitter is empty, so the guest is slowed
- * down only by waiting here, in its access. The event loop goes on meanwhile. */
-void monitor_send(uint8_t byte) {
+/* Writes a byte once the terminal has room, for which it waits so many milliseconds. Otherwise errno says why not. */
+static bool write_byte(uint8_t byte, int patience) {
     struct pollfd output = {STDOUT_FILENO, POLLOUT, 0};
+    do {
+        int ready = poll(&output, 1, patience);
+        if (ready > 0 && write(STDOUT_FILENO, &byte, 1) == 1)
+            return true;
+        if (ready == 0)
+            errno = ETIMEDOUT;
+    } while (errno == EAGAIN || errno == EINTR);
+    return false;
+}
+
+/* Sends a byte. The queue of output is the terminal's, in the host, and bounded. If it is full, the guest waits here,
+ * in its access, since LSR always shows an empty transmitter. It waits without the lock, so that the event loop goes
+ * on, and for a second at most: the reader may be a guest that waits for this one. After that, bytes are dropped until
+ * there is room. So is what a closed pipe or a full disk refuses. */
+void monitor_send(uint8_t byte) {
+    static bool is_stuck;
     pthread_mutex_unlock(&lock);
-    do
-        poll(&output, 1, -1);
-    while (write(STDOUT_FILENO, &byte, 1) < 0 && (errno == EAGAIN || errno == EINTR));
+    bool is_sent = write_byte(byte, is_stuck ? 0 : PATIENCE);
+    is_stuck = !is_sent && errno == ETIMEDOUT;
     pthread_mutex_lock(&lock);
+    dropped += !is_sent;
+}
+
+/* Has the event loop make a turn in 5 milliseconds. */
+void monitor_wake(void) {
+    timerfd_settime(timer, 0, &(struct itimerspec){.it_value.tv_nsec = 5000000}, NULL);
 }
 
 /* Reads what was typed, as far as there is room. Returns whether more may come. */
@@ -86,11 +111,12 @@ static bool serve_input(size_t room) {
 }
 
 /* The event loop. Input for which there is no room waits in the terminal. */
-static _Noreturn void run(int retry, int alarm) {
-    struct pollfd files[] = {{STDIN_FILENO, POLLIN, 0}, {retry, POLLIN, 0}, {alarm, POLLIN, 0}};
+static _Noreturn void run(int alarm) {
+    struct pollfd files[] = {{STDIN_FILENO, POLLIN, 0}, {timer, POLLIN, 0}, {alarm, POLLIN, 0}};
     for (bool is_open = true;;) {
+        uint64_t times;
         pthread_mutex_lock(&lock);
-        size_t room = serial_turn();
+        size_t room = serial_turn(read(timer, &times, sizeof times) > 0);
         clock_turn();
         pthread_mutex_unlock(&lock);
         files[0].fd = is_open && room > 0 ? STDIN_FILENO : -1;
@@ -111,10 +137,12 @@ int main(int count, char **words) {
         errx(1, "the library has another interface than the header");
     machine_create();
     boot(given[0], count > 1 ? given[1] : NULL, count > 2 ? given[2] : "console=ttyS0 reboot=k panic=1");
-    int retry = serial_open(is_early), alarm = clock_open();
+    serial_open(is_early);
+    timer = must(timerfd_create(CLOCK_MONOTONIC, TFD_NONBLOCK | TFD_CLOEXEC), "the timer of a turn");
+    int alarm = clock_open();
     signal(SIGPIPE, SIG_IGN);
     open_terminal();
     pthread_t thread;
     must(-(errno = pthread_create(&thread, NULL, machine_run, NULL)), "the vCPU's thread");
-    run(retry, alarm);
+    run(alarm);
 }

@@ -18,6 +18,7 @@
 #include <stdlib.h>
 #include <string.h>
 #include <superio.h>
+#include <sys/eventfd.h>
 #include <sys/ioctl.h>
 #include <sys/timerfd.h>
 #include <unistd.h>
@@ -31,19 +32,21 @@ extern pthread_mutex_t lock;
 int must(int result, const char *what);
 _Noreturn void monitor_end(int status, const char *why);
 void monitor_send(uint8_t byte);
+void monitor_wake(void);
 /* machine.c */
 extern int vm, vcpu;
 extern uint8_t memory[MEMORY_SIZE];
 void machine_create(void);
 void *machine_run(void *nothing);
+bool machine_interrupt(void);
 /* boot.c */
 void boot(const char *image, const char *initramfs, const char *words);
 /* serial.c */
-int serial_open(bool is_polled);
+void serial_open(bool is_polled);
 uint8_t serial_read(uint8_t offset);
 void serial_write(uint8_t offset, uint8_t value);
 void serial_type(const uint8_t *bytes, size_t count);
-size_t serial_turn(void);
+size_t serial_turn(bool is_woken);
 /* clock.c */
 int clock_open(void);
 void clock_access(uint64_t address, bool is_write, uint8_t *bytes, unsigned count);

@@ -1,31 +1,23 @@
 /* SPDX-License-Identifier: Apache-2.0 OR BSD-3-Clause */
 /* The serial port: its interrupt, its output, and the input that waits for room in its FIFO. IRQ 4 of a PC is triggered
- * by edges: so each interrupt that the port asks for is one edge, which KVM makes of a write to an eventfd. */
+ * by edges: so each interrupt that the port asks for is one edge. */
 #include "monitor.h"
-
-#include <sys/eventfd.h>
 
 enum { IER = 1, IIR = 2, MCR = 4, QUEUE_SIZE = 65536 };
 
 static superio_serial port;
-static int line, timer;           /* of the interrupt; of the next turn of the event loop */
 static bool is_refused;           /* a request */
 static bool takes_input;          /* the guest polls, or has enabled RDA and not THRE, as no test of the port does */
 static uint8_t input[QUEUE_SIZE]; /* of the user, until the port accepts it, the oldest first */
 static size_t waiting;            /* how much of it there is */
 
-/* Has the event loop make a turn in 5 milliseconds. */
-static void wake(void) {
-    timerfd_settime(timer, 0, &(struct itimerspec){.it_value.tv_nsec = 5000000}, NULL);
-}
-
 /* Carries out what a call of the port left to do, up to a refusal. */
 static void interrupt(unsigned times) {
-    while (times > 0 && eventfd_write(line, 1) == 0)
+    while (times > 0 && machine_interrupt())
         times--;
     is_refused |= times > 0;
     if (times > 0)
-        wake();
+        monitor_wake();
 }
 
 /* Offers the input, and keeps what the port does not accept: when input comes, when the guest has read the last byte of
@@ -35,7 +27,7 @@ static void feed(void) {
         return;
     superio_serial_enqueue_effects done = superio_serial_enqueue(&port, input, waiting);
     if (waiting == QUEUE_SIZE && done.accepted > 0)
-        wake();
+        monitor_wake();
     waiting -= done.accepted;
     memmove(input, input + done.accepted, waiting);
     interrupt(done.interrupts);
@@ -67,11 +59,10 @@ void serial_type(const uint8_t *bytes, size_t count) {
     feed();
 }
 
-/* In each turn of the event loop: asks again for what was refused, and for the bytes that the guest has left. Returns
- * for how much input there is room. */
-size_t serial_turn(void) {
-    uint64_t times;
-    if (read(timer, &times, sizeof times) > 0 && is_refused) {
+/* In each turn of the event loop, which `monitor_wake` may have asked for: asks again for what was refused, and for the
+ * bytes that the guest has left. Returns for how much input there is room. */
+size_t serial_turn(bool is_woken) {
+    if (is_woken && is_refused) {
         is_refused = false;
         interrupt(superio_serial_interrupts_due(&port));
     }
@@ -79,12 +70,7 @@ size_t serial_turn(void) {
     return QUEUE_SIZE - waiting;
 }
 
-/* Returns what is readable when a turn is due. */
-int serial_open(bool is_polled) {
+void serial_open(bool is_polled) {
     port = superio_serial_new();
     takes_input = is_polled;
-    line = must(eventfd(0, EFD_NONBLOCK | EFD_CLOEXEC), "the interrupt");
-    timer = must(timerfd_create(CLOCK_MONOTONIC, TFD_NONBLOCK | TFD_CLOEXEC), "the interrupt's timer");
-    KVM(vm, KVM_IRQFD, &((struct kvm_irqfd){.fd = (uint32_t)line, .gsi = SERIAL_IRQ}));
-    return timer;
 }

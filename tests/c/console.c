@@ -2,7 +2,7 @@
 /*
  * Guests that receive and send at once, over the C library and a monitor that follows superio.h. In each exchange all
  * bytes have to arrive, in order and in both directions, and no timer may be needed: once everything has come, only a
- * driver that reads IIR once gets further turns of the event loop. Monitors that break a rule, and drivers that cannot
+ * driver that reads IIR once, or never, gets further turns of the event loop. Monitors that break a rule, and drivers that cannot
  * work, have to stall in some exchanges: bytes are left, and no interrupt comes. The table ROWS has them all.
  *
  *     console SEED    another seed gives other exchanges
@@ -41,12 +41,16 @@ enum fault {
 /* What may end a stall: another received byte, the driver's IER once more, a retry, a turn of the event loop. */
 enum { BYTE = 1, IER_WRITE = 2, RETRY = 4, TURN = 8 };
 
+/* How a driver goes on: by interrupts alone; by these and turns of the event loop while bytes are held; or by both, and
+ * it sends by polling, without an interrupt. */
+enum way { ALONE, TURNS, TURNS_AND_POLLS };
+
 /* A driver with a monitor. */
 struct row {
     const char *name;
     void (*handle)(struct console *it); /* the driver's interrupt handler */
     enum fault fault;
-    bool needs_turns;                   /* the driver needs turns of the event loop while bytes are held */
+    enum way way;
     enum line first, last;              /* the lines that it is tried with */
     unsigned exchanges;
     unsigned ends;                      /* what ends its stalls, or 0 if it must not stall */
@@ -178,9 +182,17 @@ static void enable(struct console *it, uint8_t conditions) {
     it->enabled = conditions;
 }
 
-/* Has the port ask for bytes, if there are some and the transmitter may send. */
+/* Sends bytes until none is left, and enables no interrupt. */
+static void send_by_polling(struct console *it) {
+    while (!it->is_stopped && it->written < it->queued && in(it, LSR) & TRANSMITTER_EMPTY)
+        out(it, THR, byte_at(OUTPUT, it->written++));
+}
+
+/* Sends, or has the port ask for bytes, if there are some and the transmitter may send. */
 static void start(struct console *it) {
-    if (!it->is_stopped && it->written < it->queued)
+    if (it->row->way == TURNS_AND_POLLS)
+        send_by_polling(it);
+    else if (!it->is_stopped && it->written < it->queued)
         enable(it, RDA | THRE);
 }
 
@@ -278,6 +290,13 @@ static void handle_once(struct console *it) {
         serve(it);
 }
 
+/* As skiboot's, which never reads IIR, and so never ends THRE. It goes by LSR, reads out what it has room for, and sends
+ * what waits. */
+static void handle_by_lsr(struct console *it) {
+    read_out(it, 1 + draw(it, 20));
+    send_by_polling(it);
+}
+
 /* One that reads IIR at its end too. There it finds THRE, raised by the bytes that it sent, and so acknowledges it. A
  * 16550A does the same: a read of IIR ends THRE if IIR names it. */
 static void handle_and_acknowledge(struct console *it) {
@@ -316,7 +335,7 @@ static void carry_on(struct console *it) {
             turn(it);
         else
             act(it);
-        if (it->interrupts == 0 && is_over(it) && it->row->needs_turns)
+        if (it->interrupts == 0 && is_over(it) && it->row->way != ALONE)
             turn(it);
     }
 }
@@ -392,41 +411,45 @@ static void run_row(const struct row *row) {
 }
 
 static const struct row ROWS[] = {
-    {"Linux", handle_linux, NO_FAULT, false, SINGLE, LEVEL, 4000, 0},
-    {"Xen", handle_xen, NO_FAULT, false, SINGLE, LEVEL, 3000, 0},
-    {"IIR once", handle_once, NO_FAULT, true, SINGLE, LEVEL, 3000, 0},
+    {"Linux", handle_linux, NO_FAULT, ALONE, SINGLE, LEVEL, 4000, 0},
+    {"Xen", handle_xen, NO_FAULT, ALONE, SINGLE, LEVEL, 3000, 0},
+    {"IIR once", handle_once, NO_FAULT, TURNS, SINGLE, LEVEL, 3000, 0},
+    {"never IIR", handle_by_lsr, NO_FAULT, TURNS_AND_POLLS, SINGLE, LEVEL, 3000, 0},
+    {"never IIR, in turns", handle_by_lsr, ONLY_IN_TURNS, TURNS_AND_POLLS, SINGLE, LEVEL, 500, 0},
+    {"IIR once, in turns", handle_once, ONLY_IN_TURNS, TURNS, SINGLE, LEVEL, 500, 0},
 
     /* Received bytes are left. */
-    {"Linux, no timeout", handle_linux, NO_TIMEOUT, false, SINGLE, LEVEL, 3000, BYTE | IER_WRITE},
-    {"Xen, no timeout", handle_xen, NO_TIMEOUT, false, SINGLE, LEVEL, 500, BYTE | IER_WRITE},
-    {"IIR once, no timeout", handle_once, NO_TIMEOUT, true, SINGLE, LEVEL, 500, BYTE | IER_WRITE},
-    {"Linux, in turns", handle_linux, ONLY_IN_TURNS, false, SINGLE, LEVEL, 3000, BYTE | IER_WRITE | TURN},
-    {"Xen, in turns", handle_xen, ONLY_IN_TURNS, false, SINGLE, LEVEL, 500, BYTE | IER_WRITE | TURN},
+    {"Linux, no timeout", handle_linux, NO_TIMEOUT, ALONE, SINGLE, LEVEL, 3000, BYTE | IER_WRITE},
+    {"Xen, no timeout", handle_xen, NO_TIMEOUT, ALONE, SINGLE, LEVEL, 500, BYTE | IER_WRITE},
+    {"IIR once, no timeout", handle_once, NO_TIMEOUT, TURNS, SINGLE, LEVEL, 500, BYTE | IER_WRITE},
+    {"never IIR, no timeout", handle_by_lsr, NO_TIMEOUT, TURNS_AND_POLLS, SINGLE, LEVEL, 500, BYTE | IER_WRITE},
+    {"Linux, in turns", handle_linux, ONLY_IN_TURNS, ALONE, SINGLE, LEVEL, 3000, BYTE | IER_WRITE | TURN},
+    {"Xen, in turns", handle_xen, ONLY_IN_TURNS, ALONE, SINGLE, LEVEL, 500, BYTE | IER_WRITE | TURN},
 
     /* Bytes to send are left, whatever the monitor does. */
-    {"IIR at the end", handle_and_acknowledge, NO_FAULT, true, SINGLE, LEVEL, 500, BYTE | IER_WRITE},
+    {"IIR at the end", handle_and_acknowledge, NO_FAULT, TURNS, SINGLE, LEVEL, 500, BYTE | IER_WRITE},
 
     /*
      * Of the two interrupts of an IER write one is enough: both conditions are pending before it is raised, so the
      * handler finds both. Only a driver that serves one direction in each interrupt loses one by it. But such a driver
      * also stalls without a fault of the monitor, if the two are merged or the line is a level.
      */
-    {"Linux, second dropped", handle_linux, DROPS_SECOND, false, SINGLE, MERGED, 500, 0},
-    {"Xen, second dropped", handle_xen, DROPS_SECOND, false, SINGLE, MERGED, 500, 0},
-    {"IIR once, second dropped", handle_once, DROPS_SECOND, true, SINGLE, MERGED, 500, 0},
-    {"one direction", handle_one_direction, NO_FAULT, false, SINGLE, SINGLE, 500, 0},
-    {"one direction, second dropped", handle_one_direction, DROPS_SECOND, false, SINGLE, SINGLE, 2000, IER_WRITE},
-    {"one direction, merged", handle_one_direction, NO_FAULT, false, MERGED, LEVEL, 500, IER_WRITE},
+    {"Linux, second dropped", handle_linux, DROPS_SECOND, ALONE, SINGLE, MERGED, 500, 0},
+    {"Xen, second dropped", handle_xen, DROPS_SECOND, ALONE, SINGLE, MERGED, 500, 0},
+    {"IIR once, second dropped", handle_once, DROPS_SECOND, TURNS, SINGLE, MERGED, 500, 0},
+    {"one direction", handle_one_direction, NO_FAULT, ALONE, SINGLE, SINGLE, 500, 0},
+    {"one direction, second dropped", handle_one_direction, DROPS_SECOND, ALONE, SINGLE, SINGLE, 2000, IER_WRITE},
+    {"one direction, merged", handle_one_direction, NO_FAULT, ALONE, MERGED, LEVEL, 500, IER_WRITE},
 
     /* Both conditions are pending, so neither a byte nor an IER write raises one again. */
-    {"Linux, no retry", handle_linux, NO_RETRY, false, SINGLE, MERGED, 500, RETRY},
-    {"Xen, no retry", handle_xen, NO_RETRY, false, SINGLE, MERGED, 500, RETRY},
-    {"IIR once, no retry", handle_once, NO_RETRY, true, SINGLE, MERGED, 500, RETRY},
+    {"Linux, no retry", handle_linux, NO_RETRY, ALONE, SINGLE, MERGED, 500, RETRY},
+    {"Xen, no retry", handle_xen, NO_RETRY, ALONE, SINGLE, MERGED, 500, RETRY},
+    {"IIR once, no retry", handle_once, NO_RETRY, TURNS, SINGLE, MERGED, 500, RETRY},
 
     /* THRE is pending. A handler that reads IIR until nothing is pending finds it without an interrupt. */
-    {"Linux, none after THR", handle_linux, DROPS_AFTER_THR, false, SINGLE, MERGED, 500, 0},
-    {"Xen, none after THR", handle_xen, DROPS_AFTER_THR, false, SINGLE, MERGED, 500, 0},
-    {"IIR once, none after THR", handle_once, DROPS_AFTER_THR, true, SINGLE, MERGED, 500, BYTE | RETRY},
+    {"Linux, none after THR", handle_linux, DROPS_AFTER_THR, ALONE, SINGLE, MERGED, 500, 0},
+    {"Xen, none after THR", handle_xen, DROPS_AFTER_THR, ALONE, SINGLE, MERGED, 500, 0},
+    {"IIR once, none after THR", handle_once, DROPS_AFTER_THR, TURNS, SINGLE, MERGED, 500, BYTE | RETRY},
 };
 
 int main(int count, char **arguments) {

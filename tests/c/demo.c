@@ -64,6 +64,10 @@ static void carry_out(const char *word) {
     else if (IS("turn")) turn(&machine);
     else if (IS("down")) machine.line_is_down = true;
     else if (IS("up")) machine.line_is_down = false;
+    else if (IS("busy")) machine.reader_is_busy = true;
+    else if (IS("ready")) machine.reader_is_busy = false;
+    else if (IS("send")) while (first-- > 0) port_write(&machine, COM1, (uint8_t)second);
+    else if (IS("dropped")) printf("%zu\n", machine.dropped);
     else if (IS("time")) machine.now = first;
     else if (IS("alarm")) alarm_is_due(&machine);
     else if (IS("move")) machine = migrate(&machine);
@@ -71,7 +75,22 @@ static void carry_out(const char *word) {
     if (machine.has_level && !IS("level")) printf("level %d\n", machine.is_interrupted);
 }
 
-/* Carries out a line, and joins what the monitor prints for it. */
+/* Joins what the monitor prints. What it prints again and again stands once, with its number. */
+static void join(char *joined) {
+    const char *last = "";
+    int number = 1;
+    for (char *part = strtok(said, "\n"); part || number > 1; part = part ? strtok(NULL, "\n") : NULL) {
+        bool is_again = part && strcmp(part, last) == 0;
+        if (!is_again && number > 1)
+            sprintf(joined + strlen(joined), " x%d", number);
+        if (!is_again && part)
+            sprintf(joined + strlen(joined), "%s%s", *joined ? "; " : "", part);
+        number = is_again ? number + 1 : 1;
+        last = part ? part : "";
+    }
+}
+
+/* Carries out a line. */
 static void follow(const char *line, char *joined) {
     char word[16] = "";
     first = second = 0;
@@ -79,8 +98,7 @@ static void follow(const char *line, char *joined) {
     sscanf(line, "%15s %llx %llx", word, &first, &second);
     if (setjmp(ended) == 0)
         carry_out(word);
-    for (char *part = strtok(said, "\n"); part; part = strtok(NULL, "\n"))
-        strcat(strcat(joined, *joined ? "; " : ""), part);
+    join(joined);
 }
 
 #undef printf

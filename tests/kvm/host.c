@@ -30,6 +30,7 @@ static jmp_buf end_of_exit;
 static long takes = 1 << 30;   /* requests of the interrupt */
 static bool has_room;          /* the terminal, as the monitor knows it */
 static long error;             /* of the next write to it */
+static bool hangs;             /* the reader of the terminal takes nothing */
 static int timers[CLOCKS];
 static int64_t due[CLOCKS];    /* in nanoseconds, or 0 */
 static int64_t now[CLOCKS] = {
@@ -180,6 +181,8 @@ static void serve_line(void) {
     case 'k': raise((int)number); break;
     case 'a': takes = number; break;
     case 'f': error = number; break;
+    case 'h': hangs = true; break;
+    case 'g': hangs = false; break;
     case 'b': now[CLOCK_REALTIME] -= number * SECOND; break;
     case 'w': now[CLOCK_MONOTONIC] += number * 1000000; /* fallthrough */
     case 'n':
@@ -191,12 +194,19 @@ static void serve_line(void) {
 }
 
 int __wrap_poll(struct pollfd *files, nfds_t count, int timeout) {
-    static bool is_again;
+    static bool is_again, is_terminal_again;
     int ready;
     need_lock(false);
-    if (files->fd == STDOUT_FILENO)
-        return has_room = true;
     errno = EINTR;
+    if (files->fd == STDOUT_FILENO) {
+        is_terminal_again = !is_terminal_again;
+        if (is_terminal_again)
+            return -1;
+        has_room = !hangs;
+        if (hangs)
+            SEE("  waits %d", timeout);
+        return has_room;
+    }
     is_again = !is_again;
     if (is_again || timeout >= 0)
         return -1;

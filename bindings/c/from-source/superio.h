@@ -22,10 +22,11 @@
  *     superio_serial_write_effects written =
  *         superio_serial_write(&port, offset, value);
  *     if (written.sends)
- *         send(value);
+ *         queue_output(value); // never waits
  *     interrupt(written.interrupts);
- *     if (offset == 4) // MCR: loopback may have ended
- *         offer_input();
+ *     is_ready = is_ready || (port.interrupt_enable & 3) == 1;
+ *     if (offset == 1 || offset == 4) // IER: the guest may be ready for input
+ *         offer_input();              // MCR: loopback may have ended
  *
  *     // The guest reads.
  *     superio_serial_read_effects read = superio_serial_read(&port, offset);
@@ -34,8 +35,26 @@
  *     if (offset == 2 && read.byte & 0x01) // IIR: nothing is pending
  *         interrupt(superio_serial_character_timeout(&port));
  *
- *     // Your event loop makes a turn.
+ *     // Your event loop makes a turn: its poll has returned.
+ *     lock();
+ *     write_output(); // as much as its reader takes now
+ *     read_input();   // as much as the queue has room for
+ *     offer_input();
  *     interrupt(superio_serial_character_timeout(&port));
+ *     unlock();
+ *
+ *     // The guest resets the machine. The clock goes on.
+ *     port = superio_serial_new();
+ *     is_ready = false;
+ *     interrupt(0);
+ *
+ *     // What `offer_input` does.
+ *     if (is_ready) {
+ *         superio_serial_enqueue_effects offered =
+ *             superio_serial_enqueue(&port, input, count);
+ *         remove_input(offered.accepted);
+ *         interrupt(offered.interrupts);
+ *     }
  *
  *     // What `interrupt` does.
  *     for (int i = 0; i < times; i++) {
@@ -44,6 +63,8 @@
  *             break;
  *         }
  *     }
+ *
+ * The section "Around the calls" explains what is not a call here.
  *
  * Rules
  * -----
@@ -61,6 +82,60 @@
  *   To write a device to a file or send it to another machine, save it. A
  *   saved device has a version, is the same on every machine, and holds no
  *   byte that the guest has read. A copy may hold such bytes.
+ *
+ * Around the calls
+ * ----------------
+ *
+ * Accesses. A serial port takes one byte: split a wider access into bytes, the
+ * lowest port first. The clock takes four bytes: answer a narrower read from
+ * the four bytes around it, and ignore a narrower write.
+ *
+ * Input. A driver tests the port before it uses it, and throws away what it
+ * finds in the FIFO. So keep input in a queue of your own until the guest is
+ * ready: until IER enables RDA and not THRE, as no driver's test of a port
+ * does. From then on it stays ready, whatever it enables, until the machine is
+ * reset. A guest that polls, such as a boot loader, never gets ready in this
+ * way: have an option that offers input to it at once. Bound the queue, and do
+ * not read from its source while it is full.
+ *
+ * Offer input at the moments that the sketch shows and at no others: once when
+ * it arrives, once when the guest becomes ready, has read the last byte or may
+ * have left loopback. Do not offer in a loop, since the guest need not read.
+ *
+ * Output. Sending a byte must not wait for its reader, neither in the event
+ * loop nor under the lock that input needs. Otherwise two monitors that are
+ * connected to each other may stand still for ever, each in a send that waits
+ * until the other one reads. Keep a bounded queue, from which the event loop
+ * writes to a file that does not block. LSR always shows an empty transmitter,
+ * so no guest waits by itself until there is room. When the queue is full,
+ * either drop the byte and count it, or hold the guest in its access: without
+ * the lock, for a limited time, and after that drop the byte.
+ *
+ * Turns. A turn of the event loop comes after each return of its poll, and is
+ * made under the port's lock. If the guest's handler runs meanwhile, the turn's
+ * character timeout may interrupt it once more than there is work for. Linux
+ * counts such an interrupt as unhandled, and goes on.
+ *
+ * A line that takes levels. Set it after every call on the port, also after
+ * `new` and a load: the port before it may have left the line up. Call your
+ * interrupt controller only when the level changes, since some take each call
+ * for an interrupt. After a reset of the controller, call it once more.
+ *
+ *     // In place of `interrupt`.
+ *     bool is_up = superio_serial_interrupt_line(&port);
+ *     if (is_up != was_up)
+ *         set_line(is_up);
+ *     was_up = is_up;
+ *
+ * A reset of the machine. Make the port anew, and do not keep requests for
+ * refused interrupts. Keep the input and the output that wait. Keep the clock
+ * as it is, with its time, alarm, mask and status: a guest expects its clock to
+ * go on until the power is off. The reset controller has no state. A port that
+ * is not made anew may look to a firmware as if there were none.
+ *
+ * Break. The port has none. A guest that sends a break, by bit 0x40 of LCR,
+ * sends nothing, and no call gives it one: ignore a break of your terminal, and
+ * do not enqueue a zero for it.
  *
  * What the object code lacks
  * --------------------------
@@ -226,7 +301,8 @@ typedef struct superio_serial_enqueue_effects {
 
 /*
  * A fresh port: divisor 12, 8 bits a character, OUT2 set, and nothing enabled,
- * pending or held.
+ * pending or held. Make one for each machine, and at each reset of it. If your
+ * interrupt controller takes levels, set the line: it is down now.
  */
 superio_serial superio_serial_new(void) SUPERIO_MUST_USE;
 
@@ -246,10 +322,10 @@ superio_serial_read_effects superio_serial_read(superio_serial *port,
  * The guest writes `value` at `offset`. Afterwards do two things, in this
  * order:
  *
- * 1. If `sends` is true, send the value and flush. Report the event of the
- *    byte yourself: out_byte if both succeed, and tx_lost_byte if either
- *    fails. The port is the same either way, and the second step follows
- *    either way.
+ * 1. If `sends` is true, send the value, without waiting for its reader. If
+ *    you report events, report that of the byte: out_byte if it is sent, and
+ *    tx_lost_byte if it is lost. The port is the same either way, and the
+ *    second step follows either way.
  * 2. Ask for the interrupt as often as `interrupts` says. Stop at the first
  *    refusal, such as a write to an eventfd that fails. You need not report a
  *    refusal: the port is the same either way.
@@ -408,7 +484,10 @@ typedef struct superio_rtc_write_effects {
     bool invalid_write; /* event: this offset takes no write */
 } superio_rtc_write_effects;
 
-/* A fresh clock: guest time is the host's, and no alarm is set. */
+/*
+ * A fresh clock: guest time is the host's, and no alarm is set. Make one for
+ * each machine. It goes on over a reset of the machine, as it is.
+ */
 superio_rtc superio_rtc_new(void) SUPERIO_MUST_USE;
 
 /*
@@ -422,6 +501,10 @@ superio_rtc_read_effects superio_rtc_read(superio_rtc *clock, uint16_t offset,
 /*
  * The guest writes `value`, as four bytes, lowest first, at `offset`, at the
  * moment `now`.
+ *
+ * A write of 1 at 0x00C (RTCCR) sets guest time to the host's. Linux and U-Boot
+ * make it whenever they start, and a PL031 that runs ignores it: to keep a time
+ * that the guest set, do not pass on writes at 0x00C.
  */
 superio_rtc_write_effects superio_rtc_write(superio_rtc *clock, uint16_t offset,
                                             uint32_t value, uint64_t now)

@@ -78,6 +78,8 @@ class Register(NamedTuple):
     """Whether it is reached while DLAB is set (`True`), while it is clear (`False`), or always (`None`)."""
     access: str = "rw"
     """`r`: only a read reaches it, `w`: only a write does, `rw`: both do."""
+    ignored: bool = False
+    """Whether a write that reaches it is ignored: it succeeds, and changes nothing."""
 
 
 _IER_BITS = ((0x01, "RDA"), (0x02, "THRE"), (0x04, "RLS"), (0x08, "MS"))
@@ -95,11 +97,11 @@ SERIAL: Dict[str, Register] = {register.name: register for register in (
     Register("IER", 1, "interrupt enable", _IER_BITS, False),
     Register("DLM", 1, "divisor latch, high byte", (), True),
     Register("IIR", 2, "interrupt identification: a read acknowledges", _IIR_BITS, None, "r"),
-    Register("FCR", 2, "FIFO control: a write is ignored", (), None, "w"),
+    Register("FCR", 2, "FIFO control: a write is ignored", (), None, "w", True),
     Register("LCR", 3, "line control", _LCR_BITS),
     Register("MCR", 4, "modem control", _MCR_BITS),
-    Register("LSR", 5, "line status", _LSR_BITS),
-    Register("MSR", 6, "modem status", _MSR_BITS),
+    Register("LSR", 5, "line status", _LSR_BITS, ignored=True),
+    Register("MSR", 6, "modem status", _MSR_BITS, ignored=True),
     Register("SCR", 7, "scratch"),
 )}
 """The registers of the serial port by name."""

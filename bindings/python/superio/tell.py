@@ -16,8 +16,8 @@ CONDITIONS = bits_by_name(SERIAL["IIR"])
 ENABLES = bits_by_name(SERIAL["IER"])
 """The bit of IER that enables each condition."""
 
-# The registers in the order in which a call changes them, and the width of each as it is shown.
-_CHANGED = ("IER", "LCR", "MCR", "LSR", "MSR", "SCR", "DLL", "DLM", "IIR")
+# The registers that a port keeps, with IIR last, as a call changes it last, and the width of each as it is shown.
+_CHANGED = sorted(FIELDS, key="IIR".__eq__)
 _COMPARED = [*((SERIAL[name], 4) for name in _CHANGED), *((CLOCK[name], 10) for name in CLOCK_KEPT)]
 
 _ACKNOWLEDGED_BY = {"RDA": "A read of IIR or of RBR acknowledges it.", "THRE": "A read of IIR acknowledges it."}
@@ -81,7 +81,7 @@ def _read(call: Call) -> str:
 def _serial_write(call: Call) -> str:
     sent = quoted(bytes(call.command.values[1:]))
     text = "ok"
-    if call.register is None or call.register.name in ("FCR", "LSR", "MSR"):
+    if call.register is None or call.register.ignored:
         text = "ignored"
     elif call.is_lost:
         text = f"{sent} lost: the output is full, with {OUTPUT_SIZE} bytes"
@@ -152,7 +152,8 @@ def registers(board: Snapshot) -> List[str]:
     """The registers of the serial port as a guest reads them, the FIFO, and what is pending, below a heading."""
     state, port = board.serial, Serial.from_state(board.serial)
     rows = ["serial port", _row(SERIAL["IER"], state.interrupt_enable)]
-    rows.extend(_row(SERIAL[name], port.read(name).byte) for name in ("IIR", "LCR", "MCR", "LSR", "MSR", "SCR"))
+    rows.extend(_row(register, port.read(register.offset).byte) for register in SERIAL.values()
+                if register.latched is None and "r" in register.access)
     divisor = state.baud_divisor_high << 8 | state.baud_divisor_low
     rows.append(f"  divisor {divisor}, FIFO {len(state.in_buffer)} of {FIFO_SIZE}")
     if state.in_buffer:

@@ -16,7 +16,7 @@ from unittest import mock
 from support import ENVIRONMENT, ROOT, TIMEOUT, FolderTest, ended, run
 
 import superio
-from superio import Rtc, RtcState, Serial, SerialState
+from superio import Rtc, RtcState, Serial, SerialState, registers
 
 TOP = ROOT / "superio"
 EXAMPLE = ROOT / "examples" / "three_devices.script"
@@ -27,7 +27,7 @@ NOWHERE = "/nowhere/at/all: No such file or directory\n"
 RUNS = [
     ([], b"# comment\nkr 04\nread XYZ\nkr 04\n",
      (1, "00\n", '<stdin>:3: "read XYZ": XYZ is no offset, and no register: '
-                 "those are RBR THR DLL IER DLM IIR FCR LCR MCR LSR MSR SCR\n")),
+                 f"those are {' '.join(registers.SERIAL)}\n")),
     ([], b"\xff\x1b\n", (1, "", '<stdin>:1: "\\xff\\x1b": no command is called \\xff\\x1b: help lists them\n')),
     ([], b"\n   # indented\n  kr 04  \t\r\nread LSR\r\n\r\nkr 04", (0, "00\nLSR = 0x60  THRE TEMT\n00\n", "")),
     ([], b"# " + b"x" * 200_000 + b"\nkr 04\nkr", (1, "00\n", '<stdin>:3: "kr": the syntax is: kr OO\n')),

@@ -9,7 +9,7 @@ use std::collections::VecDeque;
 use std::io::{self, BufRead, Write};
 
 use vm_superio::serial::timeout::CharacterTimeout;
-use vm_superio::serial::{Error, NoEvents};
+use vm_superio::serial::NoEvents;
 use vm_superio::{Serial, Trigger};
 
 const DATA: u8 = 0;
@@ -19,6 +19,9 @@ const MODEM_CONTROL: u8 = 4;
 const LINE_STATUS: u8 = 5;
 
 const FIFO_SIZE: usize = 64;
+
+/// How many bytes of the guest's output wait at most.
+const OUTPUT_SIZE: usize = 4096;
 
 /// How many bytes the guest's driver reads out at an interrupt. It leaves the others to the next one, as many do.
 const MOST: usize = 16;
@@ -36,17 +39,39 @@ impl Trigger for Line {
     }
 }
 
+/// What the guest has sent and its reader has not taken yet. The port never writes to the reader itself: one that is
+/// slow would keep the guest in its access, and with the port's lock keep input from it. LSR cannot make the guest wait,
+/// since it always shows an empty transmitter, so bytes for which there is no room are dropped and counted.
+#[derive(Default)]
+pub struct Output {
+    waiting: VecDeque<u8>,
+    pub dropped: u64,
+}
+
+impl Write for Output {
+    fn write(&mut self, bytes: &[u8]) -> io::Result<usize> {
+        let kept = bytes.len().min(OUTPUT_SIZE - self.waiting.len());
+        self.waiting.extend(&bytes[..kept]);
+        self.dropped += (bytes.len() - kept) as u64;
+        Ok(bytes.len())
+    }
+
+    fn flush(&mut self) -> io::Result<()> {
+        Ok(())
+    }
+}
+
 /// The monitor: the port with its interrupt line and its output, input that the FIFO had no room for yet, and whether
 /// to ask for a refused interrupt again.
-pub struct Machine<L: Trigger, W: Write> {
-    pub port: Serial<L, NoEvents, W>,
+pub struct Machine<L: Trigger> {
+    pub port: Serial<L, NoEvents, Output>,
     waiting: VecDeque<u8>,
     must_retry: bool,
 }
 
-impl<L: Trigger, W: Write> Machine<L, W> {
-    pub fn new(line: L, output: W) -> Self {
-        Machine { port: Serial::new(line, output), waiting: VecDeque::new(), must_retry: false }
+impl<L: Trigger> Machine<L> {
+    pub fn new(line: L) -> Self {
+        Machine { port: Serial::new(line, Output::default()), waiting: VecDeque::new(), must_retry: false }
     }
 
     /// Offers the input that waits, once: a guest need not read, and in loopback the port accepts nothing. The port
@@ -72,16 +97,13 @@ impl<L: Trigger, W: Write> Machine<L, W> {
         value // the guest has read it, whatever the line answered
     }
 
-    /// The guest writes a register. A write to MCR may have ended loopback.
-    pub fn write(&mut self, offset: u8, value: u8) -> io::Result<()> {
-        match self.port.write(offset, value) {
-            Err(Error::IOError(fault)) => return Err(fault),
-            written => self.must_retry |= written.is_err(),
-        }
+    /// The guest writes a register. Only the line can refuse, since the output takes every byte. A write to MCR may
+    /// have ended loopback.
+    pub fn write(&mut self, offset: u8, value: u8) {
+        self.must_retry |= self.port.write(offset, value).is_err();
         if offset == MODEM_CONTROL {
             self.offer();
         }
-        Ok(())
     }
 
     /// A turn of the event loop, with the input that has arrived. A monitor bounds what waits.
@@ -92,28 +114,43 @@ impl<L: Trigger, W: Write> Machine<L, W> {
         self.must_retry |= self.port.character_timeout().is_err();
     }
 
+    /// Passes output on as far as the reader takes it. One that does not block may take nothing now.
+    pub fn drain(&mut self, reader: &mut impl Write) -> io::Result<()> {
+        let output = &mut self.port.writer_mut().waiting;
+        while !output.is_empty() {
+            match reader.write(output.make_contiguous()) {
+                Ok(0) => return Err(io::ErrorKind::WriteZero.into()),
+                Ok(count) => drop(output.drain(..count)),
+                Err(fault) if fault.kind() == io::ErrorKind::WouldBlock => break,
+                Err(fault) if fault.kind() == io::ErrorKind::Interrupted => {}
+                Err(fault) => return Err(fault),
+            }
+        }
+        Ok(())
+    }
+
     /// The guest's interrupt handler, as drivers of a 16550 have it.
-    pub fn handle_interrupt(&mut self) -> io::Result<()> {
+    pub fn handle_interrupt(&mut self) {
         while self.read(INTERRUPT_IDENTIFICATION) & 1 == 0 {
             for _ in 0..MOST {
                 if self.read(LINE_STATUS) & 1 == 0 {
                     break;
                 }
                 let byte = self.read(DATA).to_ascii_uppercase();
-                self.write(DATA, byte)?;
+                self.write(DATA, byte);
             }
         }
-        Ok(())
     }
 }
 
 fn main() -> io::Result<()> {
-    let mut machine = Machine::new(Line::default(), io::stdout());
-    machine.write(INTERRUPT_ENABLE, 0x01)?; // the guest's driver starts
+    let mut machine = Machine::new(Line::default());
+    machine.write(INTERRUPT_ENABLE, 0x01); // the guest's driver starts
     for typed in io::stdin().lock().lines() {
         machine.input(format!("{}\n", typed?).as_bytes());
         while machine.port.interrupt_evt().0.replace(false) {
-            machine.handle_interrupt()?;
+            machine.handle_interrupt();
+            machine.drain(&mut io::stdout())?; // no lock is held here, so this may block
         }
     }
     Ok(())

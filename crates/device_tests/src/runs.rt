@@ -85,7 +85,7 @@ fn call_of<W>(
     })
 }
 
-/// Runs the calls of these rows, one of which may be a restore with another writer.
+/// Runs the calls of these rows. A row may restore the port over another writer.
 fn records<W: io::Write + Drop>(
     alloc: Global,
     port: &mut TestSerial<W>,

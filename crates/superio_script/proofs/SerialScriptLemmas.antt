@@ -240,7 +240,7 @@ module _ (steps : StepLaw) (calls : CallLaw) {op : Op} {asked : Asked} {sent : S
     printed = [];
     short = omega arith;
     replied = ap response_reply agreed.response ∙ ap (entry_reply trace) entry-is ∙ sym (replies (outcome_in sent));
-    after = subst (λ trace. IsAfter mask trace new) (sym (leads (outcome_in sent))) (subst (λ entry. IsAfter mask (entry ∷ trace) new) entry-is call-after);
+    after = rw (leads, ← entry-is) call-after;
   }
 
 -- a line that sends no byte, and prints nothing that is left open

@@ -1,7 +1,7 @@
 // SPDX-License-Identifier: Apache-2.0 OR BSD-3-Clause
 //! The laws over the definitions. Each function does nothing: its contract is the law.
 //!
-//! Most need no object, and stand in `superio_laws`, which says what a step and the history are.
+//! Laws that need no object stand in `superio_laws`, whose head explains the terms.
 ghost use Rattle.vm_superio.specs.Links.Writer.{KnownOutputLaw};
 
 pub mod saved;

@@ -1,8 +1,8 @@
 -- SPDX-License-Identifier: Apache-2.0 OR BSD-3-Clause
 -- Worked examples of words that contracts only assume, or bound by, since with a wrong one they would say less.
-use Rattle.std.proofs.Common.{◌≡◌, ℕ, true, false, [], ◌∷◌, ◌++◌, replicate, refl, sym, subst, ap, ◌∙◌, arith, Ok, append-nil}
+use Rattle.std.proofs.Common.{◌≡◌, ℕ, [], ◌∷◌, ◌++◌, replicate, refl, sym, subst, ap, ◌∙◌, arith, Ok, append-nil}
 use Rattle.std.proofs.lemmas.Bool.{false≢true}
-use Rattle.vm_superio.specs.Serial.{Asked, Sent, State, fresh_state, SerialView, Memory, Read, Write, conditions_due, step, is_dlab, is_loopback, has_bits}
+use Rattle.vm_superio.specs.Serial.{Asked, Sent, State, fresh_state, SerialView, Memory, Write, conditions_due, step, is_dlab, is_loopback, has_bits}
 use Rattle.vm_superio.specs.Claims.{is_fresh, dlab_clear, not_in_loopback, in_loopback, ier_zero}
 use Rattle.vm_superio.specs.Links.{Link, TriggerAnswer, all_ok}
 use Rattle.vm_superio.specs.Serial.Run.{Act, Call, Done, Reply, Byte, Wrote, Restored, NotRestored, entry_of, without_restores}
@@ -11,7 +11,6 @@ use Rattle.vm_superio.specs.Serial.Run.Steps.{by_steps}
 use Rattle.vm_superio.specs.Links.Writer.{SerialLinks, WriterLink}
 use Rattle.vm_superio.specs.declared.serial.errors.Refused.{Refused}
 use Rattle.vm_superio.specs.Serial.Step.{RefusesRestore}
-use Rattle.superio_laws.specs.Rtc.{read}
 
 -- ---- the calls by which the reads of a run are determined
 

@@ -3,7 +3,7 @@
 use Rattle.std.specs.Prelude.{◌≡◌, ℕ, not, List, [], ◌∷◌, IsTrue}
 use Rattle.std.specs.List.{list_all}
 use Rattle.std.specs.Io.KnownBytes.{Appends}
-use Rattle.vm_superio.specs.Serial.{Sent, Op, Write, Event, is_lost}
+use Rattle.vm_superio.specs.Serial.{Sent, Event, is_lost}
 use Rattle.vm_superio.specs.Links.{Link, TriggerAnswer, Contents}
 
 -- what the types of a port's trigger, events object and writer state

@@ -1,8 +1,8 @@
 -- SPDX-License-Identifier: Apache-2.0 OR BSD-3-Clause
 -- The step of the registers, with THRE taken back if the first of two calls was refused.
-use Rattle.std.proofs.Common.{rules, refl, ap, ◌∙◌}
+use Rattle.std.proofs.Common.{rules, ap, ◌∙◌}
 use Rattle.vm_superio.specs.Serial.{state_with, write_step}
-use Rattle.superio_core.proofs.Lemmas.Serial.FirstRefused.{write_step-settled}
+use Rattle.superio_core.proofs.Lemmas.Serial.FirstRefused.{settled, write_step-settled}
 use Rattle.vm_superio.proofs.serial.Serial.write_for_run.Goals as goal
 
 pub returns : goal.returns
@@ -18,8 +18,9 @@ returns g c =
       refused = search rules;
       state =
           ap (λ registers. state_with registers effects.new.fifo) c.cancel_thre.ensures.registers
-          ∙ write_step-settled c.decode-register.result value effects.result.interrupts asked before effects.new.self
-          effects.new.fifo _ refl effects.ensures.interrupts effects.ensures.state
+          ∙ ap (λ due. settled due asked (state_with effects.new.self effects.new.fifo)) effects.ensures.interrupts
+          ∙ ap (settled _ asked) effects.ensures.state
+          ∙ write_step-settled c.decode-register.result value asked before
           ∙ ap (λ register. write_step register value asked before) c.decode-register.ensures;
       trigger = search rules;
       events = search rules;
