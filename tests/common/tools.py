@@ -1,6 +1,7 @@
 # SPDX-License-Identifier: Apache-2.0 OR BSD-3-Clause
 """What tests need of a machine, and the packages of Debian 12 that have it. As a program it prints the packages of all
 that is missing, but for the kit, which is no package; those of another architecture end with its name."""
+import os
 import shutil
 import subprocess
 from functools import lru_cache
@@ -40,15 +41,19 @@ TOOLS = {
             "/usr/arm-linux-gnueabihf/lib/libc.a": "libc6-dev-armhf-cross", "/usr/bin/rustc": "rustc",
             "/usr/lib/rustlib/armv7-unknown-linux-gnueabihf/lib/libcore-*": "libstd-rust-dev:armhf"},
 }
-# What no package of Debian 12 has: tests of it run where it is there.
-PLACES = {"KVM": "/dev/kvm", "Deno": "deno"}
+# What no package of Debian 12 has: tests of it run where that is there.
+PLACES = {"KVM": "import fcntl, os; fcntl.ioctl(fcntl.ioctl(os.open('/dev/kvm', os.O_RDWR), 0xAE01), 0xAE60)",
+          "Deno": "deno", "Linux on x86-64": "/lib64/ld-linux-x86-64.so.2",
+          "folder VM_SUPERIO of vm-superio 0.8.2": "$VM_SUPERIO"}
 
 
 @lru_cache(maxsize=None)
 def is_there(what):
-    """Whether a command, a file, or what a line of Python imports is there."""
+    """Whether a command, a file, a variable of the environment, or what a line of Python imports is there."""
     if what.startswith("import "):
         return subprocess.run(["/usr/bin/python3", "-c", what], capture_output=True).returncode == 0
+    if what.startswith("$"):
+        return what[1:] in os.environ
     return bool(glob(what)) if what.startswith("/") else shutil.which(what) is not None
 
 

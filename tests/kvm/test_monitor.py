@@ -1,0 +1,82 @@
+# SPDX-License-Identifier: Apache-2.0 OR BSD-3-Clause
+"""The monitor of examples/kvm.
+
+Over host.c, a host that is a script in place of KVM, it does what scripts.txt says, and sanitizers find nothing. Under
+KVM guest.S echoes a paste of 100,000 bytes by interrupts, although it takes at most 256 bytes for an interrupt; sleeps
+until an alarm; echoes what came meanwhile; and resets the machine.
+"""
+import difflib
+import random
+import re
+
+import pytest
+from harness import at_least, check, run
+from monitors import HERE, WRAPPED, build_monitor
+
+pytestmark = [pytest.mark.needs("cc", "make"), pytest.mark.where("Linux on x86-64")]
+
+# How many bytes are pasted, and commands of the guest.
+PASTED, AWAIT_ALARM, RESET = 100_000, "\x14", "\x04"
+TEXT = re.sub("^#.*\n", "", (HERE / "scripts.txt").read_text(encoding="ascii"), flags=re.M)
+SCRIPTS = at_least(11, re.split("\n\n+", TEXT.strip("\n")))
+
+
+def test_number_of_lines():
+    assert sum(script.count("\n") for script in SCRIPTS) >= 232
+    assert len(WRAPPED) >= 11
+
+
+@pytest.fixture(scope="module")
+def over_host(tmp_path_factory):
+    """The folder of the monitor over host.c, in which an image stands."""
+    folder = tmp_path_factory.mktemp("host")
+    build_monitor("host", folder)
+    (folder / "image").write_bytes(b"\xF4")
+    return folder
+
+
+@pytest.fixture(scope="module")
+def monitor(tmp_path_factory):
+    """The folder of the monitor for KVM."""
+    folder = tmp_path_factory.mktemp("kvm")
+    build_monitor("kvm", folder)
+    return folder
+
+
+@pytest.fixture(scope="module")
+def guest(tmp_path_factory):
+    path = tmp_path_factory.mktemp("guest") / "guest"
+    image = ["-m32", "-nostdlib", "-no-pie", "-Wl,-Ttext=0x7C00,--oformat=binary,--build-id=none"]
+    check(["cc", *image, HERE / "guest.S", "-o", path], "")
+    return path
+
+
+def shortened(text):
+    """A text where what is seen again and again, and many equal bytes, stand once, with their number."""
+    text = re.sub(r"(  [a-z]+)\1+(?!\S)", lambda it: f"{it[1]} x{len(it[0]) // len(it[1])}", text)
+    return re.sub(r"(?<= )(\w\w)\1{7,}(?!\S)", lambda it: f"{it[1]}*{len(it[0]) // 2}", text)
+
+
+@pytest.mark.parametrize("script", SCRIPTS, ids=lambda it: it.splitlines()[0].strip()[:40])
+def test_script(over_host, script):
+    """The monitor does what stands behind the lines of a script."""
+    full = re.sub(r"(\w\w)\*(\d+)", lambda it: it[1] * int(it[2]), script)
+    command, *lines = (line.partition("  ")[0] for line in full.splitlines())
+    given = "".join(f"{line}\n" for line in lines[:-1])   # the last one is the status
+    ran = run([f"./{command.split()[0]}", *command.split()[1:]], cwd=over_host, input=given)
+    said = re.sub("monitor: |usage: ", r"\n\g<0>", ran.stdout).rstrip("\n")
+    seen = shortened(f"{command}{said}\nstatus {ran.returncode}")
+    assert seen == script, "\n".join(difflib.ndiff(script.splitlines(), seen.splitlines()))
+
+
+def test_builds(monitor, guest):
+    assert (monitor / "monitor").is_file() and guest.stat().st_size > 0
+
+
+@pytest.mark.where("KVM")
+def test_guest(monitor, guest):
+    """A guest shows what is typed, awaits an alarm meanwhile, and resets the machine."""
+    text = "".join(random.Random("paste").choices("abcdefghijklmnopqrstuvwxyz", k=PASTED))
+    ran = run([monitor / "monitor", guest], input=text + AWAIT_ALARM + text[:100] + RESET)
+    assert ran.stdout == f"ready\n{text}alarm\n{text[:100]}monitor: the guest reset the machine\n", ran.stdout[-300:]
+    assert ran.returncode == 0
