@@ -17,6 +17,7 @@ COMPARISON = ROOT / "tests" / "compare"
 ORIGINAL = Path(os.environ["VM_SUPERIO"]).resolve() if "VM_SUPERIO" in os.environ else None
 # Debian's compiler, beside which another may come first in PATH.
 DEBIAN_RUSTC = Path("/usr/bin/rustc")
+LIMIT = 1200   # seconds that one command may take
 # Most is built once, and nothing is debugged.
 SETTINGS = {"CARGO_INCREMENTAL": "0", "CARGO_PROFILE_DEV_DEBUG": "0", "CARGO_NET_OFFLINE": "true"}
 # A program over bindings/rust or, without the feature, over a vm-superio, which it takes by the line of the README. It
@@ -94,21 +95,20 @@ class Cargo:
 
     def run(self, *words, **environment):
         """Runs a command, and gives its status and all that it printed."""
-        return subprocess.run([self.cargo, *words], cwd=self.folder, env={**self.environment, **environment},
-                              stdout=subprocess.PIPE, stderr=subprocess.STDOUT, text=True, errors="replace")
+        return run([self.cargo, *words], timeout=LIMIT, cwd=self.folder, env={**self.environment, **environment})
 
-    def check(self, tally, *words, **environment):
-        """Counts whether a command succeeds."""
+    def check(self, *words, **environment):
+        """Asserts that a command succeeds. Returns what it printed."""
         ran = self.run(*words, **environment)
-        return tally.check(ran.returncode == 0, f"cargo {' '.join(words)}:\n{ran.stdout}")
+        assert ran.returncode == 0, f"cargo {' '.join(words)}:\n{ran.stdout}"
+        return ran.stdout
 
-    def check_tests(self, tally, what, *words, **environment):
-        """Counts the tests that pass, of which there have to be some, and says how many."""
-        ran = self.run("test", *words, **environment)
-        found = re.findall(r"^test result: ok\. (\d+) passed", ran.stdout, flags=re.M)
-        passed = 0 if ran.returncode else sum(map(int, found))
-        if tally.check(passed, f"{what}: {ran.stdout}", passed):
-            print(f"{what}: {passed} tests")
+    def test(self, *words, **environment):
+        """Asserts that tests pass, all of them. Returns their number."""
+        said = self.check("test", *words, **environment)
+        assert not re.search(r"; [1-9]\d* ignored", said), said
+        return sum(map(int, re.findall(r"^test result: ok\. (\d+) passed", said, flags=re.M)))
+
 
 def copied_crate(folder, toolchain=None, crate=BINDINGS):
     """Cargo in a copy of a crate, beside which stands the one of the devices without I/O: a Cargo.lock with an empty

@@ -1,0 +1,79 @@
+# SPDX-License-Identifier: Apache-2.0 OR BSD-3-Clause
+"""`cargo package` packs each crate in a clean clone, and builds what it packed from the packages before it alone. A
+package has the licenses, what a registry asks for, and a README.md whose links work without the repository."""
+import json
+import re
+import tarfile
+from pathlib import Path
+
+import pytest
+from cargo import Cargo, add_crate
+from documents import CODE, LINK, copy_repository
+from harness import ROOT, check
+
+pytestmark = pytest.mark.needs("cargo", "git")
+
+# The folders of the crates that are packed, each after those on which it depends.
+PACKAGES = ["bindings/superio", "bindings/rust", "bindings/c/from-source"]
+LICENSES = {"LICENSE-APACHE": "Apache-2.0.txt", "LICENSE-BSD": "BSD-3-Clause.txt"}
+# What a folder of packages has in each of them, as a registry.
+CHECKSUMS, NO_CHECKSUMS = ".cargo-checksum.json", '{"files": {}}'
+COMMIT = "git init -q && git add --all && git -c user.name=a -c user.email=a commit -q -m a"
+
+
+@pytest.fixture(scope="module")
+def packed(tmp_path_factory):
+    """Beside the folder of each crate in a clone: Cargo there, what it says of the crate, and the unpacked package."""
+    folder = tmp_path_factory.mktemp("packages")
+    clone, registry, made = folder / "clone", folder / "registry", {}
+    copy_repository(clone)
+    check(["sh", "-c", COMMIT], cwd=clone)
+    add_crate(registry / "serde-1.0.0", None)
+    (registry / "serde-1.0.0" / CHECKSUMS).write_text(NO_CHECKSUMS, encoding="ascii")
+    for crate in PACKAGES:
+        # The settings stand above the clone, which stays clean.
+        cargo = Cargo(clone / crate, registry=registry, settings=folder)
+        cargo.check("package", "--quiet")
+        said = json.loads(cargo.run("metadata", "--no-deps", "--format-version=1", "--quiet").stdout)["packages"][0]
+        name = f"{said['name']}-{said['version']}"
+        with tarfile.open(Path(cargo.environment["CARGO_TARGET_DIR"]) / "package" / f"{name}.crate") as archive:
+            archive.extractall(registry)
+        (registry / name / CHECKSUMS).write_text(NO_CHECKSUMS, encoding="ascii")
+        made[crate] = cargo, said, registry / name
+    return made
+
+
+def sources_of(folder):
+    """The Rust sources of a crate, by their paths in it."""
+    return {path.relative_to(folder).as_posix() for path in folder.rglob("*.rs")
+            if "target" not in path.relative_to(folder).parts}
+
+
+@pytest.mark.parametrize("crate", PACKAGES)
+def test_documented(packed, crate):
+    """rustdoc has nothing to say."""
+    packed[crate][0].check("doc", "--no-deps", "--quiet", RUSTDOCFLAGS="-D warnings")
+
+
+@pytest.mark.parametrize("crate", PACKAGES)
+def test_what_a_registry_asks_for(packed, crate):
+    said = packed[crate][1]
+    for key in ("description", "keywords", "license", "readme", "rust_version"):
+        assert said[key], key
+    assert "emulators" in said["categories"]
+
+
+@pytest.mark.parametrize("crate", PACKAGES)
+def test_files(packed, crate):
+    """All sources, and the licenses."""
+    cargo, _, package = packed[crate]
+    assert not sources_of(cargo.folder) - sources_of(package)
+    for place, text in LICENSES.items():
+        assert (package / place).read_bytes() == (ROOT / "LICENSES" / text).read_bytes()
+
+
+@pytest.mark.parametrize("crate", PACKAGES)
+def test_links(packed, crate):
+    package = packed[crate][2]
+    links = map("".join, LINK.findall(CODE.sub("", (package / "README.md").read_text(encoding="utf-8"))))
+    assert not [it for it in links if not re.match(r"#|\w+:", it) and not (package / it).exists()]

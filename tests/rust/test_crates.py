@@ -1,0 +1,133 @@
+# SPDX-License-Identifier: Apache-2.0 OR BSD-3-Clause
+"""bindings/rust and bindings/superio, on which it stands, as those who use them would have them. tools/check runs their own
+tests by `cargo test`, with checks of overflow; here they run as released, with Debian's Rust and on other processors.
+"""
+import random
+import re
+import sys
+from pathlib import Path
+
+import pytest
+from cargo import BINDINGS, DEVICES, ORIGINAL, Cargo, Comparison, add_crate, copied_crate, toolchain_for, toolchains
+from harness import ROOT, check
+from recorded import difference, random_recorded, recordings, rows_of
+
+pytestmark = pytest.mark.needs("cargo")
+
+CRATES = pytest.mark.parametrize("crate", [DEVICES, BINDINGS], ids=lambda it: it.name)
+# Where the two languages might evaluate the same text in another order.
+ORDER_LINTS = ["-D", "clippy::mixed_read_write_in_expression", "-D", "clippy::diverging_sub_expression"]
+# Where Debian's packages put crates.
+DEBIAN = Path("/usr/share/cargo/registry")
+# Targets of 32 bits, with the highest byte first, and without an operating system, each with the tool that has it. Where
+# the tests run too, the compiler that links them, and the emulator.
+TARGETS = {
+    "s390x-unknown-linux-gnu": ("s390x", "s390x-linux-gnu-gcc", "qemu-s390x"),
+    "armv7-unknown-linux-gnueabihf": ("arm", "arm-linux-gnueabihf-gcc", "qemu-arm"),
+    "wasm32-unknown-unknown": ("wasm",),
+}
+# Those that no package of Debian 12 has are compiled for where a toolchain is there.
+FURTHER_TARGETS = [it for it in ("thumbv7m-none-eabi", "riscv32imac-unknown-none-elf", "x86_64-unknown-none")
+                   if toolchain_for(it)]
+RANDOM_RUNS = 25_000   # of 40 calls each
+
+
+def oldest():
+    """The oldest Rust that the crate promises, as Debian 12 has it."""
+    [found] = [it for it in toolchains() if it.version.startswith("1.63.")][:1] or pytest.fail("there is no Rust 1.63")
+    return found
+
+
+def number_of_tests(crate):
+    """How many tests the sources of a crate have, beside those of its documentation."""
+    return sum(path.read_text(encoding="utf-8").count("#[test]") for path in crate.rglob("*.rs")
+               if "target" not in path.relative_to(crate).parts)
+
+
+def test_erased():
+    """The devices are what tools/erase makes of the proved source."""
+    check([sys.executable, ROOT / "tools" / "erase", "--check"])
+
+
+@CRATES
+def test_no_warning(crate, tmp_path):
+    copied_crate(tmp_path, crate=crate).check("check", RUSTFLAGS="-D warnings")
+
+
+@CRATES
+@pytest.mark.needs("clippy")
+def test_clippy(crate, tmp_path):
+    copied_crate(tmp_path, crate=crate).check("clippy", "--all-targets", "--", "-D", "warnings", *ORDER_LINTS)
+
+
+@CRATES
+@pytest.mark.needs("rustfmt")
+def test_formatted(crate, tmp_path):
+    copied_crate(tmp_path, crate=crate).check("fmt", "--check", "--", "--config-path", str(ROOT))
+
+
+def test_as_released(tmp_path):
+    assert copied_crate(tmp_path).test("--release", "--lib", "--tests") == number_of_tests(BINDINGS) >= 14
+
+
+@pytest.mark.needs("debian-rust")
+@pytest.mark.parametrize("crate, of_documentation", [(DEVICES, 3), (BINDINGS, 9)], ids=["superio", "rust"])
+def test_with_the_oldest_rust(crate, of_documentation, tmp_path):
+    assert copied_crate(tmp_path, oldest(), crate).test() >= number_of_tests(crate) + of_documentation
+
+
+@pytest.mark.parametrize("target", [*(pytest.param(target, marks=pytest.mark.needs(tools[0]))
+                                      for target, tools in TARGETS.items()), *FURTHER_TARGETS])
+def test_compiles_for(target, tmp_path):
+    """The devices compile without std."""
+    copied_crate(tmp_path, toolchain_for(target), DEVICES).check("check", "--target", target)
+
+
+@pytest.mark.parametrize("target", [pytest.param(target, marks=pytest.mark.needs(tools[0]))
+                                    for target, tools in TARGETS.items() if tools[1:]])
+def test_on(target, tmp_path):
+    """The tests pass in qemu's user mode."""
+    _, compiler, emulator = TARGETS[target]
+    name = f"CARGO_TARGET_{target.upper().replace('-', '_')}"
+    settings = {f"{name}_LINKER": compiler, f"{name}_RUNNER": f"{emulator} -L /usr/{compiler[:-len('-gcc')]}"}
+    cargo = copied_crate(tmp_path, toolchain_for(target))
+    assert cargo.test("--lib", "--tests", "--target", target, **settings) == number_of_tests(BINDINGS)
+
+
+def test_drop_in(tmp_path):
+    """The program that makes calls compiles over the crate with the names of vm-superio 0.8.2 alone."""
+    built = Comparison(tmp_path, BINDINGS).build()
+    assert built.returncode == 0, built.stdout
+
+
+@pytest.mark.needs("debian-rust", "serde")
+def test_states_through_serde(tmp_path):
+    """States go through JSON and bincode, with Debian's crates of these and its Rust."""
+    add_crate(tmp_path, (ROOT / "tests" / "rust" / "states.rs").read_text(encoding="utf-8"), f"""
+[dependencies]
+bincode = "1"
+serde = "1"
+serde_json = "1"
+vm-superio = {{ path = "{BINDINGS}", features = ["serde"] }}
+""")
+    assert Cargo(tmp_path, oldest(), DEBIAN).test("--lib") >= 1
+
+
+def calls_with_panics():
+    """Random calls, in one of eight of which an object panics. None writes a match, an alarm in one crate alone."""
+    source, calls = random.Random(1), [call for run in random_recorded(map(str, range(RANDOM_RUNS))) for call in run]
+    for call in calls:
+        if not re.match(r"cw \w+ 0004", call):
+            yield f"{call} p{source.randrange(4)}" if source.randrange(8) == 0 else call
+
+
+@pytest.mark.where("folder VM_SUPERIO of vm-superio 0.8.2")
+def test_comparison(tmp_path):
+    """A million random calls, with panics, do what vm-superio 0.8.2 does, and that does what was recorded."""
+    ours, its = Comparison(tmp_path / "ours"), Comparison(tmp_path / "original", ORIGINAL)
+    for built in (ours.build(), its.build()):
+        assert built.returncode == 0, built.stdout
+    recorded = rows_of(recordings()["calls.txt.xz"])
+    assert not difference(recorded, [line.partition(" = ")[2] for line in its.make([call for call, _ in recorded])])
+    made = [line for line in its.make(calls_with_panics()) if not line.endswith(" = no call")]
+    assert made and made == ours.make(made)
