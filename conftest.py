@@ -63,6 +63,7 @@ def pytest_runtest_makereport(item):
     report = (yield).get_result()
     if report.skipped and LEFT_OUT not in item.stash:
         report.outcome, report.longrepr = "failed", f"skipped itself: {report.longrepr}"
+        vars(report).pop("wasxfail", None)   # with which pytest ends with status 0
 
 
 @pytest.hookimpl(hookwrapper=True)

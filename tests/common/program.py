@@ -6,7 +6,6 @@ import shutil
 import subprocess
 import sys
 import tempfile
-from concurrent.futures import ThreadPoolExecutor
 from pathlib import Path
 
 from harness import ROOT
@@ -14,7 +13,6 @@ from harness import ROOT
 CRATES = ROOT / "crates"
 PROGRAM = CRATES / "superio" / "out" / "superio"
 TESTS = CRATES / "superio_tests" / "out" / "superio_tests_tests"
-TIMEOUT = 60  # seconds that one run of the program may take
 
 
 class NotBuilt(OSError):
@@ -62,6 +60,17 @@ def built_program():
     return PROGRAM
 
 
+def number_of_edits():
+    """How many must-fail edits the crates have."""
+    return len(list(CRATES.glob("*/must-fail/*.edit")))
+
+
+def number_of_tests():
+    """How many tests in Rattle the crates have."""
+    sources = (path.read_text(encoding="utf-8") for path in CRATES.glob("*/src/**/*.rt"))
+    return sum(len(re.findall(r"^ *#\[test\]$", text, re.M)) for text in sources)
+
+
 def hand_over():
     """Marks what `rt ci` built as that of the sources as they are, so that nothing proves it again: it leaves libraries
     without the stamp by which `rt` knows them, and programs that an earlier run made are older than a fresh clone."""
@@ -72,22 +81,8 @@ def hand_over():
         if (library := Path(crate.folder, "out", "rlib")).is_dir():
             (library / "stamp").write_text(crate.stamp(), encoding="utf-8")
     for program in (PROGRAM, TESTS):
-        program.touch()
-
-
-def run(program, script, *arguments):
-    """Runs a script: its status, standard output and standard error. `None` if it did not end."""
-    try:
-        got = subprocess.run([program, *arguments], input=script, capture_output=True, timeout=TIMEOUT)
-    except subprocess.TimeoutExpired:
-        return None
-    return got.returncode, got.stdout, got.stderr
-
-
-def run_all(program, scripts, *arguments):
-    """Runs scripts side by side. The results come in their order."""
-    with ThreadPoolExecutor(len(os.sched_getaffinity(0))) as pool:
-        yield from pool.map(lambda script: run(program, script, *arguments), scripts)
+        if program.exists():
+            program.touch()
 
 
 def built_tests():

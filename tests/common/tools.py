@@ -1,6 +1,6 @@
 # SPDX-License-Identifier: Apache-2.0 OR BSD-3-Clause
-"""What tests need of a machine, and the packages of Debian 12 that have it. As a program it prints the packages of all
-that is missing, but for the kit, which is no package; those of another architecture end with its name."""
+"""What tests need of a machine, and the packages of Debian 12 that have it. As a program it prints those of what is missing,
+but for the kit, which is no package; one of another architecture ends with its name."""
 import os
 import shutil
 import subprocess
@@ -10,7 +10,8 @@ from glob import glob
 # Beside each name that a test may need: commands, files, or imports of Debian's Python, each with its package.
 TOOLS = {
     "kit": {"rt": "the Rattle kit, which is no package"},
-    "cc": {"cc": "gcc", "gcc": "gcc"},
+    "pytest": {"import pytest, hypothesis": "python3-pytest python3-hypothesis"},
+    "cc": {"cc": "gcc", "gcc": "gcc", "/usr/include/stdio.h": "libc6-dev"},
     "c++": {"g++": "g++"},
     "clang": {"clang": "clang", "clang++": "clang"},
     "make": {"make": "make"},
@@ -68,4 +69,4 @@ def missing(tool):
 
 
 if __name__ == "__main__":
-    print("\n".join(sorted({package for tool in TOOLS if tool != "kit" for package in missing(tool).values()})))
+    print(*sorted({it for tool in TOOLS if tool != "kit" for words in missing(tool).values() for it in words.split()}))

@@ -1,0 +1,121 @@
+# SPDX-License-Identifier: Apache-2.0 OR BSD-3-Clause
+"""Nothing passes for not having run: the rules of conftest.py, of at_least and of tools/check, with tests that break them."""
+import re
+import shutil
+import sys
+from importlib.machinery import SourceFileLoader
+from importlib.util import module_from_spec, spec_from_loader
+
+import pytest
+from harness import ROOT, run
+
+HEAD = "import pytest\nfrom harness import at_least\n"
+RUN = HEAD + "def test():\n    "
+# Tests, and what pytest counts of them at its end.
+BROKEN = {
+    "a good one": (RUN + "pass", "1 passed"),
+    "one that skips itself": (RUN + "pytest.skip('for no reason')", "1 failed"),
+    "one that is skipped with the words of --without": (RUN + "pytest.skip('--without names cargo')", "1 failed"),
+    "one marked to be skipped": (HEAD + "@pytest.mark.skip\ndef test(): pass", "1 error"),
+    "one that is skipped on a condition": (HEAD + "@pytest.mark.skipif(True, reason='a')\ndef test(): pass", "1 error"),
+    "one that is expected to fail": (HEAD + "@pytest.mark.xfail\ndef test(): assert 0", "1 failed"),
+    "one that is expected to fail and passes": (HEAD + "@pytest.mark.xfail\ndef test(): pass", "1 failed"),
+    "one of unittest that skips": ("import unittest\nclass T(unittest.TestCase):\n    @unittest.skip('a')\n"
+                                   "    def test(self): pass", "1 failed"),
+    "a file that needs a module": (HEAD + "pytest.importorskip('nothing_like_it')\ndef test(): pass", "1 error"),
+    "a file that skips itself": (HEAD + "pytest.skip('a', allow_module_level=True)\ndef test(): pass", "1 error"),
+    "an empty table": (HEAD + "@pytest.mark.parametrize('it', [])\ndef test(it): pass", "1 error"),
+    "a table that has too few": (HEAD + "@pytest.mark.parametrize('it', at_least(2, [1]))\ndef test(it): pass", "1 error"),
+    "a mark that nobody knows": (HEAD + "@pytest.mark.nedds('cargo')\ndef test(): pass", "1 error"),
+    "a tool that nobody knows": (HEAD + "@pytest.mark.needs('cargoo')\ndef test(): pass", "1 error"),
+    "a tool that is missing": (HEAD + "@pytest.mark.needs('chromium')\ndef test(): pass", "1 error"),
+    "a tool that is left out": (HEAD + "@pytest.mark.needs('node')\ndef test(): pass", "1 skipped"),
+    "a place that is not there": (HEAD + "@pytest.mark.where('Deno')\ndef test(): pass", "1 skipped"),
+}
+
+
+def run_pytest(folder, text, *words, path="/nowhere"):
+    """Runs a test alone, without any tool."""
+    (folder / "tests" / "common").mkdir(parents=True)
+    for name in ("conftest.py", "pytest.ini"):
+        shutil.copy(ROOT / name, folder)
+    for path_of in (ROOT / "tests" / "common").glob("*.py"):
+        shutil.copy(path_of, folder / "tests" / "common")
+    (folder / "tests" / "test_it.py").write_text(text + "\n", encoding="utf-8")
+    return run([sys.executable, "-m", "pytest", "tests", *words], cwd=folder, env={"PATH": path})
+
+
+@pytest.mark.parametrize("text, end", BROKEN.values(), ids=BROKEN)
+def test_what_pytest_counts(text, end, tmp_path):
+    ran = run_pytest(tmp_path, text, "--without=node")
+    counts = re.findall(r"\d+ (?:passed|failed|skipped|error)", ran.stdout.splitlines()[-1])
+    assert counts == [end], ran.stdout
+    assert (ran.returncode == 0) == (end in ("1 passed", "1 skipped"))
+
+
+def test_a_missing_tool_names_its_package(tmp_path):
+    text = BROKEN["a tool that is missing"][0]
+    assert "chromium is missing: install chromium, or run with --without chromium" in run_pytest(tmp_path, text).stdout
+
+
+def test_what_was_not_tried_is_named(tmp_path):
+    text = BROKEN["a tool that is left out"][0]
+    assert "NOT TRIED: 1 tests, since --without names node\n" in run_pytest(tmp_path, text, "--without=node").stdout
+
+
+def test_an_unknown_tool_is_refused(tmp_path):
+    ran = run_pytest(tmp_path, RUN + "pass", "--without=nod")
+    assert ran.returncode != 0 and "there is no tool nod" in ran.stdout
+
+
+def test_a_file_that_fails_leaves_the_others(tmp_path):
+    ran = run_pytest(tmp_path, RUN + "pass")
+    (tmp_path / "tests" / "test_bad.py").write_text("unknown\n", encoding="utf-8")
+    last = run([sys.executable, "-m", "pytest", "tests"], cwd=tmp_path).stdout.splitlines()[-1]
+    assert "1 passed" in last and "1 error" in last and ran.returncode == 0
+
+
+# tools/check
+
+def tool():
+    loader = SourceFileLoader("check", str(ROOT / "tools" / "check"))
+    module = module_from_spec(spec_from_loader("check", loader))
+    loader.exec_module(module)
+    return module
+
+
+CHECK = tool()
+GATE = ["test result: ok. 3 passed; 0 failed", "rt: it ran, and wrote what its file stdout has",
+        "rt: ok; must-fail edits: 5 refused; all", "7 passed, 0 failed"]
+CARGO = "test result: ok. 3 passed; 0 failed; {} ignored; 0 measured; 0 filtered out"
+
+
+@pytest.mark.parametrize("status, lines, counts", [
+    (0, GATE, (10, 0, 0)),
+    (1, GATE, (10, 1, 0)),
+    (1, [*GATE[:3], "6 passed, 1 failed"], (9, 2, 0)),
+    (0, [*GATE[:2], "rt: ok; must-fail edits: 4 refused; all", GATE[3]], (10, 1, 0)),
+    (0, [*GATE[:2], "rt: ok; must-fail edits: 5 refused, 2 of them only by a limit, 1 bad; all", GATE[3]], (10, 1, 0)),
+    (0, GATE[1:], (7, 1, 0)),
+    (127, [], (0, 1, 0)),
+])
+def test_gate(status, lines, counts):
+    """It fails also if it tried other must-fail edits or tests than there are."""
+    assert CHECK.of_gate(status, lines, 5, 3) == counts
+
+
+@pytest.mark.parametrize("status, lines, counts", [
+    (0, [CARGO.format(0)] * 2, (6, 0, 0)), (0, [CARGO.format(1)], (3, 1, 0)), (101, [CARGO.format(0)], (3, 1, 0)),
+    (0, [], (0, 1, 0)), (101, ["test result: FAILED. 2 passed; 1 failed; 0 ignored"], (2, 1, 0)),
+])
+def test_cargo(status, lines, counts):
+    assert CHECK.of_cargo(status, lines) == counts
+
+
+@pytest.mark.parametrize("status, last, counts", [
+    (0, "3 passed in 0.1s", (3, 0, 0)), (1, "2 failed, 3 passed, 4 skipped in 1s", (3, 2, 4)),
+    (1, "3 passed, 1 error in 1s", (3, 1, 0)), (1, "3 passed, 2 errors in 1s", (3, 2, 0)),
+    (2, "3 passed in 1s", (3, 1, 0)), (5, "no tests ran in 0.1s", (0, 1, 0)), (0, "no tests ran in 0.1s", (0, 1, 0)),
+])
+def test_pytest(status, last, counts):
+    assert CHECK.of_pytest(status, ["more", last]) == counts
