@@ -11,13 +11,13 @@ from made import random_script, seeds
 from script import FURTHER_LINES, PROGRAM_LINES
 from script_tests import FURTHER_TESTS, TESTS, kept_scripts, load_scripts, made_scripts, scripts_of
 
-from superio import Board, ScriptError, board, parse
+from superio import Board, Rtc, ScriptError, board, parse
 from superio.script import BadLine, text_of
 from superio.session import Session
 
 RANDOM_SCRIPTS, RANDOM_SESSIONS = 2_000, 400
 # Further lines that mostly change nothing.
-MOSTLY_IDLE = "sb", "cb", "si", "si", "si", "sl", "sl 00", "cl 53494f5301", f"cl 53494f53020119{'00' * 26}"
+MOSTLY_IDLE = "sb", "cb", "si", "si", "si", "sl", "sl 00", "cl 00", f"cl {Rtc().to_bytes().hex()}"
 KEPT = at_least(204, kept_scripts())
 # In the shell, those that end well.
 IN_SHELL = at_least(88, [test for path in sorted([*TESTS.glob("*.txt"), *FURTHER_TESTS.glob("*.txt")])

@@ -28,11 +28,15 @@ const PORT = {
   lineStatus: 0x61, modemControl: 0x08, modemStatus: 0xb5, scratch: 0x77, inBuffer: Uint8Array.of(0xa1, 0xa2, 0xa3),
 };
 const REGISTERS = Object.keys(PORT).filter((name) => name !== "inBuffer");
-const PORT_SAVED = "53494f5301010c0011220306446108b577a1a2a3";
-// A saved clock whose bytes differ, as long as that of docs/SAVED-STATES.md, and its fields by the table there.
-const DOCUMENT = new URL("../../../docs/SAVED-STATES.md", import.meta.url);
-const CLOCK_TEXT = readFileSync(DOCUMENT, "utf8").split("## A clock")[1];
-const [, CLOCK_HEADER, CLOCK_CONTENTS] = CLOCK_TEXT.match(/^(53494f5302\w{6})(\w+)$/m);
+// Saved states whose bytes differ, with the headers of those of docs/SAVED-STATES.md, and the fields in the order of its
+// tables.
+const DOCUMENT = readFileSync(new URL("../../../docs/SAVED-STATES.md", import.meta.url), "utf8");
+const [PORT_TEXT, CLOCK_TEXT] = DOCUMENT.split("## A clock");
+const [, PORT_HEADER] = PORT_TEXT.match(/^(\w{12})0b00\w+6162$/m);
+const PORT_FIELDS = Array.from(PORT_TEXT.matchAll(/^\| \d+ \| 1 \| `(\w+)`/gm), ([, name]) =>
+  name.replace(/_(.)/g, (_, letter) => letter.toUpperCase()));
+const PORT_SAVED = `${PORT_HEADER}0c00${Buffer.from(PORT_FIELDS.map((name) => PORT[name])).toString("hex")}a1a2a3`;
+const [, CLOCK_HEADER, CLOCK_CONTENTS] = CLOCK_TEXT.match(/^(\w{16})(\w{40,})$/m);
 const CLOCK_SAVED = CLOCK_HEADER + Array.from(CLOCK_CONTENTS.match(/../g).slice(1), (_, place) =>
   (0x81 + place).toString(16)).join("") + "01";
 const CLOCK = Object.fromEntries(Array.from(CLOCK_TEXT.matchAll(/^\| (\d+) \| (\d) \| `(\w+)`/gm), ([, ...row]) => {
@@ -97,10 +101,11 @@ test("what a call gives is the caller's own, and what it takes stays as it was",
 });
 
 test("saved bytes that are refused say why", () => {
-  const refusals = [["53494f5301010c", "too short"], [PORT_SAVED.replace("53", "54"), "not a saved state"],
-    [CLOCK_SAVED, "other device"], [PORT_SAVED.replace("0101", "0102"), "unknown version"],
-    [`${PORT_SAVED}00`, "wrong length"], ["53494f530101ffff" + "00".repeat(0x1ffff), "wrong length"],
-    ["53494f5301014a00" + "00".repeat(74), "too many bytes"]];
+  const [magic, rest] = [PORT_SAVED.slice(0, 8), PORT_SAVED.slice(12)];
+  const refusals = [[PORT_SAVED.slice(0, 14), "too short"], [`54${PORT_SAVED.slice(2)}`, "not a saved state"],
+    [CLOCK_SAVED, "other device"], [`${magic}01ff${rest}`, "unknown version"],
+    [`${PORT_SAVED}00`, "wrong length"], [`${PORT_HEADER}ffff${"00".repeat(0x1ffff)}`, "wrong length"],
+    [`${PORT_HEADER}4a00${"00".repeat(74)}`, "too many bytes"]];
   for (const [encoding, reason] of refusals) {
     const message = SAVED_STATE_ERRORS[reason];
     assert.throws(() => Serial.fromBytes(fromHex(encoding)), { name: "SavedStateError", reason, message });

@@ -47,6 +47,10 @@ HELD = "hi".ljust(64, "*")  # as many bytes as a port holds
 PORT = SerialState(scratch=7, line_status=0x61, in_buffer=HELD.encode())
 SL, CL = (f"{name} {device.to_bytes().hex()}\n" for name, device in (
     ("sl", Serial.from_state(PORT)), ("cl", Rtc.from_state(RtcState(lr=100, offset=-900)))))
+FRESH = Serial().to_bytes().hex()
+# A port that holds an "a", by itself and with an interrupt pending for it.
+ONE, PENDING = (Serial.from_state(SerialState(line_status=0x61, in_buffer=b"a", **state)).to_bytes().hex()
+                for state in ({}, {"interrupt_enable": 1, "interrupt_identification": 4}))
 LOADED = "read SCR\nsd\ncr 00000000000003ef 0000\n"
 # A chain of files, of which each names the one before.
 CHAIN = {str(number): f"source {number - 1}\n" if number else "write SCR 7\n" for number in range(12)}
@@ -67,18 +71,18 @@ FILES = [
     ({"it": "kr 04\nquit\n"}, "source it\nkr 04\n", (0, "00\n"), "", {}),
     # A script for the program leaves a further line out that changed nothing. One that changed something is named.
     ({}, "refuse 2\nkr 04\nsb\ntimeout\nread SCR\nscript\nscript new\n",
-     (0, "00\n53494f53010109000c000001036008b000\nno interrupt: no byte is held\nSCR = 0x00\n"
+     (0, f"00\n{FRESH}\nno interrupt: no byte is held\nSCR = 0x00\n"
          "refuse 0000000000000002\nkr 04\nsr 07\nthe script is in new\n"), "",
      {"new": "refuse 0000000000000002\nkr 04\nsr 07\n"}),
     ({}, "sw 01 01\nsq 6162\nsr 02\nsi\nsi\nkr 04\nscript new\n", (1, "ok\n02\nc4\nok\nok\n00\n"),
      '"script new": the program superio has no script of this session: call 4, si, is none of its lines. trace', {}),
     # A load of the port's own state asks again for what is pending.
-    ({}, "sw 01 01\nsq 61\nsl 53494f5301010a000c000104036108b00061\nscript\n", (1, "ok\n01\nok\n"),
-     "of this session: call 3, sl 53494f530101", {}),
-    ({}, "sq 61\nsl 53494f5301010a000c000001036108b00061\nscript\n", (0, "01\nok\nsq 61\n"), "", {}),
+    ({}, f"sw 01 01\nsq 61\nsl {PENDING}\nscript\n", (1, "ok\n01\nok\n"),
+     f"of this session: call 3, sl {PENDING[:12]}", {}),
+    ({}, f"sq 61\nsl {ONE}\nscript\n", (0, "01\nok\nsq 61\n"), "", {}),
     ({}, "sw 01 01\nsq 6162\nsr 02\nsi\nreset\nkr 04\nscript\n",
      (0, "ok\n02\nc4\nok\na fresh board\n00\nkr 04\n"), "", {}),
-    ({"it": SL + CL}, "load it\nscript\n", (1, "ok\nok\n"), "of this session: call 1, sl 53494f5301014900", {}),
+    ({"it": SL + CL}, "load it\nscript\n", (1, "ok\nok\n"), f"of this session: call 1, {SL[:12]}", {}),
     # It has at most 65,536 bytes.
     ({}, "kr 04\n" * 10_922 + "script new\n", (0, "00\n" * 10_922 + "the script is in new\n"), "",
      {"new": "kr 04\n" * 10_922}),

@@ -114,7 +114,7 @@ fn devices_print_their_registers_and_no_byte_that_the_guest_has_read() {
     let objects = "interrupt_evt: Line(0), events: NoEvents, out: []";
     assert_eq!(format!("{serial:?}"), format!("Serial {{ {registers}, {objects} }}"));
     assert_eq!(format!("{:?}", serial.state()), format!("SerialState {{ {registers} }}"));
-    let state = SerialState::from_bytes(b"SIOS\x01\x01\x0A\0\x01\x02\x03\x04\x05\x06\x07\x08\x09!").unwrap();
+    let state = SerialState { interrupt_enable: 0x03, interrupt_identification: 0x04, scratch: 9, ..serial.state() };
     let restored = Serial::from_state(&state, Line::default(), NoEvents, Vec::<u8>::new()).unwrap();
     let objects = objects.replace('0', "1"); // one interrupt was due
     let shown = format!("{state:?}").replace("State {", " {").replace(" }", &format!(", {objects} }}"));

@@ -1,5 +1,5 @@
 // SPDX-License-Identifier: Apache-2.0 OR BSD-3-Clause
-//! What errors print, which no contract says.
+//! Errors print their texts, which contracts state, to a caller that knows only std's `Error`.
 use crate::objects::faults;
 use std::alloc::{AllocError, Global};
 use std::error::Error as StdError;
@@ -8,23 +8,18 @@ use superio_script::LineRefused;
 use vm_superio::saved::{LoadError, SavedStateError};
 use vm_superio::serial::Error;
 
-/// What an error prints to a caller that knows only std's `Error`.
 fn text<E: StdError>(alloc: Global, error: &E) -> Result<String, AllocError> {
     error.to_string(alloc)
 }
 
 #[test]
-fn errors_of_a_port_print_what_failed(rt: HostRuntime) -> Result<(), Fail> {
-    for (error, printed) in [
-        (
-            Error::Trigger(LineRefused),
-            "Failed to trigger interrupt: line refused",
-        ),
-        (Error::FullFifo, "No space left in FIFO"),
-        (Error::Memory, "Out of memory"),
-    ] {
-        assert!(rt; text(rt.alloc(), &error)?.as_str() == printed);
-    }
+fn errors_print_their_texts(rt: HostRuntime) -> Result<(), Fail> {
+    let alloc = rt.alloc();
+    let error = Error::Trigger(LineRefused);
+    assert!(rt; text(alloc, &error)?.as_str() == "Failed to trigger interrupt: line refused");
+    let error = SavedStateError::TooShort;
+    assert!(rt; text(alloc, &error)?.as_str() == "Too short for a saved state");
+    assert!(rt; text(alloc, &LoadError::from(error))? == text(alloc, &error)?);
     Ok(())
 }
 
@@ -36,40 +31,5 @@ fn faults_of_a_writer_are_printed(rt: HostRuntime) -> Result<(), Fail> {
         let error: Error<LineRefused> = Error::IOError(fault);
         assert!(rt; text(alloc, &error)? == expected, "{fault:?}");
     }
-    Ok(())
-}
-
-/// Whether an error of a saved state prints this, also as why a load failed.
-fn prints(alloc: Global, error: SavedStateError, printed: &str) -> Result<bool, AllocError> {
-    let of_load = text(alloc, &LoadError::from(error))?;
-    Ok(text(alloc, &error)?.as_str() == printed && of_load.as_str() == printed)
-}
-
-#[test]
-fn errors_of_saved_states_print_why_bytes_are_none(rt: HostRuntime) -> Result<(), Fail> {
-    for (error, printed) in [
-        (SavedStateError::TooShort, "Too short for a saved state"),
-        (SavedStateError::NotASavedState, "Not a saved state"),
-        (
-            SavedStateError::OtherDevice,
-            "The saved state of another device",
-        ),
-        (
-            SavedStateError::UnknownVersion(2),
-            "A saved state of an unknown version",
-        ),
-        (
-            SavedStateError::WrongLength,
-            "A saved state of the wrong length",
-        ),
-        (SavedStateError::TooManyBytes, "More than 64 received bytes"),
-        (
-            SavedStateError::InvalidArmed,
-            "An alarm that is neither set nor clear",
-        ),
-    ] {
-        assert!(rt; prints(rt.alloc(), error, printed)?);
-    }
-    assert!(rt; text(rt.alloc(), &LoadError::Memory)?.as_str() == "Out of memory");
     Ok(())
 }

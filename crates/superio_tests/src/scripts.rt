@@ -362,12 +362,7 @@ fn lines_beyond_the_format_are_bad(rt: HostRuntime) {
         ("a timeout", b"si\n", b"", Err(ScriptFault::Bad(1))),
         ("a saved port", b"sb\n", b"", Err(ScriptFault::Bad(1))),
         ("a saved clock", b"cb\n", b"", Err(ScriptFault::Bad(1))),
-        (
-            "a port to load",
-            b"sl 53494f5301010a000c000001036108b00061\n",
-            b"",
-            Err(ScriptFault::Bad(1)),
-        ),
+        ("a port to load", b"sl 00\n", b"", Err(ScriptFault::Bad(1))),
         (
             "a clock to load",
             b"kr 04\ncl 00\n",
