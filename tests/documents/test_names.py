@@ -67,11 +67,10 @@ class Sources:
 
 
 def command_faults(code):
-    """What a command of tools/ or tests/ has not, if a piece of code is one: options, or checks."""
+    """The options that a command of tools/ or tests/ has not, if a piece of code is one."""
     for tool, words in COMMAND.findall(code)[:1]:
         text = (ROOT / tool).read_text(encoding="utf-8") if (ROOT / tool).is_file() else ""
         wanted = set(re.findall(r"--[\w-]+", words)) - {"--help"}
-        wanted |= {f'("{name}"' for name in re.findall(r"(?<!\S)[a-z]\w*", words) if tool == "tools/check"}
         yield from (f"{tool} has no {word}" for word in wanted if word not in text)
 
 
