@@ -114,7 +114,7 @@ class Writer:
             raise Refused(f"a field of the type {type_}")
 
     def comment(self, doc):
-        text = "\n   ".join(doc).replace("(*", "( *").replace("*)", "* )")
+        text = "\n   ".join(doc).replace("(*", "( *").replace("*)", "* )").replace('"', "''")
         return f"(* {text} *)\n" if doc else ""
 
     def constant(self, name):

@@ -8,7 +8,7 @@ BUILTIN = {*INTEGERS, "bool", "Option", "Result", "Some", "None", "Ok", "Err", "
            "i128", "u128", "isize", "char", "str", "String", "Vec", "Box"}
 KEYWORDS = set("""as async await break const continue crate dyn else enum extern false fn for if impl in let loop match
     mod move mut pub ref return self Self static struct super trait true type unsafe use where while""".split())
-ATTRIBUTES = re.compile(r"inline(\(always\))?|repr\(C\)|derive\([\w, ]*\)|must_use|rustfmt::skip")
+ATTRIBUTES = re.compile(r"inline(\((always|never)\))?|repr\(C\)|derive\([\w, ]*\)|must_use|rustfmt::skip")
 DERIVES = {"Clone", "Copy", "Debug", "Default", "PartialEq", "Eq"}
 UNIT = ("tuple",)
 
@@ -31,8 +31,8 @@ TOKEN = re.compile(r"""
       (?P<doc>///[^\n]*) | (?P<comment>//[^\n]*) | (?P<space>\s+)
     | (?P<number>0x[0-9A-Fa-f_]+|0b[01_]+|0o[0-7_]+|[0-9][0-9_]*)(?P<suffix>[A-Za-z]\w*)?
     | (?P<bytes>b"[ !#-\[\]-~]*") | (?P<name>[A-Za-z_]\w*)
-    | (?P<sign>\.\.=|\.\.\.|<<=|>>=|::|->|=>|\.\.|&&|\|\||<<|>>|[=!<>+\-*/%&|^]=|[-+*/%&|^!<>=.,;:?@\#(){}\[\]])
-    """, re.X)
+    | (?P<block>/\*) | (?P<sign>\.\.=|\.\.\.|<<=|>>=|::|->|=>|\.\.|&&|\|\||<<|>>|[=!<>+\-*/%&|^]=|[-+*/%&|^!<>=.,;:?@\#(){}\[\]])
+    """, re.X | re.A)
 
 
 class Token:
@@ -44,7 +44,7 @@ def tokens(text, file):
     found, at, line = [], 0, 1
     while at < len(text):
         match = TOKEN.match(text, at)
-        if not match:
+        if not match or match["block"]:
             raise Refused(f"{file}:{line}: {text[at:at + 20]!r}")
         kind = "number" if match["number"] else match.lastgroup
         if kind not in ("comment", "space"):
@@ -85,6 +85,7 @@ class Parser:
     """Reads one file."""
     def __init__(self, text, file):
         self.file, self.at = file, 0
+        self.modules, self.imports = set(), []  # the names of `mod`, and the paths of `use`
         self.tokens = tokens(text, file) + [Token("end", "", 0)]
 
     # -- tokens
@@ -180,7 +181,7 @@ class Parser:
         if self.has("use"):
             self.use()
         elif self.has("mod"):
-            self.name()
+            self.modules.add(self.name())
             self.eat(";")
         elif self.has("struct"):
             return Node("struct", line, name=self.name(), doc=doc, fields=self.braced(self.field), derived=derived)
@@ -217,21 +218,22 @@ class Parser:
         return None
 
     def use(self):
-        """A path of this crate. Names are those of the items: no `as` and no `*`."""
-        first = self.next
-        if first in ("super", "self", "crate"):
-            self.at += 1
-        else:
-            self.name()
+        """Paths of this crate. A name is that of its item: no `as` and no `*`."""
+        path = [self.segment()]
         while self.has("::"):
             if self.has("{"):
-                self.until("}", lambda: self.has("self") or self.name())
-                break
-            if not self.has("super"):
-                self.name()
+                self.imports += [[*path, name] for name in self.until("}", self.segment)]
+                self.eat(";")
+                return
+            path.append(self.segment())
         self.eat(";")
-        if first in ("core", "std", "alloc"):
-            self.refuse(f"a use of {first}")
+        self.imports.append(path)
+
+    def segment(self):
+        for word in ("super", "self", "crate"):
+            if self.has(word):
+                return word
+        return self.name()
 
     def braced(self, one):
         self.eat("{")

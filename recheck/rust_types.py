@@ -1,8 +1,12 @@
 # SPDX-License-Identifier: Apache-2.0 OR BSD-3-Clause
 """Resolves the names of a function body and infers its types, as rustc does. What has no single type here is refused."""
+import re
 from pathlib import Path
 
 from rust_tree import BINARY, BUILTIN, INTEGERS, UNIT, WIDTHS, List, Node, Parser, Refused
+
+
+OF_COQ = {"Bytes", "FitsSigned", "Forall", "Prop", "Type", "Set", "Bool", "Nat", "List"}
 
 
 # ---- the items of all files
@@ -11,18 +15,51 @@ class Crate:
     """The items of the files of a folder, by their names."""
     def __init__(self, folder):
         self.consts, self.functions, self.types, self.traits, self.impls, self.variants = {}, {}, {}, {}, {}, set()
-        folder = Path(folder)
-        for file in sorted(folder.rglob("*.rs")):
-            parser = Parser(file.read_text(), file.relative_to(folder))
-            for item in parser.items():
-                self.add(item)
+        self.scopes, folder = {}, Path(folder)
+        parsers = [Parser(file.read_text(), file.relative_to(folder)) for file in sorted(folder.rglob("*.rs"))]
+        for parser in parsers:
+            items = parser.items()
             if parser.next:
                 parser.refuse("an item")
+            for item in items:
+                self.add(item)
+            self.scopes[parser.file] = {item.name for item in items if hasattr(item, "name")}
+        self.check_modules(parsers)
+        self.check_imports(parsers)
+        self.check_names()
+
+    def check_modules(self, parsers):
+        """Cargo compiles the files that `mod` names, and these are all that are here."""
+        named = {Path("mod.rs") if Path("mod.rs") in self.scopes else Path("lib.rs")}
+        for parser in parsers:
+            folder = parser.file.parent if parser.file.name in ("mod.rs", "lib.rs") else parser.file.with_suffix("")
+            named |= {folder / f"{name}.rs" for name in parser.modules}
+        if odd := named ^ set(self.scopes):
+            raise Refused(f"{', '.join(map(str, sorted(odd)))}: a file without its `mod`, or a `mod` without its file")
+
+    def check_imports(self, parsers):
+        """An import brings an item of this crate under its own name, or the name of a module."""
+        modules = set().union(*(parser.modules for parser in parsers))
+        names = {*self.consts, *self.types, *self.traits, *(name for name in self.functions if "::" not in name)}
+        for parser in parsers:
+            for path in parser.imports:
+                if path[0] not in ("super", "self", "crate") and path[0] not in modules or path[-1] not in names | {"self"}:
+                    raise Refused(f"{parser.file}: a use of {'::'.join(path)}")
+                self.scopes[parser.file].add(path[-1])
+
+    def check_names(self):
+        """No name hides one of the language, or of Coq's."""
         for trait, owners in self.impls.items():
             if trait not in self.traits:
                 raise Refused(f"an implementation of {trait}")
             if len(owners) != 1:
                 raise Refused(f"{trait} has more than one implementation")
+        for owner in {name.partition("::")[0] for name in self.functions if "::" in name}:
+            if owner not in self.types:
+                raise Refused(f"an implementation for {owner}")
+        for name in self.types:
+            if not re.fullmatch(r"[A-Z][A-Za-z0-9]*[a-z][A-Za-z0-9]*", name) or name in OF_COQ:
+                raise Refused(f"the type {name}")
         names = [*self.consts, *self.functions, *self.types]
         coq = [name.replace("::", "_") for name in names]
         for name in names:
@@ -232,6 +269,8 @@ class Checker:
             return
         if kind == "variable":
             if node.name in self.crate.consts:
+                if node.name not in self.crate.scopes[self.where]:
+                    self.refuse(node, f"the constant {node.name}, which is not in scope")
                 if role != "match" or node.changes:
                     self.refuse(node, "a constant as a pattern")
                 node.kind, node.value = "constant", Node("name", node.line, name=node.name)
@@ -455,12 +494,16 @@ class Checker:
         type_ = actual(self.base(node.value))
         self.unify(node, type_, ("list", Unknown(True)))
         self.unify(node, self.expr(node.index, "usize"), "usize")
+        if changes(node.index):
+            self.refuse(node, "an index that changes something")
         return type_[1]
 
     def _slice(self, node, want):
         type_ = actual(self.base(node.value))
         self.unify(node, type_, ("list", Unknown(True)))
         self.ends(node)
+        if any(changes(end) for end in (node.low, node.high) if end):
+            self.refuse(node, "an index that changes something")
         return type_
 
     def ends(self, node):
