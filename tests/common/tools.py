@@ -16,6 +16,7 @@ TOOLS = {
     "clang": {"clang": "clang", "clang++": "clang"},
     "make": {"make": "make"},
     "git": {"git": "git"},
+    "valgrind": {"valgrind": "valgrind"},
     "cargo": {"cargo": "cargo", "rustc": "rustc", "cc": "gcc"},
     "clippy": {"cargo-clippy": "rust-clippy"},
     "rustfmt": {"cargo-fmt": "rustfmt"},
@@ -50,7 +51,10 @@ TOOLS = {
 # What no package of Debian 12 has: tests of it run where that is there.
 PLACES = {"KVM": "import fcntl, os; fcntl.ioctl(fcntl.ioctl(os.open('/dev/kvm', os.O_RDWR), 0xAE01), 0xAE60)",
           "Deno": "deno", "Linux on x86-64": "/lib64/ld-linux-x86-64.so.2",
-          "folder VM_SUPERIO of vm-superio 0.8.2": "$VM_SUPERIO"}
+          "folder VM_SUPERIO of vm-superio 0.8.2": "$VM_SUPERIO",
+          # Those of docs/PERFORMANCE.md.
+          "rustc 1.95.0": "import os; assert ' 1.95.0 ' in os.popen('rustc --version').read()",
+          "gcc 12.2.0": "import os; assert os.popen('gcc -dumpfullversion').read() == '12.2.0\\n'"}
 
 
 @lru_cache(maxsize=None)
