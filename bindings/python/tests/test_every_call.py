@@ -14,12 +14,11 @@ from unittest import mock
 
 from support import FolderTest
 
-from superio import AlarmIsSetError, Command, I8042, Rtc, RtcState, SavedStateError, Serial, SerialState
+from superio import AlarmIsSetError, I8042, Rtc, RtcState, SavedStateError, Serial, SerialState
 from superio import devices, library, saved
 from superio.board import LINES, MASK, PROGRAM_LINES
 from superio.recording import replay
 from superio.registers import CLOCK, SERIAL
-from superio.script import text_of
 from superio.session import Session
 
 ROUNDS = 5_000
@@ -235,7 +234,9 @@ class EveryTrace(FolderTest):
             values = (device.to_bytes(),)
         values = tuple(value & 7 if name in ("sr", "sw") and place == 0 and source.random() < 0.9 else value
                        for place, value in enumerate(values))
-        return text_of(Command(name, values))
+        texts = (value.hex() if isinstance(value, bytes) else f"{value:0{field.digits}x}"
+                 for field, value in zip(LINES[name].fields, values))
+        return " ".join([name, *texts])
 
     def session(self, lines):
         """A session after these lines, and its calls. One that is refused makes none."""
