@@ -3,7 +3,7 @@
 not depend on when, where and by whom they are written.
 
 The library is the file that SUPERIO_LIBRARY names, or else the one in `prebuilt` for the processor that Python builds
-for. It needs no version of a C library, only `memcpy` from any, so its wheel has the tags of all of them.
+for. It needs no version of a C library, only `memcpy` and `memmove` from any, so its wheel has the tags of all of them.
 """
 import atexit
 import gzip

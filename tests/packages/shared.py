@@ -21,12 +21,12 @@ def symbols(library, *options):
 
 def assert_properties(library, more=(), less=()):
     """A shared library has what docs/RELEASE.md says, and no more. It shows the functions of the header, and takes only
-    memcpy from elsewhere: no stack protector, and no checked call of the C library."""
+    memcpy and memmove from elsewhere: no stack protector, and no checked call of the C library."""
     said = check(["readelf", "--wide", "--notes", "--segments", "--dynamic", "--sections", library])
     found = {pattern for pattern in [*HAS, *more, *LACKS, *less] if re.search(pattern, said)}
     assert found == {*HAS, *more}
     assert symbols(library, "--dynamic", "--defined-only") == read_header().functions.keys()
-    assert symbols(library, "--dynamic", "--undefined-only") == {"memcpy"}
+    assert symbols(library, "--dynamic", "--undefined-only") == {"memcpy", "memmove"}
 
 
 def finding(libdir, environment=os.environ):

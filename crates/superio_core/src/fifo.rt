@@ -1,10 +1,13 @@
 // SPDX-License-Identifier: Apache-2.0 OR BSD-3-Clause
 //! What a port needs of its receive FIFO, and a FIFO in the 64 places of an array.
 ghost use Rattle.std.specs.Prelude.{◌≡◌, ◌<◌, ◌≤◌, ◌+◌, ◌-◌, ◌%◌, ℕ, min, not, List, [], ◌∷◌, ◌++◌, length, take, drop, slice_get};
-ghost use Rattle.superio_core.specs.Serial.{not_empty, ring_contents};
+ghost use Rattle.superio_core.specs.Serial.{not_empty, ring_contents, ring_from};
 
 /// The capacity of the FIFO, as in a 16750.
 pub const FIFO_SIZE: usize = 64;
+
+/// From so many bytes on a copy is cheaper than a loop.
+const COPY_MIN: usize = 8;
 
 /// What a port needs from its receive FIFO: a list of at most 64 bytes, oldest first.
 pub trait RxFifo {
@@ -85,6 +88,61 @@ impl ArrayFifo {
     {
         (usize::from(self.head) + distance) % FIFO_SIZE
     }
+
+    /// The held bytes, oldest first, in two slices: up to the last place, and from the first place on.
+    pub(crate) fn as_slices(&self) -> (&[u8], &[u8])
+        ensures bytes { result.0.now ++ result.1.now ≡ ring_contents self.now }
+        ensures at_most_64 { length result.0.now + length result.1.now ≤ 64 }
+    {
+        let held = self.count();
+        let (from_start, to_end) = self.bytes.split_at(self.place(0));
+        let older = held.min(to_end.len());
+        (&to_end[..older], &from_start[..held - older])
+    }
+
+    /// Puts these bytes into the places after the first `held`, one at a time.
+    #[inline(always)]
+    fn put_each(&mut self, held: usize, bytes: &[u8])
+        requires { held + length bytes.now ≤ 64 }
+        ensures head { self.new.head ≡ self.old.head }
+        ensures len { self.new.len ≡ self.old.len }
+        ensures added { take (held + length bytes.now) (ring_from self.new.head self.new.bytes)
+            ≡ take held (ring_from self.old.head self.old.bytes) ++ bytes.now }
+    {
+        for i in 0..bytes.len() {
+            let place = self.place(held + i);
+            self.bytes[place] = bytes[i];
+        }
+    }
+
+    /// Puts these bytes into the places after the first `held`: those up to the last place, and then the others.
+    #[inline(never)]
+    fn put_all(&mut self, held: usize, bytes: &[u8])
+        requires { held + length bytes.now ≤ 64 }
+        ensures head { self.new.head ≡ self.old.head }
+        ensures len { self.new.len ≡ self.old.len }
+        ensures added { take (held + length bytes.now) (ring_from self.new.head self.new.bytes)
+            ≡ take held (ring_from self.old.head self.old.bytes) ++ bytes.now }
+    {
+        let room = FIFO_SIZE - self.place(held);
+        let (to_end, from_start) = bytes.split_at(bytes.len().min(room));
+        self.copy_in(held, to_end);
+        self.copy_in(held + to_end.len(), from_start);
+    }
+
+    /// Copies these bytes into the places after the first `held`. The last of them is no later than the last place.
+    #[inline(always)]
+    fn copy_in(&mut self, held: usize, bytes: &[u8])
+        requires room { held + length bytes.now ≤ 64 }
+        requires to_end { (self.old.head + held) % 64 + length bytes.now ≤ 64 }
+        ensures head { self.new.head ≡ self.old.head }
+        ensures len { self.new.len ≡ self.old.len }
+        ensures added { take (held + length bytes.now) (ring_from self.new.head self.new.bytes)
+            ≡ take held (ring_from self.old.head self.old.bytes) ++ bytes.now }
+    {
+        let place = self.place(held);
+        self.bytes[place..place + bytes.len()].copy_from_slice(bytes);
+    }
 }
 
 impl RxFifo for ArrayFifo {
@@ -130,9 +188,11 @@ impl RxFifo for ArrayFifo {
     fn fill(&mut self, bytes: &[u8]) -> usize {
         let held = self.count();
         let count = bytes.len().min(FIFO_SIZE - held);
-        for i in 0..count {
-            let place = self.place(held + i);
-            self.bytes[place] = bytes[i];
+        let bytes = &bytes[..count];
+        if count < COPY_MIN {
+            self.put_each(held, bytes);
+        } else {
+            self.put_all(held, bytes);
         }
         self.len = (held + count) as u8;
         count

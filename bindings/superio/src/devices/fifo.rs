@@ -6,6 +6,9 @@
 /// The capacity of the FIFO, as in a 16750.
 pub const FIFO_SIZE: usize = 64;
 
+/// From so many bytes on a copy is cheaper than a loop.
+const COPY_MIN: usize = 8;
+
 /// What a port needs from its receive FIFO: a list of at most 64 bytes, oldest first.
 pub trait RxFifo {
     /// How many bytes are held.
@@ -63,6 +66,39 @@ impl ArrayFifo {
     fn place(&self, distance: usize) -> usize {
         (usize::from(self.head) + distance) % FIFO_SIZE
     }
+
+    /// The held bytes, oldest first, in two slices: up to the last place, and from the first place on.
+    pub(crate) fn as_slices(&self) -> (&[u8], &[u8]) {
+        let held = self.count();
+        let (from_start, to_end) = self.bytes.split_at(self.place(0));
+        let older = held.min(to_end.len());
+        (&to_end[..older], &from_start[..held - older])
+    }
+
+    /// Puts these bytes into the places after the first `held`, one at a time.
+    #[inline(always)]
+    fn put_each(&mut self, held: usize, bytes: &[u8]) {
+        for i in 0..bytes.len() {
+            let place = self.place(held + i);
+            self.bytes[place] = bytes[i];
+        }
+    }
+
+    /// Puts these bytes into the places after the first `held`: those up to the last place, and then the others.
+    #[inline(never)]
+    fn put_all(&mut self, held: usize, bytes: &[u8]) {
+        let room = FIFO_SIZE - self.place(held);
+        let (to_end, from_start) = bytes.split_at(bytes.len().min(room));
+        self.copy_in(held, to_end);
+        self.copy_in(held + to_end.len(), from_start);
+    }
+
+    /// Copies these bytes into the places after the first `held`. The last of them is no later than the last place.
+    #[inline(always)]
+    fn copy_in(&mut self, held: usize, bytes: &[u8]) {
+        let place = self.place(held);
+        self.bytes[place..place + bytes.len()].copy_from_slice(bytes);
+    }
 }
 
 impl RxFifo for ArrayFifo {
@@ -104,9 +140,11 @@ impl RxFifo for ArrayFifo {
     fn fill(&mut self, bytes: &[u8]) -> usize {
         let held = self.count();
         let count = bytes.len().min(FIFO_SIZE - held);
-        for i in 0..count {
-            let place = self.place(held + i);
-            self.bytes[place] = bytes[i];
+        let bytes = &bytes[..count];
+        if count < COPY_MIN {
+            self.put_each(held, bytes);
+        } else {
+            self.put_all(held, bytes);
         }
         self.len = (held + count) as u8;
         count

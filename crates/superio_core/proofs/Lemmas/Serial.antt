@@ -3,13 +3,13 @@
 pub mod Coherence
 pub mod FirstRefused
 pub mod Step
-use Rattle.std.proofs.Common.{◌≡◌, ◌%◌, lit<, ℕ, zero, suc, ◌<◌, true, false, ◌==◌, refl, ap, ◌∙◌, arith, ◌+◌, ◌-◌, ◌≤◌, List, [], ◌∷◌, ◌++◌, length, take, drop, set, get_or, sym, inl, inr, length-append, length-take, length-drop, append-nil, slice_get, Some, bit_or}
+use Rattle.std.proofs.Common.{◌≡◌, ◌%◌, lit<, ℕ, zero, suc, ◌<◌, true, false, ◌==◌, refl, ap, ◌∙◌, arith, ◌+◌, ◌-◌, ◌≤◌, List, [], ◌∷◌, ◌++◌, length, take, drop, set, get_or, sym, subst, inl, inr, length-append, length-take, length-drop, append-nil, slice_get, Some, bit_or}
 use Rattle.std.proofs.Math.Nat.{mod-lt, mod-mod}
 use Rattle.std.proofs.lemmas.Nat.{and_assoc, mod_below}
 use Rattle.std.specs.Int.Bits.{and_mask, or_mod}
-use Rattle.std.proofs.lemmas.List.{drop-set-lt, drop-set-add, take-set-le, set-append_left, set-append_right, take-append-le, take_more_set, drop_all, append_assoc, take-take}
+use Rattle.std.proofs.lemmas.List.{drop-set-lt, drop-set-add, take-set-le, set-append_left, set-append_right, take-append-le, take_more_set, drop_all, append_assoc, take-take, drop-take, drop-drop, drop-append-le}
 use Rattle.std.proofs.lemmas.Bool.{cases_lt}
-use Rattle.std.proofs.Math.Seq.{take-set-lt, drop-cons, take-suc}
+use Rattle.std.proofs.Math.Seq.{take-set-lt, drop-cons, take-suc, take-append-add}
 use Rattle.superio_core.specs.Bits.{has_bits, only_bits, with_bits, without_bits}
 use Rattle.superio_core.proofs.Lemmas.{and-without}
 use Rattle.superio_core.specs.Serial.{Coherent, ring_contents, ArrayFifo, fresh_state}
@@ -98,7 +98,51 @@ take-from-set p d j xs b long pn dn jn at =
     let inside : d < length (from p xs) = omega (arith, length-from p xs (omega arith)) in
     ap (take (d + 1)) (from-set p d j xs b long pn dn jn at) ∙ take_more_set (from p xs) d b inside
 
-lies : (f d : ℕ) → d < 64 → Lies (f % 64) d ((f + d) % 64)
+-- bytes that are copied to a distance from the start, into places up to the last one: `copied` are the places after it
+take-from-copy :
+    (p d q : ℕ) (places copied bytes : List ℕ) → length places ≡ 64 → p < 64 → d + length bytes ≤ 64
+    → q + length bytes ≤ 64 → take (q + length bytes) copied ≡ take q places ++ bytes
+    → drop (q + length bytes) copied ≡ drop (q + length bytes) places
+    → Lies p d q → take (d + length bytes) (from p copied) ≡ take d (from p places) ++ bytes
+take-from-copy p d q places copied bytes long pn dn qn written rest (before at) =
+    let n = length bytes in
+    let same : length copied ≡ 64 =
+    omega (arith, ap length written, ap length rest, length-take (q + n) copied, length-drop (q + n) copied, length-append (take q places) bytes, length-take q places, length-drop (q + n) places) in
+    let end : q + n ≡ p + (d + n) = omega arith in
+    let inside : d + n ≤ length (drop p copied) = omega (arith, length-drop p copied) in
+    let held : d ≤ length (drop p places) = omega (arith, length-drop p places) in
+    let begin : p ≤ length (take q places) = omega (arith, length-take q places) in
+    take-append-le (d + n) (drop p copied) (take p copied) inside
+    ∙ sym (drop-take p (d + n) copied)
+    ∙ ap (λ k. drop p (take k copied)) (sym end)
+    ∙ ap (drop p) written
+    ∙ drop-append-le p (take q places) bytes begin
+    ∙ ap (λ k. drop p (take k places) ++ bytes) at
+    ∙ ap (λ l. l ++ bytes) (drop-take p d places)
+    ∙ sym (ap (λ l. l ++ bytes) (take-append-le d (drop p places) (take p places) held))
+take-from-copy p d q places copied bytes long pn dn qn written rest (after at) =
+    let n = length bytes in
+    let last = drop p places in
+    let size : length last ≡ 64 - p = omega (arith, length-drop p places) in
+    let more : p ≡ q + n + (p - (q + n)) = omega arith in
+    let kept : drop p copied ≡ last =
+    ap (λ k. drop k copied) more
+    ∙ sym (drop-drop (p - (q + n)) (q + n) copied)
+    ∙ ap (drop (p - (q + n))) rest
+    ∙ drop-drop (p - (q + n)) (q + n) places
+    ∙ sym (ap (λ k. drop k places) more) in
+    let far : d + n ≡ length last + (q + n) = omega arith in
+    let near : d ≡ length last + q = omega arith in
+    ap (λ l. take (d + n) (l ++ take p copied)) kept
+    ∙ ap (λ k. take k (last ++ take p copied)) far
+    ∙ take-append-add last (take p copied) (q + n)
+    ∙ ap (λ l. last ++ l) (take-take (q + n) p copied (omega arith) ∙ written)
+    ∙ sym (append_assoc last (take q places) bytes)
+    ∙ sym (ap (λ k. take k (last ++ take p places) ++ bytes) near
+    ∙ ap (λ l. l ++ bytes) (take-append-add last (take p places) q)
+    ∙ ap (λ l. (last ++ l) ++ bytes) (take-take q p places (omega arith)))
+
+lies : (f d : ℕ) → d ≤ 64 → Lies (f % 64) d ((f + d) % 64)
 lies f d dn =
     let pn : f % 64 < 64 = mod_below f 64 (omega arith) in
     let jn : (f + d) % 64 < 64 = mod_below (f + d) 64 (omega arith) in
@@ -113,7 +157,18 @@ pub take-ring-set :
     → take (d + 1) (from (f % 64) (set xs ((f + d) % 64) b)) ≡ take d (from (f % 64) xs) ++ b ∷ []
 take-ring-set f d xs b long dn =
     take-from-set (f % 64) d ((f + d) % 64) xs b long (mod_below f 64 (omega arith)) dn
-    (mod_below (f + d) 64 (omega arith)) (lies f d dn)
+    (mod_below (f + d) 64 (omega arith)) (lies f d (omega arith))
+
+-- bytes in the places past the ring's first d bytes
+pub take-ring-copy :
+    (f d q : ℕ) (places copied bytes : List ℕ) → q ≡ (f + d) % 64 → length places ≡ 64
+    → d + length bytes ≤ 64 → q + length bytes ≤ 64
+    → take (q + length bytes) copied ≡ take q places ++ bytes
+    → drop (q + length bytes) copied ≡ drop (q + length bytes) places
+    → take (d + length bytes) (from (f % 64) copied) ≡ take d (from (f % 64) places) ++ bytes
+take-ring-copy f d q places copied bytes here long dn qn written rest =
+    take-from-copy (f % 64) d q places copied bytes long (mod_below f 64 (omega arith)) dn qn written rest
+    (subst (λ place. Lies (f % 64) d place) (sym here) (lies f d (omega arith)))
 
 -- the ring without its oldest byte
 ring-rest :

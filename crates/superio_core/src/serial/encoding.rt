@@ -1,8 +1,8 @@
 // SPDX-License-Identifier: Apache-2.0 OR BSD-3-Clause
 //! The encoding of a serial port's state.
-ghost use Rattle.std.specs.Prelude.{◌≡◌, ◌≤◌, length, List, ℕ, ◌++◌, take, drop, IfOk};
+ghost use Rattle.std.specs.Prelude.{◌≡◌, ◌≤◌, ◌+◌, length, List, ℕ, ◌++◌, take, drop, IfOk};
 ghost use Rattle.std.specs.Result.{result_err, IsOkAnd};
-ghost use Rattle.superio_core.specs.Serial.{state_with, State, state_of_uart, ring_contents};
+ghost use Rattle.superio_core.specs.Serial.{state_with, State, state_of_uart};
 ghost use Rattle.superio_core.specs.Saved.{serial_encoding, serial_fault};
 
 use super::super::fifo::{ArrayFifo, FIFO_SIZE, RxFifo};
@@ -50,9 +50,9 @@ impl Uart {
         ensures encoding { result ≡ serial_encoding (state_of_uart self.now) }
         ensures at_most_81 { length result ≤ 81 }
     {
-        let (held, count) = fifo_to_array(self.in_buffer);
+        let (older, newer) = self.in_buffer.as_slices();
         let mut bytes = [0; SAVED_MAX];
-        let count = self.registers.encode_serial(&held[..count], &mut bytes);
+        let count = self.registers.encode_serial(older, newer, &mut bytes);
         SerialEncoding { bytes, count }
     }
 
@@ -71,41 +71,42 @@ impl Uart {
         ensures fault { result_err result ≡ serial_fault bytes.now }
     {
         let (registers, held) = decode_serial(bytes)?;
-        let mut in_buffer = ArrayFifo::new();
-        in_buffer.fill(held);
-        Ok(Uart {
+        let mut port = Uart {
             registers,
-            in_buffer,
-        })
+            in_buffer: ArrayFifo::new(),
+        };
+        port.in_buffer.fill(held);
+        Ok(port)
     }
 }
 
-/// The held bytes, oldest first, at the start of an array, and their number.
-fn fifo_to_array(mut held: ArrayFifo) -> ([u8; FIFO_SIZE], usize)
-    ensures bytes { take result.1 result.0 ≡ ring_contents held }
-    ensures bound { result.1 ≤ 64 }
+/// Copies two slices to the start of another, one after the other.
+fn copy_both(target: &mut [u8], first: &[u8], second: &[u8])
+    requires { length first.now + length second.now ≤ length target.old }
+    ensures { target.new ≡ first.now ++ second.now ++ drop (length first.now + length second.now) target.old }
 {
-    let mut bytes = [0; FIFO_SIZE];
-    let mut count = 0;
-    while let Some(byte) = held.take_first() {
-        bytes[count] = byte;
-        count += 1;
+    let (start, rest) = target.split_at_mut(first.len());
+    start.copy_from_slice(first);
+    // The held bytes are mostly in one piece.
+    if !second.is_empty() {
+        rest[..second.len()].copy_from_slice(second);
     }
-    (bytes, count)
 }
 
 impl Registers {
-    /// Writes the encoding of a port with these registers and received bytes to the start of an array, and returns its
-    /// length. The other bytes do not change.
-    fn encode_serial(&self, held: &[u8], encoding: &mut [u8; SAVED_MAX]) -> usize
-        requires { length held.now ≤ 64 }
-        ensures count { result ≡ length (serial_encoding (state_with self.now held.now)) }
-        ensures encoding { encoding.new ≡ serial_encoding (state_with self.now held.now) ++ drop result encoding.old }
+    /// Writes the encoding of a port with these registers and received bytes, in two slices, to the start of an array,
+    /// and returns its length. The other bytes do not change.
+    fn encode_serial(&self, older: &[u8], newer: &[u8], encoding: &mut [u8; SAVED_MAX]) -> usize
+        requires { length older.now + length newer.now ≤ 64 }
+        ensures count { result ≡ length (serial_encoding (state_with self.now (older.now ++ newer.now))) }
+        ensures encoding { encoding.new
+            ≡ serial_encoding (state_with self.now (older.now ++ newer.now)) ++ drop result encoding.old }
     {
+        let held = older.len() + newer.len();
         let (start, rest) = encoding.split_at_mut(SAVED_MIN);
-        start.copy_from_slice(&self.encode_prefix(held.len()));
-        rest[..held.len()].copy_from_slice(held);
-        SAVED_MIN + held.len()
+        start.copy_from_slice(&self.encode_prefix(held));
+        copy_both(rest, older, newer);
+        SAVED_MIN + held
     }
 
     /// The start of the encoding of a port with these registers and `held` received bytes.

@@ -35,9 +35,9 @@ impl Uart {
     /// It is a header of eight bytes, the registers in the order of the fields, and the received bytes, oldest first.
     // Clauses in crates/superio_core/src/serial/encoding.rt: encoding, at_most_81.
     pub fn to_bytes(&self) -> SerialEncoding {
-        let (held, count) = fifo_to_array(self.in_buffer);
+        let (older, newer) = self.in_buffer.as_slices();
         let mut bytes = [0; SAVED_MAX];
-        let count = self.registers.encode_serial(&held[..count], &mut bytes);
+        let count = self.registers.encode_serial(older, newer, &mut bytes);
         SerialEncoding { bytes, count }
     }
 
@@ -51,34 +51,34 @@ impl Uart {
     // Clauses in crates/superio_core/src/serial/encoding.rt: encoding, at_most_64, read, fault.
     pub fn from_bytes(bytes: &[u8]) -> Result<Uart, SavedStateError> {
         let (registers, held) = decode_serial(bytes)?;
-        let mut in_buffer = ArrayFifo::new();
-        in_buffer.fill(held);
-        Ok(Uart {
+        let mut port = Uart {
             registers,
-            in_buffer,
-        })
+            in_buffer: ArrayFifo::new(),
+        };
+        port.in_buffer.fill(held);
+        Ok(port)
     }
 }
 
-/// The held bytes, oldest first, at the start of an array, and their number.
-fn fifo_to_array(mut held: ArrayFifo) -> ([u8; FIFO_SIZE], usize) {
-    let mut bytes = [0; FIFO_SIZE];
-    let mut count = 0;
-    while let Some(byte) = held.take_first() {
-        bytes[count] = byte;
-        count += 1;
+/// Copies two slices to the start of another, one after the other.
+fn copy_both(target: &mut [u8], first: &[u8], second: &[u8]) {
+    let (start, rest) = target.split_at_mut(first.len());
+    start.copy_from_slice(first);
+    // The held bytes are mostly in one piece.
+    if !second.is_empty() {
+        rest[..second.len()].copy_from_slice(second);
     }
-    (bytes, count)
 }
 
 impl Registers {
-    /// Writes the encoding of a port with these registers and received bytes to the start of an array, and returns its
-    /// length. The other bytes do not change.
-    fn encode_serial(&self, held: &[u8], encoding: &mut [u8; SAVED_MAX]) -> usize {
+    /// Writes the encoding of a port with these registers and received bytes, in two slices, to the start of an array,
+    /// and returns its length. The other bytes do not change.
+    fn encode_serial(&self, older: &[u8], newer: &[u8], encoding: &mut [u8; SAVED_MAX]) -> usize {
+        let held = older.len() + newer.len();
         let (start, rest) = encoding.split_at_mut(SAVED_MIN);
-        start.copy_from_slice(&self.encode_prefix(held.len()));
-        rest[..held.len()].copy_from_slice(held);
-        SAVED_MIN + held.len()
+        start.copy_from_slice(&self.encode_prefix(held));
+        copy_both(rest, older, newer);
+        SAVED_MIN + held
     }
 
     /// The start of the encoding of a port with these registers and `held` received bytes.
