@@ -21,11 +21,7 @@ pub extern "C" fn superio_serial_read(port: &mut Uart, offset: u8) -> ReadEffect
     ensures step { IsUartRead offset result (state_of_uart port.old) (state_of_uart port.new) }
     ensures coherent { CoherentUart port.old → CoherentUart port.new }
 {
-    // Only at 0 there are events. The compiler then puts no struct together for another offset: it is the byte alone.
-    match offset {
-        0 => port.read(0),
-        _ => port.read(offset),
-    }
+    port.read(offset)
 }
 
 /// The guest writes `value` at `offset`.

@@ -50,6 +50,11 @@ pub and-without-apart : (number bits others : ℕ) → bit_and bits others ≡ 0
 and-without-apart number bits others apart =
     same_from_bits _ _ (λ k. grind (arith, bit_at_and (without_bits number bits) others k, bit_at_and number others k, bit_at_and bits others k, ap (λ n. bit_at n k) apart, bit_at-without number bits k, bit_at-lt number k, bit_at-lt bits k, bit_at-lt others k))
 
+-- to set bits leaves the others as they were
+pub and-or-apart : (number bits others : ℕ) → bit_and bits others ≡ 0 → bit_and (bit_or number bits) others ≡ bit_and number others
+and-or-apart number bits others apart =
+    same_from_bits _ _ (λ k. grind (arith, bit_at_and (bit_or number bits) others k, bit_at_and number others k, bit_at_and bits others k, ap (λ n. bit_at n k) apart, bit_at_or number bits k, bit_at-lt number k, bit_at-lt bits k, bit_at-lt others k))
+
 -- to set bits twice is to set them once
 pub or-twice : (number bits : ℕ) → bit_or (bit_or number bits) bits ≡ bit_or number bits
 or-twice number bits =

@@ -167,7 +167,7 @@ impl RxFifo for ArrayFifo {
             return None;
         }
         let byte = self.bytes[self.place(0)];
-        self.head = self.place(1) as u8;
+        self.head = self.head.wrapping_add(1);
         self.len = (held - 1) as u8;
         Some(byte)
     }

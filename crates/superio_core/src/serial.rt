@@ -8,9 +8,9 @@
 //! work with every receive FIFO.
 ghost use Rattle.std.specs.Prelude.{◌≡◌, ◌↔◌, ◌≤◌, ◌-◌, ◌==◌, not, length, IsTrue, if◌then◌else◌, [], slice_index};
 ghost use Rattle.superio_core.specs.Serial.{fresh_state, state_of_uart, CoherentUart, RdaCoversHeldBytes, irq_level, conditions_due, not_empty, state_with, register_read, is_asserted};
-ghost use Rattle.superio_core.specs.Serial.Step.{IsUartRead, IsUartWrite, IsUartEnqueue, IsUartTimeout, becomes_pending, iir_after_raise, iir_after_lower, bytes_that_fit, receive_bytes, rbr_read, ier_write, read_step, write_step, character_timeout, read_events, ier_write_calls, arrival_calls, timeout_calls, decoded_calls};
-ghost use Rattle.superio_core.specs.Serial.RegisterMap.{lsr_dr_bit, ier_bits, Rda, Thre, Data, is_loopback};
-ghost use Rattle.superio_core.specs.Bits.{only_bits, with_bits};
+ghost use Rattle.superio_core.specs.Serial.Step.{IsUartRead, IsUartWrite, IsUartEnqueue, IsUartTimeout, iir_none_bit, becomes_pending, iir_after_raise, iir_after_lower, bytes_that_fit, receive_bytes, rbr_read, ier_write, read_step, write_step, character_timeout, read_events, ier_write_calls, arrival_calls, timeout_calls, decoded_calls};
+ghost use Rattle.superio_core.specs.Serial.RegisterMap.{lsr_dr_bit, ier_bits, iir_bit, Rda, Thre, Data, is_loopback};
+ghost use Rattle.superio_core.specs.Bits.{only_bits, with_bits, without_bits};
 ghost use Rattle.superio_core.specs.Serial.Operations.{count_if, is_first_of_two_refused, decode_write, sent_by, events_of_read};
 
 pub mod encoding;
@@ -197,6 +197,27 @@ pub enum Sent {
 // ---- the steps
 
 impl Registers {
+    /// Whether a condition that is raised becomes pending: it is enabled and not pending.
+    #[inline(always)]
+    fn becomes_pending(&self, condition: Condition) -> bool
+        ensures { result ≡ becomes_pending condition self.now.interrupt_enable self.now.interrupt_identification }
+    {
+        has_bits(self.interrupt_enable, condition.ier_bit())
+            && !has_bits(self.interrupt_identification, condition.iir_bit())
+    }
+
+    /// Shows a condition as pending.
+    #[inline(always)]
+    fn set_pending(&mut self, condition: Condition)
+        ensures { self.new ≡ record self.old {
+          interrupt_identification =
+              with_bits (without_bits self.old.interrupt_identification iir_none_bit) (iir_bit condition);
+        } }
+    {
+        let others = without_bits(self.interrupt_identification, IIR_NONE_BIT);
+        self.interrupt_identification = with_bits(others, condition.iir_bit());
+    }
+
     /// Raises a condition: if it is enabled and not pending, it becomes pending. Returns whether to call the trigger,
     /// once.
     #[inline(always)]
@@ -208,13 +229,10 @@ impl Registers {
               iir_after_raise condition self.old.interrupt_enable self.old.interrupt_identification;
         } }
     {
-        if !has_bits(self.interrupt_enable, condition.ier_bit())
-            || has_bits(self.interrupt_identification, condition.iir_bit())
-        {
+        if !self.becomes_pending(condition) {
             return false;
         }
-        let others = without_bits(self.interrupt_identification, IIR_NONE_BIT);
-        self.interrupt_identification = with_bits(others, condition.iir_bit());
+        self.set_pending(condition);
         true
     }
 
@@ -225,12 +243,16 @@ impl Registers {
           interrupt_identification = iir_after_lower condition self.old.interrupt_identification;
         } }
     {
+        if self.interrupt_identification == IIR_NONE_BIT {
+            return;
+        }
         let others = without_bits(self.interrupt_identification, condition.iir_bit());
         self.interrupt_identification = if others == 0 { IIR_NONE_BIT } else { others };
     }
 
     /// An IER write: stores the bits that it keeps, raises RDA if bytes are held, then raises THRE. Returns how often to
     /// call the trigger.
+    #[tactic(auto, using(crate::proofs::Lemmas::Serial::Step::thre_beside_rda))]
     #[inline(always)]
     fn write_ier<F: RxFifo>(&mut self, fifo: &F, value: u8) -> u8
         ensures due { result ≡ ier_write_calls (only_bits value ier_bits) (state_with self.old (F.held fifo.now)) }
@@ -239,12 +261,28 @@ impl Registers {
             ≡ ier_write (only_bits value ier_bits) Asked.Nothing (state_with self.old (F.held fifo.now)) }
     {
         self.interrupt_enable = only_bits(value, IER_UART_VALID_BITS);
-        if !fifo.is_empty() && self.raise(Condition::Rda) {
-            if self.raise(Condition::Thre) { 2 } else { 1 }
-        } else if self.raise(Condition::Thre) {
-            1
-        } else {
-            0
+        if fifo.is_empty() {
+            return u8::from(self.raise(Condition::Thre));
+        }
+        // Both are decided before one is set, which takes fewer instructions.
+        match (
+            self.becomes_pending(Condition::Rda),
+            self.becomes_pending(Condition::Thre),
+        ) {
+            (true, true) => {
+                self.set_pending(Condition::Rda);
+                self.set_pending(Condition::Thre);
+                2
+            }
+            (true, false) => {
+                self.set_pending(Condition::Rda);
+                1
+            }
+            (false, true) => {
+                self.set_pending(Condition::Thre);
+                1
+            }
+            (false, false) => 0,
         }
     }
 

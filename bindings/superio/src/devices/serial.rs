@@ -169,23 +169,37 @@ pub enum Sent {
 // ---- the steps
 
 impl Registers {
+    /// Whether a condition that is raised becomes pending: it is enabled and not pending.
+    #[inline(always)]
+    fn becomes_pending(&self, condition: Condition) -> bool {
+        has_bits(self.interrupt_enable, condition.ier_bit())
+            && !has_bits(self.interrupt_identification, condition.iir_bit())
+    }
+
+    /// Shows a condition as pending.
+    #[inline(always)]
+    fn set_pending(&mut self, condition: Condition) {
+        let others = without_bits(self.interrupt_identification, IIR_NONE_BIT);
+        self.interrupt_identification = with_bits(others, condition.iir_bit());
+    }
+
     /// Raises a condition: if it is enabled and not pending, it becomes pending. Returns whether to call the trigger,
     /// once.
     #[inline(always)]
     fn raise(&mut self, condition: Condition) -> bool {
-        if !has_bits(self.interrupt_enable, condition.ier_bit())
-            || has_bits(self.interrupt_identification, condition.iir_bit())
-        {
+        if !self.becomes_pending(condition) {
             return false;
         }
-        let others = without_bits(self.interrupt_identification, IIR_NONE_BIT);
-        self.interrupt_identification = with_bits(others, condition.iir_bit());
+        self.set_pending(condition);
         true
     }
 
     /// Lowers a condition: it is no longer pending.
     #[inline(always)]
     fn lower(&mut self, condition: Condition) {
+        if self.interrupt_identification == IIR_NONE_BIT {
+            return;
+        }
         let others = without_bits(self.interrupt_identification, condition.iir_bit());
         self.interrupt_identification = if others == 0 { IIR_NONE_BIT } else { others };
     }
@@ -195,12 +209,28 @@ impl Registers {
     #[inline(always)]
     fn write_ier<F: RxFifo>(&mut self, fifo: &F, value: u8) -> u8 {
         self.interrupt_enable = only_bits(value, IER_UART_VALID_BITS);
-        if !fifo.is_empty() && self.raise(Condition::Rda) {
-            if self.raise(Condition::Thre) { 2 } else { 1 }
-        } else if self.raise(Condition::Thre) {
-            1
-        } else {
-            0
+        if fifo.is_empty() {
+            return u8::from(self.raise(Condition::Thre));
+        }
+        // Both are decided before one is set, which takes fewer instructions.
+        match (
+            self.becomes_pending(Condition::Rda),
+            self.becomes_pending(Condition::Thre),
+        ) {
+            (true, true) => {
+                self.set_pending(Condition::Rda);
+                self.set_pending(Condition::Thre);
+                2
+            }
+            (true, false) => {
+                self.set_pending(Condition::Rda);
+                1
+            }
+            (false, true) => {
+                self.set_pending(Condition::Thre);
+                1
+            }
+            (false, false) => 0,
         }
     }
 

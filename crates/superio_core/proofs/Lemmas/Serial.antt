@@ -4,7 +4,7 @@ pub mod Coherence
 pub mod FirstRefused
 pub mod Step
 use Rattle.std.proofs.Common.{◌≡◌, ◌%◌, lit<, ℕ, zero, suc, ◌<◌, true, false, ◌==◌, refl, ap, ◌∙◌, arith, ◌+◌, ◌-◌, ◌≤◌, List, [], ◌∷◌, ◌++◌, length, take, drop, set, get_or, sym, subst, inl, inr, length-append, length-take, length-drop, append-nil, slice_get, Some, bit_or}
-use Rattle.std.proofs.Math.Nat.{mod-lt, mod-mod}
+use Rattle.std.proofs.Math.Nat.{mod-lt}
 use Rattle.std.proofs.lemmas.Nat.{and_assoc, mod_below}
 use Rattle.std.specs.Int.Bits.{and_mask, or_mod}
 use Rattle.std.proofs.lemmas.List.{drop-set-lt, drop-set-add, take-set-le, set-append_left, set-append_right, take-append-le, take_more_set, drop_all, append_assoc, take-take, drop-take, drop-drop, drop-append-le}
@@ -196,10 +196,10 @@ ring-rest p q n xs long pn le (after at) =
     ∙ sym (ap (λ l. drop 1 (take (suc n) (l ++ take p xs))) head ∙ ap (λ l. take n (l ++ take p xs)) none)
 
 pub take-ring-rest :
-    (f n : ℕ) (xs : List ℕ) → length xs ≡ 64 → n < 64
-    → take n (from ((f + 1) % 64 % 64) xs) ≡ drop 1 (take (suc n) (from (f % 64) xs))
-take-ring-rest f n xs long le =
-    ap (λ k. take n (from k xs)) (mod-mod (f + 1) 64)
+    (f g n : ℕ) (xs : List ℕ) → length xs ≡ 64 → n < 64 → g % 64 ≡ (f + 1) % 64
+    → take n (from (g % 64) xs) ≡ drop 1 (take (suc n) (from (f % 64) xs))
+take-ring-rest f g n xs long le next =
+    ap (λ k. take n (from k xs)) next
     ∙ ring-rest (f % 64) ((f + 1) % 64) n xs long (mod_below f 64 (omega arith)) le (lies f 1 (omega arith))
 
 -- the oldest byte

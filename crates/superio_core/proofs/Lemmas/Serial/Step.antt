@@ -8,6 +8,7 @@ use Rattle.superio_core.specs.Serial.{State, not_empty, is_asserted, irq_level, 
 use Rattle.superio_core.specs.Bits.{only_bits, has_bits, with_bits, without_bits}
 use Rattle.superio_core.specs.Serial.RegisterMap.{Register, Data, Ier, ier_bits, register_at, is_dlab, is_loopback, Thre, Rda, identification_of, pending_in_order}
 use Rattle.superio_core.specs.Serial.Step.{iir_after_raise, enqueued_bytes, receive_bytes, bytes_that_fit, becomes_pending, rda_becomes_pending, raise_rda_while_held, decode_in, step, rbr_read, ier_write, read_step, write_step, character_timeout, answers_all}
+use Rattle.superio_core.proofs.Lemmas.{and-or-apart, and-without-apart}
 use Rattle.superio_core.proofs.Lemmas.Serial.{enables_rda, enables_thre}
 
 -- ---- the state
@@ -59,6 +60,16 @@ next_by_kind s (Enqueue bytes) asked =
     enqueue_by_kind (is_loopback s.modem_control) (is_dlab s.line_control) bytes asked s refl
 next_by_kind s CharacterTimeout asked = same_bytes _
 next_by_kind s Restore asked = same_bytes _
+
+-- ---- raising both conditions
+
+-- to set RDA leaves the bit of THRE as it was
+pub thre_beside_rda : (identification : ℕ)
+    → has_bits (with_bits (without_bits identification 0x01) 0x04) 0x02 ≡ has_bits identification 0x02
+unfolding has_bits with_bits
+thre_beside_rda identification =
+    ap (λ n. n == 0x02)
+    (and-or-apart (without_bits identification 0x01) 0x04 0x02 refl ∙ and-without-apart identification 0x01 0x02 refl)
 
 -- ---- raising a condition, if IIR shows two conditions
 

@@ -1,6 +1,6 @@
 -- SPDX-License-Identifier: Apache-2.0 OR BSD-3-Clause
 -- The ring without its oldest byte.
-use Rattle.std.proofs.Common.{◌≡◌, ◌-◌, ◌<◌, ◌%◌, suc, min, length, take, drop, get_or, Some, slice_get, sym, ap, ◌∙◌, arith}
+use Rattle.std.proofs.Common.{◌≡◌, ◌+◌, ◌-◌, ◌<◌, ◌%◌, suc, min, length, take, drop, get_or, Some, slice_get, sym, ap, ◌∙◌, arith}
 use Rattle.superio_core.specs.Serial.{ring_from}
 use Rattle.superio_core.proofs.Lemmas.Serial.{take-ring-rest, ring-first}
 use Rattle.superio_core.proofs.fifo.ArrayFifoRxFifo.take_first.Goals as goal
@@ -24,7 +24,7 @@ returns-clause-rest c =
     let held : suc rest ≡ min fifo.len 64 = omega arith in
     let fewer : min rest 64 ≡ rest = omega arith in
     let below : rest < 64 = omega arith in
-    ap (λ n. take n (ring_from c.place-2.result fifo.bytes)) fewer
-    ∙ ap (λ place. take rest (ring_from place fifo.bytes)) c.place-2.ensures.value
-    ∙ take-ring-rest fifo.head rest fifo.bytes long below
+    let next : (fifo.head + 1) % 256 % 64 ≡ (fifo.head + 1) % 64 = omega arith in
+    ap (λ n. take n (ring_from ((fifo.head + 1) % 256) fifo.bytes)) fewer
+    ∙ take-ring-rest fifo.head ((fifo.head + 1) % 256) rest fifo.bytes long below next
     ∙ ap (λ n. drop 1 (take n (ring_from fifo.head fifo.bytes))) held
