@@ -194,11 +194,13 @@ impl<EV: RtcEvents + fmt::Debug> fmt::Debug for Rtc<EV> {
 }
 
 /// The moment of a host's time: the seconds since 1970, or 0 if it is before that.
+#[inline(always)]
 fn moment_of(time: SystemTime) -> u64 {
     time.duration_since(UNIX_EPOCH).map_or(0, |since| since.as_secs())
 }
 
 /// The host's time.
+#[inline(always)]
 fn moment() -> u64 {
     moment_of(SystemTime::now())
 }
@@ -267,12 +269,42 @@ impl<EV: RtcEvents> Rtc<EV> {
     /// The guest writes `data`, lowest byte first, at `offset` from the clock's base.
     ///
     /// A write to an unwritable offset stores nothing and calls the events object's `invalid_write` once.
+    ///
+    /// Asks for the host's time once at a write of RTCMR or RTCLR and, while an alarm is set, at any write. To spare
+    /// that, use [`write_at`](Rtc::write_at).
     pub fn write(&mut self, offset: u16, data: &[u8; 4]) {
-        let needs_time = offset == RTCMR || offset == RTCLR || self.is_armed();
-        self.write_at(offset, data, if needs_time { moment() } else { 0 });
+        if self.is_armed() {
+            self.write_now(offset, data);
+        } else if offset > RTCLR {
+            self.write_at(offset, data, 0); // the registers of guest time come first
+        } else {
+            match offset {
+                RTCMR => self.write_match_now(data),
+                RTCLR => self.write_load_now(data),
+                _ => self.write_at(offset, data, 0),
+            }
+        }
     }
 
-    /// Writes as [`write`](Rtc::write) does, at the moment `now`, in seconds since 1970, instead of the host's time.
+    // What asks for the time is in functions of its own, so that other accesses save no registers for it.
+
+    #[inline(never)]
+    fn write_now(&mut self, offset: u16, data: &[u8; 4]) {
+        self.write_at(offset, data, moment());
+    }
+
+    #[inline(never)]
+    fn write_match_now(&mut self, data: &[u8; 4]) {
+        self.write_at(RTCMR, data, moment());
+    }
+
+    #[inline(never)]
+    fn write_load_now(&mut self, data: &[u8; 4]) {
+        self.write_at(RTCLR, data, moment());
+    }
+
+    /// Writes as [`write`](Rtc::write) does, at the moment `now`, in seconds since 1970, and asks nobody for the time.
+    #[inline(always)]
     pub fn write_at(&mut self, offset: u16, data: &[u8; 4], now: u64) {
         if !self.clock.write(offset, u32::from_le_bytes(*data), now) {
             self.events.invalid_write();
@@ -282,12 +314,31 @@ impl<EV: RtcEvents> Rtc<EV> {
     /// The guest reads into `data`, lowest byte first, at `offset` from the clock's base.
     ///
     /// A read of an unreadable offset leaves `data` unchanged and calls the events object's `invalid_read` once.
+    ///
+    /// Asks for the host's time once at a read of RTCDR and, while an alarm is set, at any read. To spare that, use
+    /// [`read_at`](Rtc::read_at).
     pub fn read(&mut self, offset: u16, data: &mut [u8; 4]) {
-        let needs_time = offset == RTCDR || self.is_armed();
-        self.read_at(offset, data, if needs_time { moment() } else { 0 });
+        if self.is_armed() {
+            self.read_now(offset, data);
+        } else if offset == RTCDR {
+            self.read_guest_time_now(data);
+        } else {
+            self.read_at(offset, data, 0);
+        }
     }
 
-    /// Reads as [`read`](Rtc::read) does, at the moment `now`, in seconds since 1970, instead of the host's time.
+    #[inline(never)]
+    fn read_now(&mut self, offset: u16, data: &mut [u8; 4]) {
+        self.read_at(offset, data, moment());
+    }
+
+    #[inline(never)]
+    fn read_guest_time_now(&mut self, data: &mut [u8; 4]) {
+        self.read_at(RTCDR, data, moment());
+    }
+
+    /// Reads as [`read`](Rtc::read) does, at the moment `now`, in seconds since 1970, and asks nobody for the time.
+    #[inline(always)]
     pub fn read_at(&mut self, offset: u16, data: &mut [u8; 4], now: u64) {
         match self.clock.read(offset, now) {
             Some(value) => *data = value.to_le_bytes(),
