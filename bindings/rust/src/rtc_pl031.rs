@@ -169,7 +169,7 @@ impl StdError for AlarmIsSet {}
 /// clock.read(RTCDR, &mut data);
 /// assert!((1_000..1_010).contains(&u32::from_le_bytes(data)));
 ///
-/// // A test passes the moments, in seconds since 1970, and needs no clock.
+/// // A monitor that has the moment of an exit, in seconds since 1970, passes it. A test needs no clock then.
 /// clock.write_at(RTCLR, &1_000u32.to_le_bytes(), 70_000);
 /// clock.read_at(RTCDR, &mut data, 70_007);
 /// assert_eq!(u32::from_le_bytes(data), 1_007);
@@ -203,6 +203,33 @@ fn moment_of(time: SystemTime) -> u64 {
 #[inline(always)]
 fn moment() -> u64 {
     moment_of(SystemTime::now())
+}
+
+// What asks for the host's time is in functions of its own, so that other accesses save no registers for it.
+
+#[inline(never)]
+fn read_now(clock: &mut Pl031, offset: u16) -> Option<u32> {
+    clock.read(offset, moment())
+}
+
+#[inline(never)]
+fn read_guest_time_now(clock: &mut Pl031) -> Option<u32> {
+    clock.read(RTCDR, moment())
+}
+
+#[inline(never)]
+fn write_now(clock: &mut Pl031, offset: u16, value: u32) -> bool {
+    clock.write(offset, value, moment())
+}
+
+#[inline(never)]
+fn write_match_now(clock: &mut Pl031, value: u32) -> bool {
+    clock.write(RTCMR, value, moment())
+}
+
+#[inline(never)]
+fn write_load_now(clock: &mut Pl031, value: u32) -> bool {
+    clock.write(RTCLR, value, moment())
 }
 
 impl Default for Rtc<NoEvents> {
@@ -273,40 +300,29 @@ impl<EV: RtcEvents> Rtc<EV> {
     /// Asks for the host's time once at a write of RTCMR or RTCLR and, while an alarm is set, at any write. To spare
     /// that, use [`write_at`](Rtc::write_at).
     pub fn write(&mut self, offset: u16, data: &[u8; 4]) {
-        if self.is_armed() {
-            self.write_now(offset, data);
+        let value = u32::from_le_bytes(*data);
+        let is_valid = if self.is_armed() {
+            write_now(&mut self.clock, offset, value)
         } else if offset > RTCLR {
-            self.write_at(offset, data, 0); // the registers of guest time come first
+            self.clock.write(offset, value, 0) // the registers of guest time come first
         } else {
             match offset {
-                RTCMR => self.write_match_now(data),
-                RTCLR => self.write_load_now(data),
-                _ => self.write_at(offset, data, 0),
+                RTCMR => write_match_now(&mut self.clock, value),
+                RTCLR => write_load_now(&mut self.clock, value),
+                _ => self.clock.write(offset, value, 0),
             }
-        }
-    }
-
-    // What asks for the time is in functions of its own, so that other accesses save no registers for it.
-
-    #[inline(never)]
-    fn write_now(&mut self, offset: u16, data: &[u8; 4]) {
-        self.write_at(offset, data, moment());
-    }
-
-    #[inline(never)]
-    fn write_match_now(&mut self, data: &[u8; 4]) {
-        self.write_at(RTCMR, data, moment());
-    }
-
-    #[inline(never)]
-    fn write_load_now(&mut self, data: &[u8; 4]) {
-        self.write_at(RTCLR, data, moment());
+        };
+        self.report_write(is_valid);
     }
 
     /// Writes as [`write`](Rtc::write) does, at the moment `now`, in seconds since 1970, and asks nobody for the time.
-    #[inline(always)]
     pub fn write_at(&mut self, offset: u16, data: &[u8; 4], now: u64) {
-        if !self.clock.write(offset, u32::from_le_bytes(*data), now) {
+        let is_valid = self.clock.write(offset, u32::from_le_bytes(*data), now);
+        self.report_write(is_valid);
+    }
+
+    fn report_write(&self, is_valid: bool) {
+        if !is_valid {
             self.events.invalid_write();
         }
     }
@@ -318,29 +334,24 @@ impl<EV: RtcEvents> Rtc<EV> {
     /// Asks for the host's time once at a read of RTCDR and, while an alarm is set, at any read. To spare that, use
     /// [`read_at`](Rtc::read_at).
     pub fn read(&mut self, offset: u16, data: &mut [u8; 4]) {
-        if self.is_armed() {
-            self.read_now(offset, data);
-        } else if offset == RTCDR {
-            self.read_guest_time_now(data);
-        } else {
-            self.read_at(offset, data, 0);
+        if offset != RTCDR && !self.is_armed() {
+            return self.read_at(offset, data, 0);
         }
-    }
-
-    #[inline(never)]
-    fn read_now(&mut self, offset: u16, data: &mut [u8; 4]) {
-        self.read_at(offset, data, moment());
-    }
-
-    #[inline(never)]
-    fn read_guest_time_now(&mut self, data: &mut [u8; 4]) {
-        self.read_at(RTCDR, data, moment());
+        let value = match offset {
+            RTCDR => read_guest_time_now(&mut self.clock),
+            _ => read_now(&mut self.clock, offset),
+        };
+        self.show(value, data);
     }
 
     /// Reads as [`read`](Rtc::read) does, at the moment `now`, in seconds since 1970, and asks nobody for the time.
-    #[inline(always)]
     pub fn read_at(&mut self, offset: u16, data: &mut [u8; 4], now: u64) {
-        match self.clock.read(offset, now) {
+        let value = self.clock.read(offset, now);
+        self.show(value, data);
+    }
+
+    fn show(&self, value: Option<u32>, data: &mut [u8; 4]) {
+        match value {
             Some(value) => *data = value.to_le_bytes(),
             None => self.events.invalid_read(),
         }
