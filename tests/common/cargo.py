@@ -65,10 +65,6 @@ def toolchain_for(target):
             return found
     return None
 
-def lacking():
-    """What is not here of what builds with Cargo, or `None`. By cc it links programs."""
-    return next((tool for tool in ("cargo", "cc") if not shutil.which(tool)), None)
-
 def add_crate(folder, code, rest="[features]\nderive = []\n"):
     """Makes a crate, whose name and version the folder may have. One without code takes the place of an optional
     dependency, which has to be there, to be left out."""

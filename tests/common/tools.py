@@ -2,6 +2,7 @@
 """What tests need of a machine, and the packages of Debian 12 that have it. As a program it prints those of what is missing,
 but for the kit, which is no package; one of another architecture ends with its name."""
 import os
+import re
 import shutil
 import subprocess
 from functools import lru_cache
@@ -15,6 +16,7 @@ TOOLS = {
     "c++": {"g++": "g++"},
     "clang": {"clang": "clang", "clang++": "clang"},
     "make": {"make": "make"},
+    "valgrind": {"valgrind": "valgrind"},
     "git": {"git": "git"},
     "cargo": {"cargo": "cargo", "rustc": "rustc", "cc": "gcc"},
     "clippy": {"cargo-clippy": "rust-clippy"},
@@ -55,11 +57,14 @@ PLACES = {"KVM": "import fcntl, os; fcntl.ioctl(fcntl.ioctl(os.open('/dev/kvm', 
 
 @lru_cache(maxsize=None)
 def is_there(what):
-    """Whether a command, a file, a variable of the environment, or what a line of Python imports is there."""
+    """Whether a command, perhaps of a version, a file, a variable, or what a line of Python imports is there."""
     if what.startswith("import "):
         return subprocess.run(["/usr/bin/python3", "-c", what], capture_output=True).returncode == 0
     if what.startswith("$"):
         return what[1:] in os.environ
+    if version := re.fullmatch(r"(\w+) ([\d.]+)", what):
+        words = [version[1], "--version"]
+        return is_there(words[0]) and version[2] in subprocess.run(words, capture_output=True, text=True).stdout.split()
     return bool(glob(what)) if what.startswith("/") else shutil.which(what) is not None
 
 

@@ -12,6 +12,8 @@ use superio::rtc_pl031::RtcEvents;
 use superio::serial::SerialEvents;
 
 static MOMENT: AtomicU64 = AtomicU64::new(0);
+/// How often the clock has asked for the host's time.
+pub static ASKED: AtomicU64 = AtomicU64::new(0);
 
 /// Sets the moment that the clock sees, in seconds since the start of 1970. The clock looks at its low 32 bits.
 pub fn set_moment(moment: u64) {
@@ -25,6 +27,7 @@ pub fn set_moment(moment: u64) {
 /// Two numbers of 64 bits can be written to `time`, as on 64-bit Linux.
 #[no_mangle]
 unsafe extern "C" fn clock_gettime(_clock: i32, time: *mut [u64; 2]) -> i32 {
+    ASKED.fetch_add(1, Ordering::Relaxed);
     time.write([MOMENT.load(Ordering::Relaxed), 0]);
     0
 }

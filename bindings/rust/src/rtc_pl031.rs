@@ -169,7 +169,7 @@ impl StdError for AlarmIsSet {}
 /// clock.read(RTCDR, &mut data);
 /// assert!((1_000..1_010).contains(&u32::from_le_bytes(data)));
 ///
-/// // A test passes the moments, in seconds since 1970, and needs no clock.
+/// // A monitor that has the moment of an exit, in seconds since 1970, passes it. A test needs no clock then.
 /// clock.write_at(RTCLR, &1_000u32.to_le_bytes(), 70_000);
 /// clock.read_at(RTCDR, &mut data, 70_007);
 /// assert_eq!(u32::from_le_bytes(data), 1_007);
@@ -194,13 +194,42 @@ impl<EV: RtcEvents + fmt::Debug> fmt::Debug for Rtc<EV> {
 }
 
 /// The moment of a host's time: the seconds since 1970, or 0 if it is before that.
+#[inline(always)]
 fn moment_of(time: SystemTime) -> u64 {
     time.duration_since(UNIX_EPOCH).map_or(0, |since| since.as_secs())
 }
 
 /// The host's time.
+#[inline(always)]
 fn moment() -> u64 {
     moment_of(SystemTime::now())
+}
+
+// What asks for the host's time is in functions of its own, so that other accesses save no registers for it.
+
+#[inline(never)]
+fn read_now(clock: &mut Pl031, offset: u16) -> Option<u32> {
+    clock.read(offset, moment())
+}
+
+#[inline(never)]
+fn read_guest_time_now(clock: &mut Pl031) -> Option<u32> {
+    clock.read(RTCDR, moment())
+}
+
+#[inline(never)]
+fn write_now(clock: &mut Pl031, offset: u16, value: u32) -> bool {
+    clock.write(offset, value, moment())
+}
+
+#[inline(never)]
+fn write_match_now(clock: &mut Pl031, value: u32) -> bool {
+    clock.write(RTCMR, value, moment())
+}
+
+#[inline(never)]
+fn write_load_now(clock: &mut Pl031, value: u32) -> bool {
+    clock.write(RTCLR, value, moment())
 }
 
 impl Default for Rtc<NoEvents> {
@@ -267,14 +296,33 @@ impl<EV: RtcEvents> Rtc<EV> {
     /// The guest writes `data`, lowest byte first, at `offset` from the clock's base.
     ///
     /// A write to an unwritable offset stores nothing and calls the events object's `invalid_write` once.
+    ///
+    /// Asks for the host's time once at a write of RTCMR or RTCLR and, while an alarm is set, at any write. To spare
+    /// that, use [`write_at`](Rtc::write_at).
     pub fn write(&mut self, offset: u16, data: &[u8; 4]) {
-        let needs_time = offset == RTCMR || offset == RTCLR || self.is_armed();
-        self.write_at(offset, data, if needs_time { moment() } else { 0 });
+        let value = u32::from_le_bytes(*data);
+        let is_valid = if self.is_armed() {
+            write_now(&mut self.clock, offset, value)
+        } else if offset > RTCLR {
+            self.clock.write(offset, value, 0) // the registers of guest time come first
+        } else {
+            match offset {
+                RTCMR => write_match_now(&mut self.clock, value),
+                RTCLR => write_load_now(&mut self.clock, value),
+                _ => self.clock.write(offset, value, 0),
+            }
+        };
+        self.report_write(is_valid);
     }
 
-    /// Writes as [`write`](Rtc::write) does, at the moment `now`, in seconds since 1970, instead of the host's time.
+    /// Writes as [`write`](Rtc::write) does, at the moment `now`, in seconds since 1970, and asks nobody for the time.
     pub fn write_at(&mut self, offset: u16, data: &[u8; 4], now: u64) {
-        if !self.clock.write(offset, u32::from_le_bytes(*data), now) {
+        let is_valid = self.clock.write(offset, u32::from_le_bytes(*data), now);
+        self.report_write(is_valid);
+    }
+
+    fn report_write(&self, is_valid: bool) {
+        if !is_valid {
             self.events.invalid_write();
         }
     }
@@ -282,14 +330,28 @@ impl<EV: RtcEvents> Rtc<EV> {
     /// The guest reads into `data`, lowest byte first, at `offset` from the clock's base.
     ///
     /// A read of an unreadable offset leaves `data` unchanged and calls the events object's `invalid_read` once.
+    ///
+    /// Asks for the host's time once at a read of RTCDR and, while an alarm is set, at any read. To spare that, use
+    /// [`read_at`](Rtc::read_at).
     pub fn read(&mut self, offset: u16, data: &mut [u8; 4]) {
-        let needs_time = offset == RTCDR || self.is_armed();
-        self.read_at(offset, data, if needs_time { moment() } else { 0 });
+        if offset != RTCDR && !self.is_armed() {
+            return self.read_at(offset, data, 0);
+        }
+        let value = match offset {
+            RTCDR => read_guest_time_now(&mut self.clock),
+            _ => read_now(&mut self.clock, offset),
+        };
+        self.show(value, data);
     }
 
-    /// Reads as [`read`](Rtc::read) does, at the moment `now`, in seconds since 1970, instead of the host's time.
+    /// Reads as [`read`](Rtc::read) does, at the moment `now`, in seconds since 1970, and asks nobody for the time.
     pub fn read_at(&mut self, offset: u16, data: &mut [u8; 4], now: u64) {
-        match self.clock.read(offset, now) {
+        let value = self.clock.read(offset, now);
+        self.show(value, data);
+    }
+
+    fn show(&self, value: Option<u32>, data: &mut [u8; 4]) {
+        match value {
             Some(value) => *data = value.to_le_bytes(),
             None => self.events.invalid_read(),
         }

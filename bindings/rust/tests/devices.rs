@@ -71,6 +71,21 @@ fn a_clock_shows_the_hosts_time_until_another_is_set() {
 }
 
 #[test]
+fn at_a_moment_of_the_monitor_the_hosts_time_plays_no_part() {
+    let mut clock = Rtc::new();
+    let read = |clock: &mut Rtc<_>, offset, now| {
+        let mut data = [0; 4];
+        clock.read_at(offset, &mut data, now);
+        u32::from_le_bytes(data)
+    };
+    clock.write_at(8, &1_000u32.to_le_bytes(), 70_000);
+    assert_eq!(read(&mut clock, 0, 70_007), 1_007);
+    clock.write_at(4, &1_100u32.to_le_bytes(), 70_010); // RTCMR: an alarm in 90 seconds
+    assert_eq!([70_000, 70_099, 70_100].map(|now| read(&mut clock, 0x14, now)), [0, 0, 1]);
+    assert_eq!(clock.alarm_due(70_100), None);
+}
+
+#[test]
 fn a_state_of_more_bytes_than_a_port_holds_has_no_encoding_and_makes_no_port() {
     for count in [65, 255, 256, 320] {
         let state = SerialState {

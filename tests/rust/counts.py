@@ -1,0 +1,247 @@
+#!/usr/bin/env python3
+# SPDX-License-Identifier: Apache-2.0 OR BSD-3-Clause
+"""Counts the instructions of the accesses that docs/PERFORMANCE.md lists, in each of its columns.
+
+    tests/rust/counts.py
+
+The programs `accesses` of tests/compare make the accesses under callgrind, and what their loop takes is subtracted.
+Counts do not depend on what else the machine does, but on the compilers. test_counts.py compares them with the
+document's numbers and goals.
+
+As a program it writes the numbers that it counts here into the document. A number above its goal is bold there.
+"""
+import re
+import subprocess
+import sys
+import tempfile
+from pathlib import Path
+from statistics import median_low
+from typing import NamedTuple
+
+ROOT = Path(__file__).resolve().parents[2]
+sys.path.append(str(ROOT / "tests" / "common"))
+from cargo import BINDINGS, COMPARISON, ORIGINAL, Comparison  # noqa: E402
+from harness import check, takes_no_argument  # noqa: E402
+
+DOCUMENT = ROOT / "docs" / "PERFORMANCE.md"
+ROUNDS = 10  # of the programs
+PLACES = 64  # of the ring of received bytes
+# The columns of the document's table, in order.
+THEIRS, RUST, BY_HAND, LIBRARY = COLUMNS = "vm-superio", "Rust crate", "C by hand", "C library"
+# As a monitor is compiled, for such processors as Rattle's programs are.
+RUST_FLAGS = {"RUSTFLAGS": "-C target-cpu=x86-64-v2", "CARGO_PROFILE_RELEASE_LTO": "true",
+              "CARGO_PROFILE_RELEASE_PANIC": "abort", "CARGO_PROFILE_RELEASE_OVERFLOW_CHECKS": "false"}
+C_FLAGS = ["-std=c11", "-O2", "-march=x86-64-v2", "-Wall", "-Wextra", "-Werror", "-Wl,-z,now",
+           "-I", ROOT / "bindings" / "c"]
+C_LIBRARY = ROOT / "prebuilt" / "x86_64-linux" / "libsuperio_c.a"
+# What a row may take above another column, for each of its accesses.
+PORT_GOAL, C_GOAL, CLOCK_GOAL, ALARM_GOAL = 1, 2, 5, 10
+# Accesses of the clock at which vm-superio asks for the host's time, and at which the Rust crate does without an alarm.
+THEY_ASK, ASKS = ("R00", "W08"), ("R00", "W04", "W08", "h00")
+# What is read after a row: the registers and bytes of a port, or the registers of a clock.
+PORT_READS = [f"r0{offset}00" for offset in "51234670"] + PLACES * ["r0000"]
+CLOCK_READS = [f"m{offset}00" for offset in ("00", "04", "08", "10", "14", "18")]
+
+
+class Row(NamedTuple):
+    """A row of the document's table: its first two cells; what it makes once, and what repeatedly; which of the 64
+    places of the ring counts if it is made at each; and by column the number, and whether it is bold."""
+    name: str
+    cell: str
+    once: list
+    repeated: list
+    place: str
+    numbers: dict
+    is_bold: dict
+
+    @property
+    def is_of_port(self):
+        return set(access[0] for access in self.repeated) <= set("rwes")
+
+    @property
+    def is_of_clock(self):
+        return set(access[0] for access in self.repeated) <= set("RWmM")
+
+    @property
+    def has_alarm(self):
+        return "W04ff" in self.once
+
+    @property
+    def asks(self):
+        """How often the Rust crate should ask for the host's time."""
+        return sum(access[0] in "RWh" and (self.has_alarm or access[:3] in ASKS) for access in self.repeated)
+
+    def lists(self):
+        """The lists that the program gets: what it makes once, what it repeats, and what it reads last. At another place
+        of the ring the port has had bytes before: first 64, so that vm-superio's ring has all its places."""
+        last = PORT_READS if self.is_of_port else CLOCK_READS if self.is_of_clock else []
+        if not self.place:
+            return [(self.once, self.repeated, last)]
+        full = ["e0040", *PLACES * ["r0000"]]
+        return [([*full, f"e00{place:02x}", *place * ["r0000"], *self.once], self.repeated, last)
+                for place in range(PLACES)]
+
+    def number_of(self, counts):
+        """The number of the row, of what its lists took."""
+        numbers = [it.instructions for it in counts]
+        return median_low(numbers) if self.place == "median" else max(numbers)
+
+
+class Counted(NamedTuple):
+    """What a row took, numbers that depend on its replies, its interrupts and the device after it, and how often it
+    asked for the host's time."""
+    instructions: int
+    replies: tuple
+    asked: int
+
+
+def accesses(cell):
+    """What a row makes once, and what it repeats."""
+    once, repeated = [], []
+    for times, access, is_once in re.findall(r"(?:(\d+) times )?`(.+?)`( once)?", cell):
+        (once if is_once else repeated).extend(int(times or 1) * [access.replace(" ", "").ljust(5, "0")])
+    return once, repeated
+
+
+def read_rows(text):
+    """The rows of the document's table."""
+    rows = []
+    for line in text.splitlines():
+        cells = [cell.strip() for cell in line.strip("|").split("|")]
+        if len(cells) != 2 + len(COLUMNS) or "`" not in cells[1]:
+            continue
+        numbers = {column: cell for column, cell in zip(COLUMNS, cells[2:]) if cell}
+        place = re.search(r"(median|worst) of all places|$", cells[1])[1] or ""
+        rows.append(Row(*cells[:2], *accesses(cells[1]), place,
+                        {column: int(cell.strip("*")) for column, cell in numbers.items()},
+                        {column: cell.startswith("**") for column, cell in numbers.items()}))
+    return rows
+
+
+def host_time_of(rows):
+    """What the host's time takes."""
+    return next(row.numbers[THEIRS] for row in rows if row.repeated == ["h0000"])
+
+
+def goal(row, column, host_time):
+    """The most that a row should take in a column, or `None`."""
+    theirs, by_hand, number = row.numbers.get(THEIRS), row.numbers.get(BY_HAND), len(row.repeated)
+    if column == LIBRARY and by_hand is not None:
+        return by_hand + C_GOAL * number
+    if column != RUST or theirs is None:
+        return None
+    if row.is_of_port:
+        return theirs + PORT_GOAL * number
+    if row.is_of_clock and row.has_alarm:
+        they_ask = sum(access[:3] in THEY_ASK for access in row.repeated)
+        return theirs + ALARM_GOAL * number + host_time * max(0, row.asks - they_ask)
+    return theirs + CLOCK_GOAL * number if row.is_of_clock else None
+
+
+def is_above_goal(row, column, host_time):
+    limit = goal(row, column, host_time)
+    return limit is not None and row.numbers[column] > limit
+
+
+def totals_of(program, folder, rows):
+    """What each list of rows took, the second once and ten times, without what the loop takes; and what the program
+    printed of each row."""
+    rows = [([], [], []), ([], ["n0000"], []), *rows]  # first nothing, and an access that does nothing
+    text = "".join(" / ".join(map(" ".join, lists)) + "\n" for lists in rows)
+    words = ["valgrind", "--tool=callgrind", f"--callgrind-out-file={folder / 'out'}", "--toggle-collect=sum_of",
+             "--dump-after=sum_of", program]
+    ran = subprocess.run(words, input=text, capture_output=True, text=True, check=True)
+    dumps = [(folder / f"out.{number}").read_text(encoding="ascii") for number in range(1, 4 * len(rows) + 1)]
+    totals = [int(re.search(r"^totals: (\d+)", dump, re.M)[1]) for dump in dumps]
+    nothing, loop = totals[0], (totals[6] - totals[2]) / ROUNDS
+    for number, (first, repeated, last) in enumerate(rows[2:], 2):
+        lengths = len(first), len(repeated), ROUNDS * len(repeated), len(last)
+        yield ([round(total - nothing - loop * length)
+                for total, length in zip(totals[4 * number:4 * number + 4], lengths)], ran.stdout.splitlines()[number])
+
+
+def count(program, folder, rows):
+    """Counts what rows take."""
+    for (_, _, total, _), line in totals_of(program, folder, rows):
+        *replies, asked = map(int, line.split())
+        yield Counted(round(total / ROUNDS), tuple(replies), asked // ROUNDS)
+
+
+def build_rust(folder, crate):
+    """The program over a crate with the names of vm-superio."""
+    comparison = Comparison(folder / "crate", crate, "accesses")
+    built = comparison.build(**RUST_FLAGS)
+    assert built.returncode == 0, built.stdout
+    return comparison.program
+
+
+def build_c(folder, *words):
+    """The program in C over a port."""
+    check(["cc", *C_FLAGS, COMPARISON / "accesses.c", *words, "-o", folder / "accesses"])
+    return folder / "accesses"
+
+
+BUILDS = {
+    THEIRS: lambda folder: build_rust(folder, ORIGINAL),
+    RUST: lambda folder: build_rust(folder, None),
+    BY_HAND: lambda folder: build_c(folder, "-DBY_HAND", COMPARISON / "uart.c"),
+    LIBRARY: lambda folder: build_c(folder, C_LIBRARY),
+}
+
+
+def compiler_of(column, text):
+    """The compiler of a column, with the version that the document names."""
+    command, name = ("rustc", "rustc") if column in (THEIRS, RUST) else ("cc", "gcc")
+    return f"{command} {re.search(rf'{name} ([0-9.]+[0-9])', text)[1]}"
+
+
+def count_column(column, rows, folder):
+    """Builds the program of a column. Returns it, and by the name of each row what its lists take."""
+    program = BUILDS[column](folder)
+    return program, count_rows(column, rows, program, folder)
+
+
+def count_rows(column, rows, program, folder):
+    """By the name of each row of a column what its lists take."""
+    rows = [row for row in rows if column in row.numbers]
+    found = count(program, folder, [lists for row in rows for lists in row.lists()])
+    return {row.name: [next(found) for _ in row.lists()] for row in rows}
+
+
+def write_numbers(text, rows, found):
+    """Writes the numbers that were counted into the table, and makes bold what is above its goal."""
+    rows = [row._replace(numbers={**row.numbers, **{column: row.number_of(counts[row.name])
+                                                    for column, counts in found.items() if row.name in counts}})
+            for row in rows]
+    for row in rows:
+        cells = [f"**{number}**" if is_above_goal(row, column, host_time_of(rows)) else str(number)
+                 for column, number in row.numbers.items()]
+        numbers = dict(zip(row.numbers, cells))
+        start = f"| {row.name} | {row.cell} |"
+        line = start + "|".join(f" {numbers[column]} " if column in numbers else " " for column in COLUMNS) + "|"
+        text = re.sub(f"^{re.escape(start)}.*$", line, text, flags=re.M)
+    DOCUMENT.write_text(text, encoding="utf-8")
+
+
+def enqueue_slope(program, folder):
+    """What a byte more of an enqueue takes at most, and what those beyond the room take, where the FIFO's room goes
+    past the last place of the ring."""
+    first = ["e0020", *32 * ["r0000"]]
+    sizes = [*range(1, PLACES + 1), PLACES + 1, 128, 255]
+    costs = [totals[1] for totals, _ in totals_of(program, folder, [(first, [f"e00{size:02x}"], []) for size in sizes])]
+    slope = max((cost - costs[0]) / (size - 1) for size, cost in zip(sizes[1:PLACES], costs[1:]))
+    return slope, max(costs[PLACES:]) - costs[PLACES - 1]
+
+
+def main():
+    takes_no_argument(__doc__)
+    text = DOCUMENT.read_text(encoding="utf-8")
+    rows, found = read_rows(text), {}
+    for column in COLUMNS if ORIGINAL else COLUMNS[1:]:
+        with tempfile.TemporaryDirectory() as folder:
+            found[column] = count_column(column, rows, Path(folder))[1]
+    write_numbers(text, rows, found)
+
+
+if __name__ == "__main__":
+    main()
