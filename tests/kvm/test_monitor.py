@@ -3,11 +3,16 @@
 
 Over host.c, a host that is a script in place of KVM, it does what scripts.txt says, and sanitizers find nothing. Under
 KVM guest.S echoes a paste of 100,000 bytes by interrupts, although it takes at most 256 bytes for an interrupt; sleeps
-until an alarm; echoes what came meanwhile; and resets the machine.
+until an alarm; echoes what came meanwhile; and resets the machine. Two monitors whose guests echo each other go on after
+the socket between them was full in both directions.
 """
 import difflib
 import random
 import re
+import socket
+import subprocess
+import time
+from contextlib import suppress
 
 import pytest
 from harness import at_least, check, run
@@ -17,12 +22,14 @@ pytestmark = [pytest.mark.needs("cc", "make"), pytest.mark.where("Linux on x86-6
 
 # How many bytes are pasted, and commands of the guest.
 PASTED, AWAIT_ALARM, RESET = 100_000, "\x14", "\x04"
+# How many bytes two guests send to each other, and the most seconds that this may take.
+CROWD, PATIENCE = 100_000, 60
 TEXT = re.sub("^#.*\n", "", (HERE / "scripts.txt").read_text(encoding="ascii"), flags=re.M)
 SCRIPTS = at_least(11, re.split("\n\n+", TEXT.strip("\n")))
 
 
 def test_number_of_lines():
-    assert sum(script.count("\n") for script in SCRIPTS) >= 232
+    assert sum(script.count("\n") for script in SCRIPTS) >= 244
     assert len(WRAPPED) >= 11
 
 
@@ -80,3 +87,29 @@ def test_guest(monitor, guest):
     ran = run([monitor / "monitor", guest], input=text + AWAIT_ALARM + text[:100] + RESET)
     assert ran.stdout == f"ready\n{text}alarm\n{text[:100]}monitor: the guest reset the machine\n", ran.stdout[-300:]
     assert ran.returncode == 0
+
+
+@pytest.mark.where("KVM")
+def test_pair(monitor, guest):
+    """Two monitors go on whose guests echo each other, with more bytes on the way than fit. What is sent to one end of the
+    socket is input of the monitor at the other."""
+    ends, deadline = socket.socketpair(), time.monotonic() + PATIENCE
+    for end in ends:
+        end.setsockopt(socket.SOL_SOCKET, socket.SO_SNDBUF, 4096)
+    rest = {end: b"x" * CROWD + RESET.encode() for end in ends}
+    monitors = [subprocess.Popen([monitor / "monitor", guest], stdin=end, stdout=end, stderr=subprocess.PIPE, text=True)
+                for end in ends]
+    try:
+        while any(rest.values()) and time.monotonic() < deadline and monitors[0].poll() is None:
+            for end in ends:
+                with suppress(BlockingIOError):
+                    rest[end] = rest[end][end.send(rest[end][:4096], socket.MSG_DONTWAIT):]
+            time.sleep(0.001)
+        said = [it.communicate(timeout=max(deadline - time.monotonic(), 0))[1] for it in monitors]
+    except subprocess.TimeoutExpired:
+        said = ["the monitors stand still"]
+    finally:
+        for it in monitors:
+            it.kill()
+    form = r"monitor: the guest reset the machine; \d+ bytes of output were dropped\n"
+    assert all(re.fullmatch(form, it) for it in said), f"{said}, {[len(it) for it in rest.values()]} left"

@@ -1,0 +1,228 @@
+# SPDX-License-Identifier: Apache-2.0 OR BSD-3-Clause
+"""Linux in the monitor of examples/kvm: the monitors that boot it, a host for them, and a guest's console.
+
+A host is this machine if its own processor runs guests by KVM. Otherwise it is Linux in QEMU, whose emulated processor
+has AMD's virtualization, so that its KVM runs the monitor. Debian's packages have the kernel, for both, and busybox.
+"""
+import hashlib
+import os
+import select
+import shutil
+import signal
+import socket
+import subprocess
+import threading
+import time
+from contextlib import contextmanager, suppress
+from pathlib import Path
+
+ROOT = Path(__file__).resolve().parents[2]
+HERE = ROOT / "tests" / "kvm"
+MONITOR = ROOT / "examples" / "kvm"
+IMAGES = ROOT / "out" / "linux"  # what examples/kvm/fetch gets
+# What a record is of: all that a guest's console and clock go through, and what looks at them.
+SOURCES = ["bindings/c/superio.h", "bindings/rust/src", "bindings/superio/src", "crates/superio_c/src",
+           "crates/superio_core/src", "examples/kvm", "prebuilt/SHA256SUMS", "tests/kvm/booting.py", "tests/kvm/serial",
+           "tests/kvm/test_linux.py"]
+WORDS = "console=ttyS0 reboot=k panic=1 loglevel=1 mitigations=off initcall_blacklist=i8042_init"
+QEMU = ["qemu-system-x86_64", "-accel", "tcg", "-cpu", "EPYC,+svm,+npt,-x2apic", "-m", "768", "-nodefaults",
+        "-nographic", "-no-reboot", "-append", "console=ttyS0 quiet mitigations=off panic=1"]
+MODULES = ["irqbypass", "kvm", "kvm-amd", "virtio_ring", "virtio", "virtio_pci_legacy_dev", "virtio_pci_modern_dev",
+           "virtio_pci", "virtio_console"]
+# The host in QEMU: each line that comes in names a monitor, which then has the connection until it ends.
+INIT = f"""#!/bin/busybox sh
+/bin/busybox --install -s /bin
+mount -t proc proc /proc
+mount -t devtmpfs dev /dev
+for module in {' '.join(MODULES)}; do insmod /$module.ko; done
+exec <>/dev/vport0p1 >&0 2>&1
+while read monitor; do
+    /$monitor /kernel /initramfs "{WORDS}"
+    echo "status $?"
+done
+"""
+# In the place of the library's character timeout: a guest that wants two stop bits gets none, as in tests/kvm/serial.
+TIMEOUT = """#include <superio.h>
+uint8_t __real_superio_serial_character_timeout(superio_serial *port);
+uint8_t __wrap_superio_serial_character_timeout(superio_serial *port);
+uint8_t __wrap_superio_serial_character_timeout(superio_serial *port) {
+    return port->line_control & 0x04 ? 0 : __real_superio_serial_character_timeout(port);
+}
+"""
+LIMIT = 300  # seconds that all monitors may take together
+# What boots Linux, and the packages of Debian that have it.
+NEEDED = {"make": "make", "cc": "gcc", "cargo": "cargo", "apt-get": "apt", "qemu-system-x86_64": "qemu-system-x86"}
+
+
+def sum_of_sources():
+    """The digest of what `sha256sum` prints of the sources, in the order of their paths."""
+    paths = (path for name in SOURCES for path in (ROOT / name, *(ROOT / name).rglob("*")))
+    built = {"monitor", "Cargo.lock", "target"}
+    names = sorted(path.relative_to(ROOT).as_posix() for path in paths
+                   if path.is_file() and not built & set(path.relative_to(ROOT).parts))
+    listing = "".join(f"{hashlib.sha256((ROOT / name).read_bytes()).hexdigest()}  {name}\n" for name in names)
+    return hashlib.sha256(listing.encode()).hexdigest()
+
+
+def fetch_images():
+    """Gets the kernel, its modules and busybox, if they are not there yet."""
+    if not (IMAGES / "initramfs").exists():
+        subprocess.run([MONITOR / "fetch", IMAGES], check=True, stdout=subprocess.DEVNULL, timeout=120)
+
+
+def build_monitors(folder):
+    """Builds the monitor over the C library, and over the Rust crate by tests/kvm/serial."""
+    timeout, target = folder / "timeout.c", folder / "target"
+    timeout.write_text(TIMEOUT, encoding="ascii")
+    subprocess.run(["cargo", "build", "--release", "--quiet", "--offline", "--manifest-path",
+                    HERE / "serial" / "Cargo.toml", "--target-dir", target], check=True, timeout=200)
+    compiler = f"cc -static -Wl,--wrap=superio_serial_character_timeout {timeout}"
+    return {
+        "c": build_monitor(folder / "c", compiler, "serial.c"),
+        "rust": build_monitor(folder / "rust", "cc -static", target / "release" / "libkvm_serial.a"),
+    }
+
+
+def build_monitor(folder, compiler, port):
+    shutil.copytree(MONITOR, folder, ignore=shutil.ignore_patterns("monitor"))
+    words = ["make", "-s", "-C", folder, f"ROOT={ROOT}", f"CC={compiler}", f"SERIAL={port}"]
+    subprocess.run(words, check=True, stderr=subprocess.DEVNULL, timeout=120)  # glibc warns of its static parts
+    return folder / "monitor"
+
+
+class Stalled(AssertionError):
+    """What was awaited did not come in time. The argument is what came instead."""
+
+
+class Console:
+    """A guest's console, or what a host says: one end of a socket."""
+
+    def __init__(self, connection):
+        self.connection, self.seen = connection, b""
+
+    def receive(self, seconds):
+        """Takes what comes next within so many seconds. Returns whether something came."""
+        if not select.select([self.connection], [], [], max(seconds, 0))[0]:
+            return False
+        with suppress(ConnectionResetError):
+            received = self.connection.recv(65536)
+            self.seen += received
+            return bool(received)
+        return False
+
+    def until(self, end, seconds):
+        """What comes before this end, which comes too."""
+        deadline = time.monotonic() + seconds
+        while end not in self.seen:
+            if not self.receive(deadline - time.monotonic()):
+                raise Stalled(f"{end!r} has not come: {self.seen[-300:]!r}")
+        before, _, self.seen = self.seen.partition(end)
+        return before
+
+    def take(self, count, seconds):
+        """The next bytes, so many of them."""
+        deadline = time.monotonic() + seconds
+        while len(self.seen) < count:
+            if not self.receive(deadline - time.monotonic()):
+                raise Stalled(f"{len(self.seen)} bytes of {count} have come")
+        taken, self.seen = self.seen[:count], self.seen[count:]
+        return taken
+
+    def send(self, text):
+        self.connection.sendall(text if isinstance(text, bytes) else text.encode())
+
+    def paste(self, content, sizes):
+        """Sends bytes in pieces of these sizes in turn, 5 milliseconds apart."""
+        place = number = 0
+        while place < len(content):
+            size = sizes[number % len(sizes)]
+            self.send(content[place:place + size])
+            place, number = place + size, number + 1
+            time.sleep(0.005)
+
+
+class OwnHost:
+    """This machine."""
+
+    def __init__(self, monitors):
+        self.monitors, self.running = monitors, []
+
+    def start(self, name):
+        ours, theirs = socket.socketpair()
+        script = f'{self.monitors[name]} kernel initramfs "{WORDS}"; echo "status $?"'
+        self.running.append(subprocess.Popen(["sh", "-c", script], cwd=IMAGES, stdin=theirs, stdout=theirs,
+                                             stderr=theirs, start_new_session=True))
+        theirs.close()
+        return Console(ours)
+
+    def stop(self):
+        for process in self.running:
+            with suppress(ProcessLookupError):
+                os.killpg(process.pid, signal.SIGKILL)
+            process.wait()
+
+
+class HostInQemu:
+    """Linux in QEMU."""
+
+    def __init__(self, monitors, folder):
+        ours, theirs = socket.socketpair()
+        words = [*QEMU, "-kernel", IMAGES / "kernel", "-initrd", make_initramfs(folder, monitors),
+                 "-serial", f"file:{folder / 'host.log'}", "-chardev", f"socket,id=port,fd={theirs.fileno()}",
+                 "-device", "virtio-serial", "-device", "virtserialport,chardev=port"]
+        with open(folder / "qemu.log", "wb") as log:
+            self.process = subprocess.Popen(words, stdin=subprocess.DEVNULL, stdout=log, stderr=log,
+                                            pass_fds=[theirs.fileno()])
+        theirs.close()
+        self.console = Console(ours)
+
+    def start(self, name):
+        self.console.send(f"{name}\n")
+        return self.console
+
+    def stop(self):
+        self.process.kill()
+        self.process.wait()
+
+
+def own_processor_runs_guests():
+    is_loaded = any(Path("/sys/module", name).exists() for name in ("kvm_intel", "kvm_amd"))
+    return is_loaded and os.access("/dev/kvm", os.R_OK | os.W_OK)
+
+
+def make_initramfs(folder, monitors):
+    """The files of the host in QEMU."""
+    root = folder / "root"
+    for name in ("bin", "dev", "proc"):
+        (root / name).mkdir(parents=True)
+    shutil.copy(IMAGES / "bin" / "busybox", root / "bin")
+    for module in MODULES:
+        shutil.copy(next((IMAGES / "lib" / "modules").rglob(f"{module}.ko")), root)
+    for name in ("kernel", "initramfs"):
+        shutil.copy(IMAGES / name, root)
+    for name, monitor in monitors.items():
+        shutil.copy(monitor, root / name)
+    (root / "init").write_text(INIT, encoding="ascii")
+    (root / "init").chmod(0o755)
+    with open(folder / "initramfs", "wb") as file:
+        names = "".join(f"{path.relative_to(root)}\n" for path in sorted(root.rglob("*")))
+        subprocess.run([IMAGES / "bin" / "busybox", "cpio", "-o", "-H", "newc"], cwd=root, input=names.encode(),
+                       stdout=file, stderr=subprocess.DEVNULL, check=True)
+    return folder / "initramfs"
+
+
+@contextmanager
+def host(folder):
+    """A host for the monitors, as a context, which ends whatever runs there after LIMIT seconds."""
+    if missing := [package for tool, package in NEEDED.items() if not shutil.which(tool)]:
+        raise FileNotFoundError(f"to boot Linux, install {' '.join(missing)}")
+    fetch_images()
+    monitors = build_monitors(folder)
+    machine = OwnHost(monitors) if own_processor_runs_guests() else HostInQemu(monitors, folder)
+    limit = threading.Timer(LIMIT, machine.stop)
+    limit.start()
+    try:
+        yield machine
+    finally:
+        limit.cancel()
+        machine.stop()

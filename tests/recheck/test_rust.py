@@ -1,0 +1,97 @@
+# SPDX-License-Identifier: Apache-2.0 OR BSD-3-Clause
+"""The translator of Rust refuses what it does not know, and is right about what it knows."""
+import re
+import subprocess
+import sys
+from pathlib import Path
+
+import pytest
+from rust_cases import REFUSED, RIGHT
+
+ROOT = Path(__file__).resolve().parents[2]
+sys.path.insert(0, str(ROOT / "recheck"))
+import rust2coq  # noqa: E402
+
+ALLOWED = "#![allow(dead_code, unused, non_snake_case, non_camel_case_types, clippy::all)]\n"
+
+
+def crate_of(folder, source):
+    (folder / "src").mkdir(exist_ok=True)
+    (folder / "src/lib.rs").write_text(source)
+    return rust2coq.Crate(folder / "src")
+
+
+def compiled(folder, cases):
+    """What rustc's code returns: a number, or None if it panics. All cases are modules of one program."""
+    modules = "".join(f"mod case_{i} {{ {source} }}\n" for i, source in enumerate(cases))
+    calls = "".join(f'    print(std::panic::catch_unwind(case_{i}::case));\n' for i in range(len(cases)))
+    (folder / "main.rs").write_text(ALLOWED + "#![allow(unconditional_panic, arithmetic_overflow)]\n" + modules + """
+fn print(found: Result<u32, Box<dyn std::any::Any + Send>>) {
+    match found { Ok(number) => println!("Some {number}"), Err(_) => println!("None") }
+}
+fn main() {
+    std::panic::set_hook(Box::new(|_| {}));
+""" + calls + "}\n")
+    run = subprocess.run(["rustc", "--edition", "2021", "-C", "debug-assertions=on", "-o", "main", "main.rs"],
+                         cwd=folder, capture_output=True, text=True)
+    assert run.returncode == 0, run.stderr
+    return subprocess.run([folder / "main"], capture_output=True, text=True, check=True).stdout.split("\n")[:-1]
+
+
+def computed(folder, cases):
+    """What Coq computes from the translations."""
+    text = "Require Import Recheck.Prelude Recheck.Machine.\n"
+    for i, source in enumerate(cases):
+        types, code = rust2coq.translate(crate_of(folder, source), ["case"])
+        body = "\n".join(line for line in (types + code).splitlines() if not line.startswith("Require"))
+        text += f"Module Case{i}.\n{body}\nEnd Case{i}.\nCompute Case{i}.rs_case.\n"
+    for name in ("Prelude", "Machine"):
+        (folder / f"{name}.v").write_text((ROOT / f"recheck/{name}.v").read_text())
+    (folder / "Cases.v").write_text(text)
+    for name in ("Prelude", "Machine", "Cases"):
+        run = subprocess.run(["coqc", "-w", "none", "-Q", ".", "Recheck", f"{name}.v"], cwd=folder, capture_output=True, text=True)
+        assert run.returncode == 0, run.stdout + run.stderr
+    return re.findall(r"^ +=\s+(Some \d+|None)$", run.stdout, re.M)
+
+
+@pytest.mark.parametrize("name", REFUSED)
+def test_refused(name, tmp_path):
+    why, source = REFUSED[name]
+    with pytest.raises(rust2coq.Refused, match=re.escape(why)):
+        rust2coq.translate(crate_of(tmp_path, source), ["case"])
+
+
+# Files of a crate, and why it is refused.
+CRATES = {
+    "a file that nothing names": ("a file without its `mod`", {"lib.rs": "", "more.rs": "pub fn n() -> u32 { 1 }"}),
+    "a module without a file": ("a file without its `mod`", {"lib.rs": "mod more;"}),
+    "a module at another path": ("the attribute path", {"lib.rs": '#[path = more] mod other;', "more.rs": ""}),
+    "a constant that is not in scope": ("which is not in scope", {
+        "lib.rs": "mod more; pub fn case() -> u32 { let x: u32 = 5; match x { FIVE => 1, _ => 2 } }",
+        "more.rs": "pub const FIVE: u32 = 4;"}),
+    "another crate": ("a use of superio::n", {"lib.rs": "use superio::n; pub fn case() -> u32 { n() }"}),
+    "equal names in two files": ("two items are named n", {
+        "lib.rs": "mod more; fn n() -> u32 { 1 } pub fn case() -> u32 { n() }", "more.rs": "pub fn n() -> u32 { 2 }"}),
+    "equal types in two files": ("two items are named Simple", {
+        "lib.rs": "mod more; pub struct Simple { pub a: u32 }", "more.rs": "pub struct Simple { pub a: u8 }"}),
+}
+
+
+@pytest.mark.parametrize("name", CRATES)
+def test_refused_crate(name, tmp_path):
+    why, files = CRATES[name]
+    for file, source in files.items():
+        (tmp_path / file).write_text(source)
+    with pytest.raises(rust2coq.Refused, match=why):
+        rust2coq.translate(rust2coq.Crate(tmp_path), ["case"])
+
+
+def test_refused_are_rust(tmp_path):
+    """Each is a program that rustc takes: what is refused is the form, and no slip."""
+    compiled(tmp_path, [source for _, source in REFUSED.values()])
+
+
+def test_right(tmp_path):
+    expected = compiled(tmp_path, RIGHT.values())
+    found = computed(tmp_path, RIGHT.values())
+    assert dict(zip(RIGHT, found)) == dict(zip(RIGHT, expected))
