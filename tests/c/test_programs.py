@@ -16,7 +16,7 @@ from pathlib import Path
 import pytest
 from board import Board
 from builds import HOST, PROCESSORS, compilers_for, make_words, prebuilt
-from cargo import toolchain_for
+from cargo import LIMIT, toolchain_for
 from harness import ROOT, at_least, check
 from libraries import STATIC
 from made import commit, every_load, seeds
@@ -59,7 +59,7 @@ def from_source(tmp_path_factory):
         toolchain = toolchain_for(target)
         check([toolchain.cargo, "rustc", "--target", target, "--crate-type", "staticlib", "--release", "--quiet",
                "--offline", "--manifest-path", ROOT / "bindings" / "c" / "from-source" / "Cargo.toml"],
-              env=toolchain.environment(CARGO_TARGET_DIR=str(folder)))
+              env=toolchain.environment(CARGO_TARGET_DIR=str(folder)), timeout=LIMIT)
         return folder / target / "release" / STATIC
     return build
 

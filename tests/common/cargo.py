@@ -65,6 +65,7 @@ def toolchain_for(target):
             return found
     return None
 
+
 def add_crate(folder, code, rest="[features]\nderive = []\n"):
     """Makes a crate, whose name and version the folder may have. One without code takes the place of an optional
     dependency, which has to be there, to be left out."""
