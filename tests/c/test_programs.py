@@ -31,15 +31,15 @@ OTHERS = ["s390x", "arm"]   # for which there is only the library from source
 
 def loads():
     """Loads into new devices, as lines of scripts."""
-    calls = [("load", bytes.fromhex(Board().save())), ("clock_load", bytes.fromhex(Board().clock_save())), *every_load()]
-    calls = calls[:LOADED_CALLS]
+    fresh = [("load", bytes.fromhex(Board().save())), ("clock_load", bytes.fromhex(Board().clock_save()))]
+    calls = [*fresh, *every_load()][:LOADED_CALLS]
     return "".join(f"{line_of(*call)} = {reply}\n" for call, reply in zip(calls, replies_of(Board(), calls)))
 
 
 @pytest.fixture(scope="session")
 def calls(tmp_path_factory):
-    """A file of what every library does, and how many calls it has: first C's own, which begin with new devices, then the
-    recordings, which begin with a new clock, and at the end loads and random calls."""
+    """A file of what every library does, and how many calls it has: first C's own, which begin with new devices, then
+    the recordings, which begin with a new clock, and at the end loads and random calls."""
     random_calls = [call for run in random_recorded(seeds("C", RUNS)) for call in run]
     text = "".join([*{**recordings(HERE / "own.txt"), **recordings(), **recordings(HERE / "shared.txt")}.values(),
                     recording_of(every_answer()), loads(), recording_of(random_calls)])

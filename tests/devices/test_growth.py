@@ -2,9 +2,9 @@
 """What scripts and runs cost as they grow, against docs/PERFORMANCE.md.
 
 A script of more lines through the program, and a run of more calls in a test of crates/superio_tests, take instructions
-and memory in proportion: from each size to the next a line or a call takes as much as from the first size to the second,
-up to a tenth, and as much as the document says. Callgrind counts the instructions, and memcheck the bytes that are
-allocated.
+and memory in proportion: from each size to the next a line or a call takes as much as from the first size to the
+second, up to a tenth, and as much as the document says. Callgrind counts the instructions, and memcheck the bytes that
+are allocated.
 """
 import re
 import subprocess
@@ -31,9 +31,10 @@ class Cost(NamedTuple):
 def measured(words, script=""):
     """The instructions of a program, and the bytes that it allocates."""
     numbers = []
-    for tool, pattern in (("--tool=callgrind", r"Collected : (\d+)"), ("--tool=memcheck", r"([\d,]+) bytes allocated")):
-        ran = subprocess.run(["valgrind", tool, *(["--callgrind-out-file=/dev/null"] if "call" in tool else []), *words],
-                             input=script, capture_output=True, text=True, check=True)
+    for options, pattern in ((["--tool=callgrind", "--callgrind-out-file=/dev/null"], r"Collected : (\d+)"),
+                             (["--tool=memcheck"], r"([\d,]+) bytes allocated")):
+        ran = subprocess.run(["valgrind", *options, *words], input=script, capture_output=True, text=True, check=True,
+                             timeout=600)
         numbers.append(int(re.search(pattern, ran.stderr)[1].replace(",", "")))
     return numbers
 

@@ -20,7 +20,7 @@ from typing import NamedTuple
 
 ROOT = Path(__file__).resolve().parents[2]
 sys.path.append(str(ROOT / "tests" / "common"))
-from cargo import BINDINGS, COMPARISON, ORIGINAL, Comparison  # noqa: E402
+from cargo import COMPARISON, ORIGINAL, Comparison  # noqa: E402
 from harness import check, takes_no_argument  # noqa: E402
 
 DOCUMENT = ROOT / "docs" / "PERFORMANCE.md"
@@ -72,8 +72,8 @@ class Row(NamedTuple):
         return sum(access[0] in "RWh" and (self.has_alarm or access[:3] in ASKS) for access in self.repeated)
 
     def lists(self):
-        """The lists that the program gets: what it makes once, what it repeats, and what it reads last. At another place
-        of the ring the port has had bytes before: first 64, so that vm-superio's ring has all its places."""
+        """The lists that the program gets: what it makes once, what it repeats, and what it reads last. At another
+        place of the ring the port has had bytes before: first 64, so that vm-superio's ring has all its places."""
         last = PORT_READS if self.is_of_port else CLOCK_READS if self.is_of_clock else []
         if not self.place:
             return [(self.once, self.repeated, last)]

@@ -1,14 +1,15 @@
 # SPDX-License-Identifier: Apache-2.0 OR BSD-3-Clause
-"""The instructions of an access are those of docs/PERFORMANCE.md, in each of its columns, and its numbers keep its goals.
+"""The instructions of an access are those of docs/PERFORMANCE.md, in each of its columns, and its numbers keep its
+goals.
 
 A column is counted where the compiler is there that the document names. That of vm-superio is if VM_SUPERIO names the
-folder of vm-superio 0.8.2. In each row the columns that are counted reply the same, interrupt as often, and leave the same
-registers and bytes; and the Rust crate asks for the host's time only where guest time matters.
+folder of vm-superio 0.8.2. In each row the columns that are counted reply the same, interrupt as often, and leave the
+same registers and bytes; and the Rust crate asks for the host's time only where guest time matters.
 """
 import re
 
 import pytest
-from counts import (COLUMNS, DOCUMENT, LIBRARY, RUST, THEIRS, compiler_of, count_column, enqueue_slope, goal, host_time_of,
+from counts import (DOCUMENT, LIBRARY, RUST, THEIRS, compiler_of, count_column, enqueue_slope, goal, host_time_of,
                     is_above_goal, read_rows)
 from harness import at_least
 
