@@ -16,7 +16,7 @@ def test_crates():
 
 def test_numbers():
     assert number_of_edits() >= 83
-    assert number_of_tests() >= 167
+    assert number_of_tests() >= 164
 
 
 def test_stored_output():
