@@ -47,7 +47,7 @@ def pytest_configure(config):
 def pytest_runtest_setup(item):
     """Fails a test whose tool is missing. What --without names is skipped, also if it is there."""
     tools = sorted(needed(item) & left_out(item.config))
-    places = [it for mark in item.iter_markers("where") for it in mark.args if not is_there(PLACES.get(it, it))]
+    places = [it for mark in item.iter_markers("where") for it in mark.args if not is_there(PLACES[it])]
     if tools or places:
         item.stash[LEFT_OUT] = f"--without names {', '.join(tools)}" if tools else f"there is no {', '.join(places)}"
         pytest.skip(item.stash[LEFT_OUT])

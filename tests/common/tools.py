@@ -2,7 +2,6 @@
 """What tests need of a machine, and the packages of Debian 12 that have it. As a program it prints those of what is
 missing, but for the kit, which is no package; one of another architecture ends with its name."""
 import os
-import re
 import shutil
 import subprocess
 from functools import lru_cache
@@ -16,8 +15,8 @@ TOOLS = {
     "c++": {"g++": "g++"},
     "clang": {"clang": "clang", "clang++": "clang"},
     "make": {"make": "make"},
-    "valgrind": {"valgrind": "valgrind"},
     "git": {"git": "git"},
+    "valgrind": {"valgrind": "valgrind"},
     "cargo": {"cargo": "cargo", "rustc": "rustc", "cc": "gcc"},
     "clippy": {"cargo-clippy": "rust-clippy"},
     "rustfmt": {"cargo-fmt": "rustfmt"},
@@ -52,19 +51,19 @@ TOOLS = {
 # What no package of Debian 12 has: tests of it run where that is there.
 PLACES = {"KVM": "import fcntl, os; fcntl.ioctl(fcntl.ioctl(os.open('/dev/kvm', os.O_RDWR), 0xAE01), 0xAE60)",
           "Deno": "deno", "Linux on x86-64": "/lib64/ld-linux-x86-64.so.2",
-          "folder VM_SUPERIO of vm-superio 0.8.2": "$VM_SUPERIO"}
+          "folder VM_SUPERIO of vm-superio 0.8.2": "$VM_SUPERIO",
+          # Those of docs/PERFORMANCE.md.
+          "rustc 1.95.0": "import os; assert ' 1.95.0 ' in os.popen('rustc --version').read()",
+          "gcc 12.2.0": "import os; assert os.popen('gcc -dumpfullversion').read() == '12.2.0\\n'"}
 
 
 @lru_cache(maxsize=None)
 def is_there(what):
-    """Whether a command, perhaps of a version, a file, a variable, or what a line of Python imports is there."""
+    """Whether a command, a file, a variable of the environment, or what a line of Python imports is there."""
     if what.startswith("import "):
         return subprocess.run(["/usr/bin/python3", "-c", what], capture_output=True).returncode == 0
     if what.startswith("$"):
         return what[1:] in os.environ
-    if version := re.fullmatch(r"(\w+) ([\d.]+)", what):
-        words = [version[1], "--version"]
-        return is_there(words[0]) and version[2] in subprocess.run(words, capture_output=True, text=True).stdout.split()
     return bool(glob(what)) if what.startswith("/") else shutil.which(what) is not None
 
 

@@ -1,5 +1,5 @@
 // SPDX-License-Identifier: Apache-2.0 OR BSD-3-Clause
-//! Makes the rows of accesses that come on standard input, for tests/rust/counts.py. A row has three lists, with ` / `
+//! Makes the rows of accesses that come on standard input, for tests/costs. A row has three lists, with ` / `
 //! between them: a new board makes the first, then the second once and ten times, and then the third. Callgrind counts
 //! `sum_of`. An access is one of docs/PERFORMANCE.md, such as `w0741`.
 //!

@@ -14,18 +14,19 @@ from harness import ROOT, at_least
 
 TESTS = {"device_tests", "superio_tests"}
 LIBRARIES = {"arrayvec", "circular_buffer", "hex", "staticlib"}
-# What code has: what it is, a pattern that reads it, and the words that are good. Of the last none is: state or code
-# outside of what a contract sees, and what copies or looks into an object.
+# What code has: what it is, a pattern that reads it where blanks stand between words alone, and the words that are good.
+# Of the last none is: state or code outside of what a contract sees, and what copies or looks into an object.
 LISTS = [
-    ("of std", r"\b(?:std|core)::((?:\w+::)*(?:\w+|\{[^}]*\}))",
+    ("of std", r"\b(?:std|core|alloc)::((?:\w+::)*(?:\w+|\{[^}]*\}))",
      "alloc AllocError AllocFailed Global convert Infallible error Error as StdError fmt Debug Display Formatter "
      "Result io Read Write ErrorKind marker Model mem replace"),
-    ("as a macro", r"\b(\w+)! ?[(\[{]", "matches prove vec write"),
+    ("as a macro", r"\b(?!(?:else|if|in|match|return|while)\b)(\w+)![(\[{]", "matches prove vec write"),
     ("as an attribute", r"#!?\[(\w+)", "derive derive_where inline repr tactic unsafe"),
-    ("as an impl", r"\bimpl\b[^{;]*?(\w+)(?:<[^{;]*>)? for ",
+    ("as an impl", r"\bimpl\b[^{;]*?(\w+)(?:<[^{;]*>)? ?\bfor ",
      "Default Display Error From Model StdError Write"),
-    ("in code", r"(?<!')\bstatic\b|\bunsafe\b(?!\(no_mangle\))|\bextern\b(?! +fn)|\*(?:const|mut)\b|&raw\b|\bfor<|"
-     r"\buse [*{]|::\*|\b(?:dyn|macro_rules|Clone|Copy|ToOwned|Iterator|Any|size_of|align_of)\b|"
+    ("in code", r"(?<!')\bstatic\b|\bunsafe\b(?!\(no_mangle\))|\bextern\b(?! fn)|\*(?:const|mut)\b|&raw\b|\bfor<|"
+     r"\buse[*{]|::\*|\b(?:std|core|alloc) as\b|"
+     r"\b(?:dyn|macro_rules|Clone|Copy|ToOwned|Iterator|Any|size_of|align_of)\b|"
      r"\.(?:as_ptr|as_mut_ptr|allocator|leak|reserve|reserve_exact|spare_capacity_mut)\(", ""),
 ]
 # What the program has besides, which runs scripts, and the list of a run.
@@ -55,8 +56,14 @@ def models(text, code):
         yield struct, [it for it in named if not re.search(rf"\b{argument}\.{it}\b", view)]
 
 
+def compact(code):
+    """Code with a blank between two words, and no other: however its lines are broken, it reads the same."""
+    return re.sub(r"(?<!\w) | (?!\w)", "", re.sub(r"\s+", " ", code))
+
+
 def unseen(name, text, code):
     """What a source of the product has that no contract sees."""
+    code = compact(code)
     for kind, pattern, words in LISTS:
         good = [*f"{words} {MORE.get(name, '')}".split(), *(TRAITS if kind == "as an impl" else ())]
         for found in re.findall(pattern, code, re.M):
@@ -88,3 +95,16 @@ def test_view(name, struct, hidden):
 def test_source(name):
     """A source has nothing that no contract sees."""
     assert not list(unseen(name, SOURCES[name], without_contracts(SOURCES[name])))
+
+
+HIDDEN = ["impl<T: Trigger> Drop for I8042Device<T> {}", "pub static COUNT: u8 = 0;", "thread_local!(A);", "use std::sync::Mutex;", "use core::{cell::Cell};", "use alloc::rc::Rc;", "use std as other;",
+          "use {std::fmt};", "use std::io::*;", "#[no_mangle] fn f() {}", "type F = for<'a> fn(&'a u8);",
+          "type P = *const u8;", "impl I8042Device<u8> { fn f(x: Vec<u8>) { x.leak(); } }"]
+
+
+@pytest.mark.parametrize("blank", [" ", "\n", "\n    ", "  "], ids=repr)
+@pytest.mark.parametrize("code", HIDDEN)
+def test_hidden_code_is_found(code, blank):
+    """However its lines are broken."""
+    text = re.sub(" |(?<=[!#*])(?=[(\\[*])|(?=::)|(?<=for)(?=<)", lambda it: blank, code)
+    assert list(unseen("vm_superio/src/i8042.rt", "", without_contracts(text))), text

@@ -2,7 +2,10 @@
 //! Tests that states go through serde's formats as those of the Rust crate vm-superio 0.8.2 do.
 #![cfg(test)]
 
+use std::fmt::Debug;
+
 use serde::{de::DeserializeOwned, Serialize};
+use serde_json::{json, Value};
 use vm_superio::rtc_pl031::RtcSnapshot;
 use vm_superio::{RtcState, SerialState};
 
@@ -14,6 +17,11 @@ const PORT: &str = concat!(
 const PORT_IN_BINCODE: &str = "010201041b6108b05a02000000000000006869";
 const CLOCK: &str = r#"{"lr":1704067200,"offset":-3600,"mr":1704067260,"imsc":1,"ris":0}"#;
 const CLOCK_IN_BINCODE: &str = "80009265f0f1ffffffffffffbc0092650100000000000000";
+
+/// A snapshot, which vm-superio does not have.
+fn snapshot() -> String {
+    format!(r#"{{"state":{CLOCK},"armed":true}}"#)
+}
 
 /// A state is read from both formats, and written to them again.
 fn is_read_and_written<T: Serialize + DeserializeOwned>(text: &str, digits: &str) {
@@ -27,6 +35,84 @@ fn is_read_and_written<T: Serialize + DeserializeOwned>(text: &str, digits: &str
 fn what_was_saved_is_read_and_written_again() {
     is_read_and_written::<SerialState>(PORT, PORT_IN_BINCODE);
     is_read_and_written::<RtcState>(CLOCK, CLOCK_IN_BINCODE);
-    let snapshot = format!(r#"{{"state":{CLOCK},"armed":true}}"#); // which vm-superio does not have
-    is_read_and_written::<RtcSnapshot>(&snapshot, &format!("{CLOCK_IN_BINCODE}01"));
+    is_read_and_written::<RtcSnapshot>(&snapshot(), &format!("{CLOCK_IN_BINCODE}01"));
+}
+
+/// Numbers by a linear congruential generator.
+fn random(seed: &mut u64) -> u64 {
+    *seed = seed.wrapping_mul(6_364_136_223_846_793_005).wrapping_add(1_442_695_040_888_963_407);
+    *seed >> 31 ^ *seed << 33
+}
+
+/// A random value of the kind of another one: an array of bytes gets another length too.
+fn random_like(value: &Value, seed: &mut u64) -> Value {
+    match value {
+        Value::Object(fields) => fields.iter().map(|(name, it)| (name.clone(), random_field(name, it, seed))).collect(),
+        other => panic!("{other} is no state"),
+    }
+}
+
+fn random_field(name: &str, value: &Value, seed: &mut u64) -> Value {
+    let number = random(seed);
+    match (name, value) {
+        ("in_buffer", _) => (0..number % 65).map(|_| random(seed) as u8).collect(),
+        ("armed", _) => json!(number % 2 == 0),
+        ("offset", _) => json!(number as i64),
+        ("lr" | "mr" | "imsc" | "ris", _) => json!(number as u32),
+        (_, Value::Object(_)) => random_like(value, seed),
+        _ => json!(number as u8),
+    }
+}
+
+/// Values that a field does not have.
+fn wrong_values(name: &str) -> Vec<Value> {
+    let mut wrong = vec![json!(0.5), json!("1"), json!(null), json!([[]]), json!(u64::MAX)];
+    wrong.extend(match name {
+        "in_buffer" => vec![json!([256]), json!([-1]), json!(5)],
+        "armed" => vec![json!(0), json!(1), json!(2)],
+        "offset" => vec![json!(1_u64 << 63), json!(true)],
+        "lr" | "mr" | "imsc" | "ris" => vec![json!(1_u64 << 32), json!(-1), json!(true)],
+        "state" => vec![json!(5)],
+        _ => vec![json!(256), json!(-1), json!(true)],
+    });
+    wrong
+}
+
+/// A state with random fields goes through both formats. It is refused without any one of its fields, or with a wrong
+/// value of it, and a further field changes nothing.
+fn takes_its_fields_alone<T: Clone + Debug + PartialEq + Serialize + DeserializeOwned>(text: &str) {
+    let mut seed = 1;
+    let form: Value = serde_json::from_str(text).unwrap();
+    for _ in 0..300 {
+        let value = random_like(&form, &mut seed);
+        let state: T = serde_json::from_value(value.clone()).unwrap();
+        assert_eq!(serde_json::to_value(&state).unwrap(), value);
+        let bytes = bincode::serialize(&state).unwrap();
+        assert_eq!(bincode::deserialize::<T>(&bytes).unwrap(), state);
+        for count in 0..bytes.len() {
+            assert!(bincode::deserialize::<T>(&bytes[..count]).is_err());
+        }
+        for name in value.as_object().unwrap().keys() {
+            let changed = |new: Option<Value>| {
+                let mut fields = value.as_object().unwrap().clone();
+                let _ = fields.remove(name);
+                fields.extend(new.map(|it| (name.clone(), it)));
+                serde_json::from_value::<T>(Value::Object(fields))
+            };
+            assert!(changed(None).is_err(), "without {name}");
+            for wrong in wrong_values(name) {
+                assert!(changed(Some(wrong.clone())).is_err(), "{name} is {wrong}");
+            }
+        }
+        let mut further = value;
+        further["further"] = json!(1);
+        assert_eq!(serde_json::from_value::<T>(further).unwrap(), state);
+    }
+}
+
+#[test]
+fn a_state_takes_its_fields_alone() {
+    takes_its_fields_alone::<SerialState>(PORT);
+    takes_its_fields_alone::<RtcState>(CLOCK);
+    takes_its_fields_alone::<RtcSnapshot>(&snapshot());
 }

@@ -4,8 +4,8 @@
 //! event, an output that is drained, and a script, which calls its streams no more than it has to. A call that takes
 //! and drops objects does not call them before.
 use crate::objects::{
-    Log, Object, SerialCall, TestSerial, Then, Writing, by_std, faults, in_order, is_same, port,
-    port_over, writings,
+    FAULTS, Log, Object, SerialCall, TestSerial, Then, Writing, by_std, fault_of, in_order,
+    is_same, port, port_over, writings,
 };
 use std::alloc::{AllocError, Global};
 use std::io;
@@ -53,8 +53,8 @@ fn a_fault_of_the_writer_is_returned_as_it_is(rt: HostRuntime) -> Result<(), Fai
         serial: port(rt.alloc(), &log)?,
         controller: I8042Device::new(Object(&log)),
     };
-    for fault in faults() {
-        for writing in writings(fault) {
+    for number in 0..FAULTS {
+        for writing in writings(number) {
             for way in 0..3u8 {
                 log.start(writing);
                 let sent = match way {
@@ -65,7 +65,7 @@ fn a_fault_of_the_writer_is_returned_as_it_is(rt: HostRuntime) -> Result<(), Fai
                 };
                 assert!(rt;
                     is_right(rt.alloc(), &log, writing, &sent)?,
-                    "{way} {fault:?}"
+                    "{way} {number}"
                 );
                 bus.serial.read(2);
             }
@@ -126,13 +126,13 @@ fn is_right_in_a_run(alloc: Global, object: Object<'_>, writing: Writing) -> Res
 
 #[test]
 fn a_run_returns_the_fault_of_its_writer(rt: HostRuntime) -> Result<(), Fail> {
-    for fault in faults() {
-        for writing in writings(fault) {
+    for number in 0..FAULTS {
+        for writing in writings(number) {
             let log = Log::new();
             log.start(writing);
             assert!(rt;
                 is_right_in_a_run(rt.alloc(), Object(&log), writing)?,
-                "{fault:?}"
+                "{number}"
             );
         }
     }
@@ -142,15 +142,15 @@ fn a_run_returns_the_fault_of_its_writer(rt: HostRuntime) -> Result<(), Fail> {
 /// Of its eight bytes some were taken before. An event flushes nothing.
 #[test]
 fn an_event_is_one_write_and_returns_its_fault(rt: HostRuntime) -> Result<(), Fail> {
-    for fault in faults() {
-        for writing in writings(fault) {
+    for number in 0..FAULTS {
+        for writing in writings(number) {
             for room in 0..8usize {
                 let writing = Writing { room, ..writing };
                 let log = Log::new();
                 log.start(writing);
                 let found = log.outcome(EventFd { file: Object(&log) }.trigger());
                 let expected = by_std(writing, &[&[0; 8]], false);
-                assert!(rt; is_same(rt.alloc(), &found, &expected)?, "{room} {fault:?}");
+                assert!(rt; is_same(rt.alloc(), &found, &expected)?, "{room} {number}");
             }
         }
     }
@@ -160,7 +160,8 @@ fn an_event_is_one_write_and_returns_its_fault(rt: HostRuntime) -> Result<(), Fa
 #[test]
 fn a_drained_output_is_one_write_and_returns_its_fault(rt: HostRuntime) -> Result<(), Fail> {
     let alloc = rt.alloc();
-    for fault in faults() {
+    for number in 0..FAULTS {
+        let fault = fault_of(number);
         let fails = Writing::failing(fault);
         let takes_none = Writing {
             then: Then::TakesNone,
@@ -249,27 +250,30 @@ fn a_script_calls_its_streams_no_more_than_it_has_to(rt: HostRuntime) -> Result<
 /// A script writes each reply as by std's `write_all`, and then flushes all.
 #[test]
 fn a_fault_of_a_stream_is_io(rt: HostRuntime) {
-    for fault in faults() {
+    for number in 0..FAULTS {
+        let fault = fault_of(number);
         let unread = run_over(rt.alloc(), b"kr 04\n", Some(fault), Writing::takes());
         assert_eq!(rt; unread, (Err(ScriptFault::Io), [2, 0, 0]));
-        for writing in writings(fault) {
+        for writing in writings(number) {
             let (result, [writes, flushes]) = by_std(writing, &[b"00\n", b"reset\n"], true);
             let end = result.map_err(|_| ScriptFault::Io);
             let run = run_over(rt.alloc(), b"kr 04\nkw 04 fe\n", None, writing);
-            assert_eq!(rt; run, (end, [2, writes, flushes]), "{fault:?}");
+            assert_eq!(rt; run, (end, [2, writes, flushes]), "{number}");
         }
     }
 }
 
 // ---- objects that are dropped
 
-/// A state that holds a byte, and in which both conditions are pending and enabled.
-fn pending_state(alloc: Global) -> Result<SerialState, AllocError> {
+/// The state of a number: it holds any count of bytes, and any conditions are pending and enabled.
+fn state_of(alloc: Global, number: u8) -> Result<SerialState, AllocError> {
     let mut state = SerialState::default(alloc);
-    state.in_buffer.push(b'a')?;
-    state.line_status = 0x61;
-    state.interrupt_enable = 0x03;
-    state.interrupt_identification = 0x06;
+    state.in_buffer = b"x".repeat(alloc, usize::from(number % 65))?;
+    state.line_status = number.wrapping_mul(7);
+    state.line_control = number.wrapping_mul(11);
+    state.modem_control = number.wrapping_mul(13);
+    state.interrupt_enable = number;
+    state.interrupt_identification = number / 4;
     Ok(state)
 }
 
@@ -299,13 +303,15 @@ fn drop_refused(port: TestSerial<'_>) {
 fn objects_of_a_port_are_dropped_in_silence(rt: HostRuntime) -> Result<(), Fail> {
     let log = Log::new();
     let object = Object(&log);
-    let state = pending_state(rt.alloc())?;
-    for way in 0..4u8 {
-        let made = Serial::from_state(rt.alloc(), &state, object, object, object);
-        let port = made.map_err(Refused::into_error)?;
-        let calls = log.calls();
-        drop_port(port, way);
-        assert!(rt; log.calls() == calls, "{way}");
+    for number in 0..=255u8 {
+        let state = state_of(rt.alloc(), number)?;
+        for way in 0..4u8 {
+            let made = Serial::from_state(rt.alloc(), &state, object, object, object);
+            let port = made.map_err(Refused::into_error)?;
+            let calls = log.calls();
+            drop_port(port, way);
+            assert!(rt; log.calls() == calls, "{number} {way}");
+        }
     }
     Ok(())
 }

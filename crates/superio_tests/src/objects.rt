@@ -18,23 +18,39 @@ use vm_superio::{Serial, Trigger};
 
 // ---- faults
 
-/// A fault of each form: by a number of the system or of a driver, by its kind, and with a text of its own.
-pub fn faults() -> [io::Error; 5] {
-    [
-        io::Error::from_raw_os_error(5),
-        io::Error::from_raw_os_error(11),
-        io::Error::from_raw_os_error(4_095),
-        io::Error::from(ErrorKind::WriteZero),
-        io::Error::new(ErrorKind::Other, "l'hôte a fermé la connexion"),
-    ]
+/// How many faults there are.
+pub const FAULTS: i32 = 148;
+
+/// The fault of a number below [`FAULTS`]: by each number of the system but that of an interrupted call, which is
+/// repeated; by a driver's number; by kinds, among them those that no number has; and with a text of its own.
+pub fn fault_of(number: i32) -> io::Error {
+    match number {
+        4 => io::Error::from_raw_os_error(4_095),
+        134 => io::Error::from(ErrorKind::WriteZero),
+        135 => io::Error::from(ErrorKind::UnexpectedEof),
+        136 => io::Error::from(ErrorKind::InvalidData),
+        137 => io::Error::from(ErrorKind::Other),
+        138 => io::Error::from(ErrorKind::Unsupported),
+        139 => io::Error::from(ErrorKind::WouldBlock),
+        140 => io::Error::from(ErrorKind::TimedOut),
+        141 => io::Error::from(ErrorKind::BrokenPipe),
+        142 => io::Error::new(ErrorKind::Other, "l'hôte a fermé la connexion"),
+        143 => io::Error::new(ErrorKind::InvalidData, ""),
+        144 => io::Error::new(ErrorKind::UnexpectedEof, "no more"),
+        145 => io::Error::new(ErrorKind::Unsupported, "no flush"),
+        146 => io::Error::new(ErrorKind::WriteZero, "full"),
+        147 => io::Error::new(ErrorKind::BrokenPipe, "gone"),
+        _ => io::Error::from_raw_os_error(number),
+    }
 }
 
-/// How a writer may answer a byte: it takes it, fails or takes nothing, at once or after interruptions, or its flush
-/// fails.
-pub fn writings(fault: io::Error) -> [Writing; 6] {
+/// How a writer may answer a byte: it takes it, fails by the fault of this number or takes nothing, at once or after
+/// interruptions, of which every sixteenth fault has many, or its flush fails.
+pub fn writings(number: i32) -> [Writing; 6] {
+    let fault = fault_of(number);
     let takes = Writing::takes();
     let interrupted = Writing {
-        interruptions: 300,
+        interruptions: if number % 16 == 0 { 300 } else { 2 },
         ..takes
     };
     [

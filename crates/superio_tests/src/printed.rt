@@ -1,6 +1,6 @@
 // SPDX-License-Identifier: Apache-2.0 OR BSD-3-Clause
 //! Errors print their texts, which contracts state, to a caller that knows only std's `Error`.
-use crate::objects::faults;
+use crate::objects::{FAULTS, fault_of};
 use std::alloc::{AllocError, Global};
 use std::error::Error as StdError;
 use std::test::Fail;
@@ -26,7 +26,8 @@ fn errors_print_their_texts(rt: HostRuntime) -> Result<(), Fail> {
 #[test]
 fn faults_of_a_writer_are_printed(rt: HostRuntime) -> Result<(), Fail> {
     let alloc = rt.alloc();
-    for fault in faults() {
+    for number in 0..FAULTS {
+        let fault = fault_of(number);
         let expected = format!(in alloc; "Couldn't write/flush to the given destination: {fault}")?;
         let error: Error<LineRefused> = Error::IOError(fault);
         assert!(rt; text(alloc, &error)? == expected, "{fault:?}");

@@ -15,8 +15,11 @@ use vm_superio::run::{Call, run};
 use vm_superio::serial::Uart;
 use vm_superio::{Serial, SerialState};
 
-/// Sizes about the FIFO's, and above.
-const SIZES: [usize; 6] = [0, 1, 63, 64, 65, 1_000];
+/// Sizes about the powers of two, among them the FIFO's, and others.
+const SIZES: [usize; 26] = [
+    0, 1, 2, 3, 4, 5, 7, 8, 9, 15, 16, 17, 31, 32, 33, 63, 64, 65, 100, 127, 128, 129, 255, 256,
+    257, 1_000,
+];
 
 /// The state of a port that holds so many bytes.
 fn state_of(alloc: Global, held: usize) -> Result<SerialState, AllocError> {
@@ -95,7 +98,7 @@ fn records_of_reads<'a>(alloc: Global, object: Object<'a>, size: usize) -> Resul
     Ok(run(alloc, &mut serial, calls)?.len())
 }
 
-// tests/devices/test_growth.py measures these, one at a time.
+// tests/costs measures these, one at a time.
 
 #[test]
 fn a_run_of_a_thousand_calls(rt: HostRuntime) -> Result<(), Fail> {

@@ -1,27 +1,19 @@
-#!/usr/bin/env python3
 # SPDX-License-Identifier: Apache-2.0 OR BSD-3-Clause
-"""Counts the instructions of the accesses that docs/PERFORMANCE.md lists, in each of its columns.
+"""What accesses of the devices cost, in instructions: the rows of docs/PERFORMANCE.md and their goals, and the programs
+`accesses` of tests/compare, which make them under callgrind. What their loop takes is subtracted.
 
-    tests/rust/counts.py
-
-The programs `accesses` of tests/compare make the accesses under callgrind, and what their loop takes is subtracted.
-Counts do not depend on what else the machine does, but on the compilers. test_counts.py compares them with the
-document's numbers and goals.
-
-As a program it writes the numbers that it counts here into the document. A number above its goal is bold there.
+Counts do not depend on what else the machine does, but on the compilers, which the document names.
 """
 import re
 import subprocess
-import sys
-import tempfile
+from functools import lru_cache
 from pathlib import Path
 from statistics import median_low
+from tempfile import TemporaryDirectory, mkdtemp
 from typing import NamedTuple
 
-ROOT = Path(__file__).resolve().parents[2]
-sys.path.append(str(ROOT / "tests" / "common"))
-from cargo import COMPARISON, ORIGINAL, Comparison  # noqa: E402
-from harness import check, takes_no_argument  # noqa: E402
+from cargo import COMPARISON, ORIGINAL, Comparison
+from harness import ROOT, check
 
 DOCUMENT = ROOT / "docs" / "PERFORMANCE.md"
 ROUNDS = 10  # of the programs
@@ -31,7 +23,7 @@ THEIRS, RUST, BY_HAND, LIBRARY = COLUMNS = "vm-superio", "Rust crate", "C by han
 # As a monitor is compiled, for such processors as Rattle's programs are.
 RUST_FLAGS = {"RUSTFLAGS": "-C target-cpu=x86-64-v2", "CARGO_PROFILE_RELEASE_LTO": "true",
               "CARGO_PROFILE_RELEASE_PANIC": "abort", "CARGO_PROFILE_RELEASE_OVERFLOW_CHECKS": "false"}
-C_FLAGS = ["-std=c11", "-O2", "-march=x86-64-v2", "-Wall", "-Wextra", "-Werror", "-Wl,-z,now",
+C_FLAGS = ["-std=c99", "-O2", "-march=x86-64-v2", "-Wall", "-Wextra", "-Werror", "-Wl,-z,now",
            "-I", ROOT / "bindings" / "c"]
 C_LIBRARY = ROOT / "prebuilt" / "x86_64-linux" / "libsuperio_c.a"
 # What a row may take above another column, for each of its accesses.
@@ -72,8 +64,8 @@ class Row(NamedTuple):
         return sum(access[0] in "RWh" and (self.has_alarm or access[:3] in ASKS) for access in self.repeated)
 
     def lists(self):
-        """The lists that the program gets: what it makes once, what it repeats, and what it reads last. At another
-        place of the ring the port has had bytes before: first 64, so that vm-superio's ring has all its places."""
+        """The lists that the program gets: what it makes once, what it repeats, and what it reads last. At another place
+        of the ring the port has had bytes before: first 64, so that vm-superio's ring has all its places."""
         last = PORT_READS if self.is_of_port else CLOCK_READS if self.is_of_clock else []
         if not self.place:
             return [(self.once, self.repeated, last)]
@@ -85,6 +77,12 @@ class Row(NamedTuple):
         """The number of the row, of what its lists took."""
         numbers = [it.instructions for it in counts]
         return median_low(numbers) if self.place == "median" else max(numbers)
+
+
+class Program(NamedTuple):
+    """A program of tests/compare, and the folder that is removed at the end."""
+    path: Path
+    folder: TemporaryDirectory
 
 
 class Counted(NamedTuple):
@@ -103,10 +101,10 @@ def accesses(cell):
     return once, repeated
 
 
-def read_rows(text):
+def read_rows():
     """The rows of the document's table."""
     rows = []
-    for line in text.splitlines():
+    for line in DOCUMENT.read_text(encoding="utf-8").splitlines():
         cells = [cell.strip() for cell in line.strip("|").split("|")]
         if len(cells) != 2 + len(COLUMNS) or "`" not in cells[1]:
             continue
@@ -143,105 +141,74 @@ def is_above_goal(row, column, host_time):
     return limit is not None and row.numbers[column] > limit
 
 
-def totals_of(program, folder, rows):
+def totals_of(program, rows):
     """What each list of rows took, the second once and ten times, without what the loop takes; and what the program
     printed of each row."""
     rows = [([], [], []), ([], ["n0000"], []), *rows]  # first nothing, and an access that does nothing
     text = "".join(" / ".join(map(" ".join, lists)) + "\n" for lists in rows)
-    words = ["valgrind", "--tool=callgrind", f"--callgrind-out-file={folder / 'out'}", "--toggle-collect=sum_of",
-             "--dump-after=sum_of", program]
-    ran = subprocess.run(words, input=text, capture_output=True, text=True, check=True)
-    dumps = [(folder / f"out.{number}").read_text(encoding="ascii") for number in range(1, 4 * len(rows) + 1)]
+    out = Path(mkdtemp(dir=program.folder.name)) / "out"
+    printed = check(["valgrind", "--tool=callgrind", f"--callgrind-out-file={out}", "--toggle-collect=sum_of",
+                     "--dump-after=sum_of", program.path], input=text, stderr=subprocess.DEVNULL)
+    dumps = [out.with_suffix(f".{number}").read_text(encoding="ascii") for number in range(1, 4 * len(rows) + 1)]
     totals = [int(re.search(r"^totals: (\d+)", dump, re.M)[1]) for dump in dumps]
     nothing, loop = totals[0], (totals[6] - totals[2]) / ROUNDS
     for number, (first, repeated, last) in enumerate(rows[2:], 2):
         lengths = len(first), len(repeated), ROUNDS * len(repeated), len(last)
         yield ([round(total - nothing - loop * length)
-                for total, length in zip(totals[4 * number:4 * number + 4], lengths)], ran.stdout.splitlines()[number])
+                for total, length in zip(totals[4 * number:4 * number + 4], lengths)], printed.splitlines()[number])
 
 
-def count(program, folder, rows):
+def count(program, rows):
     """Counts what rows take."""
-    for (_, _, total, _), line in totals_of(program, folder, rows):
+    for (_, _, total, _), line in totals_of(program, rows):
         *replies, asked = map(int, line.split())
         yield Counted(round(total / ROUNDS), tuple(replies), asked // ROUNDS)
 
 
-def build_rust(folder, crate):
-    """The program over a crate with the names of vm-superio."""
-    comparison = Comparison(folder / "crate", crate, "accesses")
-    built = comparison.build(**RUST_FLAGS)
-    assert built.returncode == 0, built.stdout
-    return comparison.program
+@lru_cache(maxsize=None)
+def program_of(column):
+    """The program of a column."""
+    folder = TemporaryDirectory(prefix="counts-")
+    path = Path(folder.name, "accesses")
+    if column in (THEIRS, RUST):
+        comparison = Comparison(path, ORIGINAL if column == THEIRS else None, "accesses")
+        built = comparison.build(**RUST_FLAGS)
+        assert built.returncode == 0, built.stdout
+        return Program(comparison.program, folder)
+    port = ["-DBY_HAND", COMPARISON / "uart.c"] if column == BY_HAND else [C_LIBRARY]
+    check(["gcc", *C_FLAGS, COMPARISON / "accesses.c", *port, "-o", path], "")
+    return Program(path, folder)
 
 
-def build_c(folder, *words):
-    """The program in C over a port."""
-    check(["cc", *C_FLAGS, COMPARISON / "accesses.c", *words, "-o", folder / "accesses"])
-    return folder / "accesses"
-
-
-BUILDS = {
-    THEIRS: lambda folder: build_rust(folder, ORIGINAL),
-    RUST: lambda folder: build_rust(folder, None),
-    BY_HAND: lambda folder: build_c(folder, "-DBY_HAND", COMPARISON / "uart.c"),
-    LIBRARY: lambda folder: build_c(folder, C_LIBRARY),
-}
-
-
-def compiler_of(column, text):
-    """The compiler of a column, with the version that the document names."""
-    command, name = ("rustc", "rustc") if column in (THEIRS, RUST) else ("cc", "gcc")
-    return f"{command} {re.search(rf'{name} ([0-9.]+[0-9])', text)[1]}"
-
-
-def count_column(column, rows, folder):
-    """Builds the program of a column. Returns it, and by the name of each row what its lists take."""
-    program = BUILDS[column](folder)
-    return program, count_rows(column, rows, program, folder)
-
-
-def count_rows(column, rows, program, folder):
+@lru_cache(maxsize=None)
+def counts_of(column):
     """By the name of each row of a column what its lists take."""
-    rows = [row for row in rows if column in row.numbers]
-    found = count(program, folder, [lists for row in rows for lists in row.lists()])
+    rows = [row for row in read_rows() if column in row.numbers]
+    found = count(program_of(column), [lists for row in rows for lists in row.lists()])
     return {row.name: [next(found) for _ in row.lists()] for row in rows}
 
 
-def write_numbers(text, rows, found):
-    """Writes the numbers that were counted into the table, and makes bold what is above its goal."""
-    rows = [row._replace(numbers={**row.numbers, **{column: row.number_of(counts[row.name])
-                                                    for column, counts in found.items() if row.name in counts}})
-            for row in rows]
+def write_numbers(columns):
+    """Counts columns anew and writes their numbers into the table. Makes bold what is above its goal."""
+    text, rows = DOCUMENT.read_text(encoding="utf-8"), read_rows()
+    for column in columns:
+        rows = [row._replace(numbers={**row.numbers, column: row.number_of(counts_of(column)[row.name])})
+                if column in row.numbers else row for row in rows]
     for row in rows:
-        cells = [f"**{number}**" if is_above_goal(row, column, host_time_of(rows)) else str(number)
-                 for column, number in row.numbers.items()]
-        numbers = dict(zip(row.numbers, cells))
+        cells = {column: f"**{number}**" if is_above_goal(row, column, host_time_of(rows)) else str(number)
+                 for column, number in row.numbers.items()}
         start = f"| {row.name} | {row.cell} |"
-        line = start + "|".join(f" {numbers[column]} " if column in numbers else " " for column in COLUMNS) + "|"
+        line = start + "|".join(f" {cells[column]} " if column in cells else " " for column in COLUMNS) + "|"
         text = re.sub(f"^{re.escape(start)}.*$", line, text, flags=re.M)
     DOCUMENT.write_text(text, encoding="utf-8")
 
 
-def enqueue_slope(program, folder):
+def enqueue_slope(column):
     """What a byte more of an enqueue takes at most, and what those beyond the room take, where the FIFO's room goes
     past the last place of the ring."""
     first = ["e0020", *32 * ["r0000"]]
     sizes = [*range(1, PLACES + 1), PLACES + 1, 128, 255]
-    costs = [totals[1] for totals, _ in totals_of(program, folder, [(first, [f"e00{size:02x}"], []) for size in sizes])]
+    lists = [(first, [f"e00{size:02x}"], []) for size in sizes]
+    costs = [totals[1] for totals, _ in totals_of(program_of(column), lists)]
     slope = max((cost - costs[0]) / (size - 1) for size, cost in zip(sizes[1:PLACES], costs[1:]))
     return slope, max(costs[PLACES:]) - costs[PLACES - 1]
-
-
-def main():
-    takes_no_argument(__doc__)
-    text = DOCUMENT.read_text(encoding="utf-8")
-    rows, found = read_rows(text), {}
-    for column in COLUMNS if ORIGINAL else COLUMNS[1:]:
-        with tempfile.TemporaryDirectory() as folder:
-            found[column] = count_column(column, rows, Path(folder))[1]
-    write_numbers(text, rows, found)
-
-
-if __name__ == "__main__":
-    main()

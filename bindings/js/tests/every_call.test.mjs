@@ -1,0 +1,214 @@
+// SPDX-License-Identifier: Apache-2.0 OR BSD-3-Clause
+/**
+ * What holds of every call, whatever it is for: it changes nothing that it is passed, what it gives stays as it is and
+ * is the caller's own, and devices that take turns do what each does alone. States go there and back, and saved bytes
+ * that are damaged are refused or are another state.
+ */
+import assert from "node:assert/strict";
+import test from "node:test";
+import * as superio from "../superio.mjs";
+
+const { I8042, Rtc, SavedStateError, Serial } = superio;
+const ROUNDS = 10_000;
+
+/** Numbers below a bound, by the generator mulberry32. Equal seeds give equal numbers. */
+function randomNumbers(seed) {
+  let state = seed;
+  return (bound) => {
+    state = (state + 0x6d2b79f5) | 0;
+    let mixed = Math.imul(state ^ (state >>> 15), state | 1);
+    mixed ^= mixed + Math.imul(mixed ^ (mixed >>> 7), mixed | 61);
+    return Math.floor((((mixed ^ (mixed >>> 14)) >>> 0) / 2 ** 32) * bound);
+  };
+}
+
+const anyBytes = (below, most) => Uint8Array.from({ length: below(most + 1) }, () => below(256));
+const anyWord = (below) => below(2) ? below(2000) : below(2 ** 32);
+const anyMoment = (below) => below(2) ? below(2000) : BigInt(anyWord(below)) << 32n | BigInt(anyWord(below));
+const clockOffset = (below) => below(4) ? 4 * below(8) : below(0x10000);
+
+function anyPort(below) {
+  const names = Object.keys(new Serial().state).filter((name) => name !== "inBuffer");
+  return { ...Object.fromEntries(names.map((name) => [name, below(256)])), inBuffer: anyBytes(below, 64) };
+}
+
+function anyClock(below) {
+  const [lr, mr, imsc, ris] = Array.from({ length: 4 }, () => anyWord(below));
+  return { lr, mr, imsc, ris, offset: BigInt.asIntN(64, BigInt(anyMoment(below))), armed: below(2) === 1 };
+}
+
+// The members of each class, with arguments for each. Those that a port or a clock stays the same in come last.
+const CALLS = new Map([
+  [Serial, { state: anyPort, changing: {
+    read: (below) => [below(9)], write: (below) => [below(9), below(256)], enqueue: (below) => [anyBytes(below, 70)],
+    characterTimeout: () => [],
+  }, constant: ["clone", "fifoCapacity", "interruptLine", "interruptsDue", "isCoherent", "state", "toBytes"] }],
+  [Rtc, { state: anyClock, changing: {
+    read: (below) => [clockOffset(below), anyMoment(below)],
+    write: (below) => [clockOffset(below), anyWord(below), anyMoment(below)],
+  }, constant: ["alarmDue", "clone", "interruptLine", "state", "toBytes"] }],
+  [I8042, { changing: { read: (below) => [below(256)], write: (below) => [below(8), 0xfe - below(2)] },
+    constant: [] }],
+]);
+const STATES = Array.from(CALLS).filter(([, { state }]) => state);
+
+/** A member of a device, and arguments for it. */
+function drawn(kind, below) {
+  const { changing, constant } = CALLS.get(kind);
+  const names = [...Object.keys(changing), ...constant];
+  const name = names[below(names.length)];
+  return [name, changing[name]?.(below) ?? (name === "alarmDue" ? [anyMoment(below)] : [])];
+}
+
+/** What a call gives. A device is its saved bytes. */
+function made(device, [name, parameters]) {
+  const given = typeof device[name] === "function" ? device[name](...parameters) : device[name];
+  return name === "clone" ? given.toBytes() : given;
+}
+
+test("each member of each class is in the table", () => {
+  const withoutMembers = ["RegisterError", "SavedStateError"];
+  assert.deepEqual([...CALLS.keys()].map((kind) => kind.name).concat(withoutMembers).sort(),
+    Object.keys(superio).sort());
+  for (const [kind, { changing, constant }] of CALLS) {
+    const members = Object.getOwnPropertyNames(kind.prototype).filter((name) => name !== "constructor");
+    assert.deepEqual([...Object.keys(changing), ...constant].sort(), members.sort());
+  }
+});
+
+test("what a call gives and what it is passed is the same after all later calls", () => {
+  const below = randomNumbers(1);
+  const devices = [new Serial(), new Rtc(), new I8042(), Serial.fromState(anyPort(below))];
+  const kept = [];
+  for (let round = 0; round < ROUNDS; round += 1) {
+    const device = devices[below(devices.length)];
+    const call = drawn(device.constructor, below);
+    const passed = structuredClone(call);
+    const given = made(device, call);
+    kept.push([given, structuredClone(given), call, passed]);
+  }
+  for (const [given, before, call, passed] of kept) {
+    assert.deepEqual([given, call], [before, passed]);
+  }
+});
+
+/** Overwrites what an object and the arrays in it hold. */
+function spoil(value) {
+  if (value instanceof Uint8Array) value.fill(0xee);
+  else if (typeof value === "object" && value !== null) {
+    for (const name of Object.keys(value)) {
+      spoil(value[name]);
+      value[name] = undefined;
+    }
+  }
+}
+
+test("a device keeps nothing that is the caller's", () => {
+  const below = randomNumbers(2);
+  for (const [kind, { state }] of STATES) {
+    for (let round = 0; round < ROUNDS / 10; round += 1) {
+      const given = state(below);
+      const device = kind.fromState(given);
+      const saved = device.toBytes();
+      const other = kind.fromBytes(saved);
+      spoil(given);
+      assert.deepEqual(device.toBytes(), saved);
+      const before = other.state;
+      saved.fill(0xee);
+      assert.deepEqual(other.state, before);
+      const call = drawn(kind, below);
+      const result = made(device, call);
+      const after = device.state;
+      spoil(result);
+      spoil(call[1]);
+      spoil(device.state);
+      assert.deepEqual(device.state, after, call[0]);
+    }
+  }
+});
+
+test("devices that take turns do what each does alone", () => {
+  const kinds = [Serial, Rtc, Serial, Rtc, I8042];
+  const below = randomNumbers(3);
+  const calls = Array.from({ length: ROUNDS }, () => {
+    const which = below(kinds.length);
+    return [which, drawn(kinds[which], below)];
+  });
+  const turns = kinds.map((kind) => new kind());
+  const inTurns = calls.map(([which, call]) => structuredClone(made(turns[which], call)));
+  kinds.forEach((kind, own) => {
+    const device = new kind();
+    calls.forEach(([which, call], place) => {
+      if (which === own) assert.deepEqual(made(device, call), inTurns[place], call[0]);
+    });
+  });
+});
+
+test("calls that only look leave a device as it is", () => {
+  const below = randomNumbers(4);
+  for (const [kind, { state, constant }] of STATES) {
+    for (let round = 0; round < ROUNDS / 10; round += 1) {
+      const before = state(below);
+      const device = kind.fromState(before);
+      for (const name of constant) {
+        made(device, [name, name === "alarmDue" ? [anyMoment(below)] : []]);
+        assert.deepEqual(device.state, before, name);
+      }
+    }
+  }
+});
+
+test("any state goes there and back", () => {
+  const below = randomNumbers(5);
+  for (const [kind, { state }] of STATES) {
+    for (let round = 0; round < ROUNDS / 10; round += 1) {
+      const one = state(below);
+      const device = kind.fromState(one);
+      const other = kind.fromBytes(device.toBytes());
+      assert.deepEqual([device.state, other.state, device.clone().state], [one, one, one]);
+      assert.deepEqual(other.toBytes(), device.toBytes());
+      for (const name of Object.keys(one)) {
+        const { [name]: _, ...rest } = one;
+        assert.throws(() => kind.fromState(rest), { name: "TypeError", message: new RegExp(`^${name}`) });
+      }
+      assert.deepEqual(kind.fromState({ ...one, further: 1 }).state, one);
+    }
+  }
+});
+
+/** What a load gives, or if it refuses the bytes, an object that is saved as these. */
+function loadedOr(bytes, load) {
+  try {
+    return load();
+  } catch (error) {
+    if (!(error instanceof SavedStateError)) throw error;
+    return { toBytes: () => bytes };
+  }
+}
+
+test("saved bytes that are cut, longer or changed in a bit are refused, or are another state", () => {
+  const below = randomNumbers(6);
+  for (const [kind, { state }] of STATES) {
+    const saved = kind.fromState(state(below)).toBytes();
+    const flipped = Array.from(saved, (_, place) => Array.from({ length: 8 }, (_, bit) =>
+      saved.map((one, at) => at === place ? one ^ (1 << bit) : one))).flat();
+    const longer = [1, 9, 0x10000].map((count) => Uint8Array.from([...saved, ...new Uint8Array(count)]));
+    const lengths = [...Array.from(saved, (_, count) => saved.slice(0, count)), ...longer];
+    for (const [place, damaged] of [...flipped, ...lengths].entries()) {
+      const load = () => kind.fromBytes(damaged);
+      const isOfHeader = place < 64 || place >= flipped.length;
+      if (isOfHeader) assert.throws(load, SavedStateError);
+      else assert.deepEqual(loadedOr(damaged, load).toBytes(), damaged);
+    }
+  }
+});
+
+test("an enqueue takes the first 64 bytes of any number", () => {
+  for (const count of [63, 64, 65, 2 ** 16, 2 ** 24 + 1, 2 ** 32]) {
+    const port = new Serial();
+    const input = new Uint8Array(count); // pages that nobody reads take no memory
+    input.set(Uint8Array.from({ length: 63 }, (_, place) => place));
+    const fits = Math.min(count, 64);
+    assert.deepEqual([port.enqueue(input).accepted, port.state.inBuffer], [fits, input.slice(0, fits)]);
+  }
+});

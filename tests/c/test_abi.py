@@ -1,0 +1,253 @@
+# SPDX-License-Identifier: Apache-2.0 OR BSD-3-Clause
+"""What holds of every C function by its row of superio.abi, whatever the function is for.
+
+A call writes where its parameters allow and nowhere else, reads nothing else, leaves what earlier calls gave, and keeps
+no state. The devices have any bytes in them: most are none that a guest leads to.
+"""
+import ctypes
+import mmap
+import random
+import re
+from pathlib import Path
+
+import pytest
+from abi import CONSTANTS, FUNCTIONS, STRUCTS
+from harness import ROOT, check
+from libraries import SHARED
+
+GUARD = 64      # bytes before and behind what a pointer leads to
+ROUNDS = 400    # calls of each function
+SAVED = {"serial": CONSTANTS["SUPERIO_SERIAL_SAVED_MAX"], "rtc": CONSTANTS["SUPERIO_RTC_SAVED_SIZE"]}
+HEADER = 8      # the bytes of a saved state before its fields
+
+
+class Place:
+    """Memory that a pointer leads to, between guards."""
+
+    def __init__(self, source, content):
+        self.before = source.randbytes(GUARD) + content + source.randbytes(GUARD)
+        self.memory = ctypes.create_string_buffer(self.before, len(self.before))
+        self.pointer = ctypes.addressof(self.memory) + GUARD
+
+    def content(self):
+        return self.memory.raw[GUARD:-GUARD]
+
+    def content_before(self):
+        return self.before[GUARD:-GUARD]
+
+    def is_guarded(self):
+        now = self.memory.raw
+        return now[:GUARD] == self.before[:GUARD] and now[-GUARD:] == self.before[-GUARD:]
+
+
+def random_device(source, kind):
+    """A struct of any bytes. Half of the ports hold no more bytes than they may."""
+    device = kind.from_buffer_copy(source.randbytes(ctypes.sizeof(kind)))
+    if hasattr(device, "len") and source.random() < 0.5:
+        device.len %= 65
+    return bytes(device)
+
+
+def arguments_of(source, function, states):
+    """Arguments for a call: the places of pointers, and numbers. Every other list of bytes is a saved state."""
+    arguments, count = [], None
+    for parameter in function.parameters:
+        if parameter.is_pointer and parameter.number is None:
+            content = source.choice([source.randbytes(source.randrange(100)), source.choice(states[-4:])])
+            count = len(content)
+            arguments.append(Place(source, content))
+        elif parameter.is_pointer and parameter.kind is ctypes.c_uint8:
+            arguments.append(Place(source, source.randbytes(parameter.number)))
+        elif parameter.is_pointer:
+            arguments.append(Place(source, random_device(source, parameter.kind)))
+        elif count is not None:
+            arguments.append(count)
+            count = None
+        else:
+            number = source.choice([source.randrange(10), source.getrandbits(64)])
+            arguments.append(number % 2 ** (8 * ctypes.sizeof(parameter.kind)))
+    return arguments
+
+
+def places(arguments):
+    return [it for it in arguments if isinstance(it, Place)]
+
+
+def call(library, function, arguments):
+    """The result of a call, as a value, and what it left behind each pointer."""
+    pointers = [it.pointer if isinstance(it, Place) else it for it in arguments]
+    result = getattr(library, function.name)(*pointers)
+    # The bytes between the fields of a struct are nobody's.
+    if isinstance(result, ctypes.Structure):
+        fields = (getattr(result, name) for name, _ in result._fields_)
+        result = [bytes(it) if isinstance(it, ctypes.Array) else it for it in fields]
+    return result, [it.content() for it in places(arguments)]
+
+
+def writable_pieces(path):
+    """Where a loaded library has memory that can be written: the start and the size of each piece. The one in
+    `prebuilt` has none."""
+    rows = re.findall(rf"^(\w+)-(\w+) rw\S* .* {re.escape(path)}$", Path("/proc/self/maps").read_text("utf-8"), re.M)
+    return [(int(start, 16), int(end, 16) - int(start, 16)) for start, end in rows]
+
+
+@pytest.fixture(scope="module", params=["prebuilt", pytest.param("source", marks=pytest.mark.needs("cargo"))])
+def library(request):
+    return request.getfixturevalue(f"{request.param}_library")
+
+
+@pytest.fixture(scope="module")
+def made(library):
+    """Calls of all functions in turn, with their arguments, results, what they left, and whether the library's own
+    memory is as it was."""
+    source, states, calls, pieces = random.Random("abi"), [b""], [], writable_pieces(library._name)
+    own_memory = [ctypes.string_at(*it) for it in pieces]
+    for _ in range(ROUNDS):
+        for function in FUNCTIONS:
+            arguments = arguments_of(source, function, states)
+            result, left = call(library, function, arguments)
+            if function.name.endswith("_save"):
+                states.append(left[-1][:result])
+            before, own_memory = own_memory, [ctypes.string_at(*it) for it in pieces]
+            calls.append((function, arguments, result, left, before == own_memory))
+    return calls
+
+
+def failures(calls, is_good):
+    """The functions of which a call is bad."""
+    return {function.name for function, *rest in calls if not is_good(function, *rest)}
+
+
+@pytest.mark.needs("cc")
+def test_name(library):
+    """The name under which a program looks for the library ends with the number of its binary interface."""
+    names = re.findall(r"\(SONAME\) +Library soname: \[(.*)\]", check(["readelf", "--dynamic", library._name]))
+    assert names == [SHARED] == [f"libsuperio.so.{library.superio_abi()}"]
+
+
+def test_guards(made):
+    """Nothing beside what a pointer leads to is written."""
+    assert not failures(made, lambda _, arguments, *rest: all(it.is_guarded() for it in places(arguments)))
+
+
+def test_const(made):
+    """What a pointer to const leads to is the same afterwards."""
+    assert not failures(made, lambda function, arguments, *rest: all(
+        place.content() == place.content_before()
+        for place, parameter in zip(arguments, function.parameters) if parameter.is_const))
+
+
+def test_counts(made):
+    """A result that counts the bytes of an array: behind them it is as it was."""
+    counted = [row for row in made if row[0].result is ctypes.c_size_t
+               and any(it.is_pointer and not it.is_const for it in row[0].parameters)]
+    assert counted
+    assert not failures(counted, lambda function, arguments, result, left, _:
+                        left[-1][result:] == arguments[-1].content_before()[result:])
+
+
+def test_earlier_results(made):
+    """What a call left is the same after all later calls."""
+    assert not failures(made, lambda _, arguments, __, left, ___: left == [it.content() for it in places(arguments)])
+
+
+def test_no_state(made):
+    """No call changes memory of the library."""
+    assert not failures(made, lambda *row: row[-1])
+
+
+def test_same_again(library, made):
+    """A call that is made again, between other guards and in the other order, does the same: it reads nothing but what
+    it is passed, and devices that take turns do what each does alone."""
+    source, different = random.Random("again"), set()
+    for function, arguments, result, left, _ in reversed(made):
+        again = [Place(source, it.content_before()) if isinstance(it, Place) else it for it in arguments]
+        if call(library, function, again) != (result, left):
+            different.add(function.name)
+    assert not different
+
+
+@pytest.mark.needs("cc")
+def test_no_writable_section(library):
+    """The library has no section that can be written, but for what the linker's own files add to a shared one."""
+    read = check(["readelf", "--wide", "--section-headers", library._name])
+    rows = re.findall(r"^ *\[ *\d+\] (\.\S+) +\S+ +\w+ +\w+ +(\w+) +\w+ +\w*W\w* ", read, re.M)
+    assert not [(name, size) for name, size in rows
+                if re.match(r"\.(data|bss|tdata|tbss)\b(?!\.rel\.ro)", name) and int(size, 16) > 8]
+
+
+@pytest.mark.needs("cc")
+def test_threads(library, tmp_path):
+    """Two threads whose calls overlap in time do what each does alone."""
+    program = tmp_path / "threads"
+    (tmp_path / SHARED).symlink_to(library._name)
+    check(["cc", "-std=c11", "-O2", "-Wall", "-Wextra", "-Werror", "-I", ROOT / "bindings/c",
+           Path(__file__).with_name("threads.c"), tmp_path / SHARED, f"-Wl,-rpath,{tmp_path}", "-pthread",
+           "-o", program])
+    check([program], "both threads did what each did alone\n")
+
+
+def test_long_input(library):
+    """An enqueue takes the first 64 bytes of any number, also if that has more than 32 bits."""
+    zeros = mmap.mmap(-1, 2 ** 32 + 2)  # pages that nobody reads take no memory
+    zeros[:80] = bytes(range(80))
+    start = ctypes.addressof((ctypes.c_uint8 * 80).from_buffer(zeros))
+    for power in range(6, 33):
+        for count in (2 ** power - 1, 2 ** power, 2 ** power + 1):
+            port = library.superio_serial_new()
+            done = library.superio_serial_enqueue(ctypes.byref(port), start, count)
+            fits = min(count, 64)
+            assert (done.accepted, port.len, bytes(port.bytes[:fits])) == (fits, fits, bytes(range(fits))), count
+
+
+def saved(library, kind, device):
+    """The saved state of a struct."""
+    room = ctypes.create_string_buffer(SAVED[kind])
+    count = getattr(library, f"superio_{kind}_save")(ctypes.byref(device), room)
+    return room.raw[:SAVED[kind] if count is None else count]
+
+
+def loaded(library, kind, data):
+    """What a load of bytes returns, and the struct, whose bytes were 0xA5 before."""
+    struct = STRUCTS[f"superio_{kind}"]
+    device = struct.from_buffer_copy(bytes([0xA5]) * ctypes.sizeof(struct))
+    return getattr(library, f"superio_{kind}_load")(ctypes.byref(device), data, len(data)), device
+
+
+@pytest.mark.parametrize("kind", SAVED)
+def test_there_and_back(library, kind):
+    """A state that was loaded has the fields of the saved one, and the same saved state."""
+    source, struct = random.Random(kind), STRUCTS[f"superio_{kind}"]
+    for _ in range(ROUNDS):
+        device = struct.from_buffer_copy(random_device(source, struct))
+        data = saved(library, kind, device)
+        status, other = loaded(library, kind, data)
+        assert (status, saved(library, kind, other)) == (0, data)
+        for name, field in struct._fields_:
+            if name not in ("armed", "head", "len", "bytes"):
+                assert getattr(other, name) == getattr(device, name), name
+        if kind == "rtc":
+            assert other.armed == bool(device.armed)
+        else:
+            held = [device.bytes[(device.head + place) % 64] for place in range(min(device.len, 64))]
+            assert [other.bytes[(other.head + place) % 64] for place in range(other.len)] == held
+
+
+@pytest.mark.parametrize("kind", SAVED)
+def test_damaged(library, kind):
+    """Saved bytes that are cut, longer, or changed in one bit load as another state, whose saved bytes they are, or
+    leave the struct as it was."""
+    source, struct = random.Random(kind), STRUCTS[f"superio_{kind}"]
+    for _ in range(8):
+        data = saved(library, kind, struct.from_buffer_copy(random_device(source, struct)))
+        flipped = [bytes([*data[:place], data[place] ^ 1 << bit, *data[place + 1:]])
+                   for place in range(len(data)) for bit in range(8)]
+        other_lengths = [data[:count] for count in range(len(data))] + [data + bytes(count) for count in (1, 9, 65536)]
+        for damaged in flipped + other_lengths:
+            status, device = loaded(library, kind, damaged)
+            if status == 0:
+                assert saved(library, kind, device) == damaged
+            else:
+                assert bytes(device) == bytes([0xA5]) * ctypes.sizeof(struct)
+        refused = sum(loaded(library, kind, it)[0] != 0 for it in flipped[:8 * HEADER] + other_lengths)
+        assert refused == 8 * HEADER + len(other_lengths)

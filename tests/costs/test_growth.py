@@ -1,0 +1,57 @@
+# SPDX-License-Identifier: Apache-2.0 OR BSD-3-Clause
+"""Scripts and runs take instructions and memory in proportion to their length, as much as docs/PERFORMANCE.md says.
+
+Callgrind counts the instructions of a process, and memcheck the bytes that it allocates.
+"""
+import re
+from typing import NamedTuple
+
+import pytest
+from harness import ROOT, check
+from program import built_tests
+
+pytestmark = pytest.mark.needs("kit", "valgrind")
+
+DOCUMENT = ROOT / "docs" / "PERFORMANCE.md"
+LIMIT = 600  # seconds
+# The tests of crates/superio_tests that make runs, by the number of calls.
+RUNS = {1_000: "a_thousand", 10_000: "ten_thousand", 100_000: "a_hundred_thousand", 1_000_000: "a_million"}
+TOOLS = {"instructions": (["--tool=callgrind", "--callgrind-out-file=/dev/null"], r"Collected : (\d+)"),
+         "bytes": (["--tool=memcheck"], r"([\d,]+) bytes allocated")}
+
+
+class Cost(NamedTuple):
+    """What a script or a run of a length took."""
+    length: int
+    instructions: int
+    bytes: int
+
+
+def cost(length, command, script=""):
+    said = {name: check(["valgrind", *words, *command], input=script, timeout=LIMIT) for name, (words, _) in TOOLS.items()}
+    return Cost(length, *(int(re.search(pattern, said[name])[1].replace(",", "")) for name, (_, pattern) in TOOLS.items()))
+
+
+@pytest.fixture(scope="module")
+def scripts(program):
+    """Scripts of more lines, each a write of IER."""
+    return [cost(lines, [program], lines * "sw 01 03\n") for lines in (70, 700, 7_000)]
+
+
+@pytest.fixture(scope="module")
+def runs():
+    """Runs of more calls, each a read of LSR."""
+    tests = built_tests()
+    return [cost(calls, [tests, f"sizes::a_run_of_{name}_calls"]) for calls, name in RUNS.items()]
+
+
+@pytest.mark.parametrize("field", TOOLS)
+@pytest.mark.parametrize("name, costs", [("lines of a script", "scripts"), ("calls of a run", "runs")])
+def test_growth_is_linear(name, costs, field, request):
+    """From each length to the next, a line or a call takes what it took before, up to a tenth."""
+    costs = request.getfixturevalue(costs)
+    slopes = [(getattr(after, field) - getattr(before, field)) / (after.length - before.length)
+              for before, after in zip(costs, costs[1:])]
+    assert max(slopes) <= 1.1 * slopes[0] + 0.1, slopes
+    said = re.search(rf"^\| {name} \|.*\| ([\d.]+) \| ([\d.]+) \|$", DOCUMENT.read_text(encoding="utf-8"), re.M)
+    assert slopes[-1] == pytest.approx(float(said[1 if field == "instructions" else 2]), rel=0.02, abs=0.1)
