@@ -3,8 +3,8 @@
 
 Over host.c, a host that is a script in place of KVM, it does what scripts.txt says, and sanitizers find nothing. Under
 KVM guest.S echoes a paste of 100,000 bytes by interrupts, although it takes at most 256 bytes for an interrupt; sleeps
-until an alarm; echoes what came meanwhile; and resets the machine. Two monitors whose guests echo each other go on after
-the socket between them was full in both directions.
+until an alarm; echoes what came meanwhile; and resets the machine. Two monitors whose guests echo each other go on
+after the socket between them was full in both directions.
 """
 import difflib
 import random
@@ -91,8 +91,8 @@ def test_guest(monitor, guest):
 
 @pytest.mark.where("KVM")
 def test_pair(monitor, guest):
-    """Two monitors go on whose guests echo each other, with more bytes on the way than fit. What is sent to one end of the
-    socket is input of the monitor at the other."""
+    """Two monitors go on whose guests echo each other, with more bytes on the way than fit. What is sent to one end of
+    the socket is input of the monitor at the other."""
     ends, deadline = socket.socketpair(), time.monotonic() + PATIENCE
     for end in ends:
         end.setsockopt(socket.SOL_SOCKET, socket.SO_SNDBUF, 4096)
