@@ -18,7 +18,8 @@ from tools import PLACES, TOOLS, is_there, missing
 
 LEFT_OUT = pytest.StashKey()   # of a test that --without leaves out
 
-common = {"deadline": None, "suppress_health_check": list(HealthCheck), "print_blob": True}
+os.environ.setdefault("HYPOTHESIS_STORAGE_DIRECTORY", str(ROOT / "out" / "hypothesis"))
+common = {"deadline": None, "database": None, "suppress_health_check": list(HealthCheck), "print_blob": True}
 settings.register_profile("quick", max_examples=50, derandomize=True, **common)
 settings.register_profile("thorough", max_examples=3000, **common)
 settings.load_profile(os.environ.get("HYPOTHESIS_PROFILE", "quick"))
@@ -45,17 +46,22 @@ def pytest_configure(config):
         raise pytest.UsageError(f"--without: there is no tool {', '.join(sorted(unknown))}")
 
 
+def skip(item, reason):
+    """Leaves a test out, which no other way of skipping does."""
+    item.stash[LEFT_OUT] = True
+    pytest.skip(reason)
+
+
 def pytest_runtest_setup(item):
     """Fails a test whose tool is missing. What --without names is skipped, also if it is there."""
-    tools = sorted(needed(item) & left_out(item.config))
-    places = [it for mark in item.iter_markers("where") for it in mark.args if not is_there(PLACES[it])]
-    if tools or places:
-        item.stash[LEFT_OUT] = f"--without names {', '.join(tools)}" if tools else f"there is no {', '.join(places)}"
-        pytest.skip(item.stash[LEFT_OUT])
+    if tools := sorted(needed(item) & left_out(item.config)):
+        skip(item, f"--without names {', '.join(tools)}")
     for tool in sorted(needed(item)):
         is_given = tool == "kit" and item.config.getoption("--program")
         for what, package in {} if is_given else missing(tool).items():
             pytest.fail(f"{what} is missing: install {package}, or run with --without {tool}", pytrace=False)
+    if places := {it for mark in item.iter_markers("where") for it in mark.args if not is_there(PLACES[it])}:
+        skip(item, f"there is no {', '.join(sorted(places))}")
 
 
 @pytest.hookimpl(hookwrapper=True)

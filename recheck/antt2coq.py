@@ -1,4 +1,5 @@
 #!/usr/bin/env python3
+# SPDX-License-Identifier: Apache-2.0 OR BSD-3-Clause
 """Translates definitions of crates/*/specs/*.antt, and all that they rest on, to Coq.
 
 antt2coq ROOT NAME...   where a NAME is Module.name, such as vm_superio.Serial.Laws.PortRun.PortRunLaw

@@ -12,6 +12,8 @@ ROOT = Path(__file__).resolve().parents[2]
 sys.path.insert(0, str(ROOT / "recheck"))
 import rust2coq  # noqa: E402
 
+pytestmark = pytest.mark.needs("cargo")
+
 ALLOWED = "#![allow(dead_code, unused, non_snake_case, non_camel_case_types, clippy::all)]\n"
 
 

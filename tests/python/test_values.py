@@ -1,0 +1,67 @@
+# SPDX-License-Identifier: Apache-2.0 OR BSD-3-Clause
+"""Single values of the Python package: any state goes there and back, in every form, and any argument of a wrong type
+or out of range is refused and changes nothing."""
+import copy
+import json
+import pickle
+from dataclasses import replace
+
+import pytest
+from hypothesis import given, strategies as st
+from superio import Rtc, RtcState, SavedStateError, Serial, SerialState
+
+BYTE, WORD = st.integers(0, 255), st.integers(0, 2**32 - 1)
+SERIAL = st.builds(lambda held, *registers: SerialState(*registers, held), st.binary(max_size=64), *[BYTE] * 9)
+CLOCK = st.builds(RtcState, lr=WORD, mr=WORD, imsc=WORD, ris=WORD, offset=st.integers(-2**63, 2**63 - 1),
+                  armed=st.booleans())
+NO_BYTE = st.integers(max_value=-1) | st.integers(min_value=256)
+OTHER = st.none() | st.floats() | st.text() | st.binary() | st.lists(st.integers(), max_size=2)
+
+
+def ways(device):
+    """A device that went through each form."""
+    return [copy.copy(device), copy.deepcopy(device), pickle.loads(pickle.dumps(device)),
+            type(device).from_bytes(device.to_bytes()), type(device).from_state(device.state)]
+
+
+@given(state=SERIAL)
+def test_port_there_and_back(state):
+    port = Serial.from_state(state)
+    assert [it.state for it in ways(port)] == [state] * 5
+    moved = json.loads(json.dumps(state.to_vm_superio()))
+    assert SerialState.from_vm_superio(moved) == state
+
+
+@given(state=CLOCK)
+def test_clock_there_and_back(state):
+    clock, five = Rtc.from_state(state), replace(state, armed=False)
+    assert [it.state for it in ways(clock)] == [state] * 5
+    assert RtcState.from_vm_superio(json.loads(json.dumps(five.to_vm_superio()))) == five
+
+
+@pytest.mark.parametrize("device", [Serial, Rtc])
+@given(data=st.binary(max_size=100))
+def test_any_bytes(device, data):
+    """They are a saved state that is saved the same again, or are refused."""
+    try:
+        assert device.from_bytes(data).to_bytes() == data
+    except SavedStateError as error:
+        assert error.reason
+
+
+@given(state=SERIAL, offset=BYTE | NO_BYTE, value=BYTE | NO_BYTE)
+def test_numbers_out_of_range(state, offset, value):
+    port = Serial.from_state(state)
+    for number, call in (offset, lambda: port.read(offset)), (value, lambda: port.write(0, value)):
+        if not 0 <= number < 256:
+            with pytest.raises(ValueError):
+                call()
+    assert port.state == state
+
+
+@given(state=SERIAL, value=OTHER)
+def test_other_types(state, value):
+    port = Serial.from_state(state)
+    with pytest.raises(TypeError):
+        port.write(0, value)
+    assert port.state == state
