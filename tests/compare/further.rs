@@ -47,15 +47,17 @@ impl Devices {
     }
 }
 
-/// What a load says of bytes that it refuses.
+/// What a load says of bytes that it refuses: the name of the case in words, and a version.
 fn fault(error: SavedStateError) -> String {
-    match error {
-        SavedStateError::TooShort => "too short".into(),
-        SavedStateError::NotASavedState => "not a saved state".into(),
-        SavedStateError::OtherDevice => "other device".into(),
-        SavedStateError::UnknownVersion(version) => format!("unknown version {version:02x}"),
-        SavedStateError::WrongLength => "wrong length".into(),
-        SavedStateError::TooManyBytes => "too many bytes".into(),
-        SavedStateError::InvalidArmed => "invalid armed".into(),
+    if let SavedStateError::UnknownVersion(version) = error {
+        return format!("unknown version {version:02x}");
     }
+    let mut words = String::new();
+    for letter in format!("{error:?}").chars() {
+        if letter.is_uppercase() && !words.is_empty() {
+            words.push(' ');
+        }
+        words.extend(letter.to_lowercase());
+    }
+    words
 }

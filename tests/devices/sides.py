@@ -7,9 +7,9 @@ from board import ROOM
 from script import line_of
 
 import superio
+from superio.saved import SAVED_STATE_ERRORS
 
-FAULTS = ["ok", "too short", "not a saved state", "other device", "unknown version", "wrong length", "too many bytes",
-          "invalid armed"]   # by the status of a load
+FAULTS = ["ok", *SAVED_STATE_ERRORS]   # by the status of a load
 SAVED_MAX, SAVED_SIZE, THRE = 81, 33, 0x02
 
 

@@ -55,6 +55,11 @@ module _ {A : Type 0} (other : A) where
       option_and_then_some (λ value. next value (later_fields fields)) (first_bytes fields) other is
       (λ value _ e. never value (later_fields fields) e)
 
+-- a line without fields
+end-restore : (command : SerialCommand) (fields : List (List ℕ)) → end command fields ≡ Some line.Restore → command ≡ line.Restore
+end-restore command [] is = cc
+end-restore command (field ∷ fields) is = absurd cc
+
 restore-syntax : (name : List ℕ) (fields : List (List ℕ)) → by_syntax serial_syntaxes name fields ≡ Some line.Restore
     → IsTrue (bytes_eq name (codes "ss")) × (end line.Restore fields ≡ Some line.Restore)
 restore-syntax name fields is = grind (
@@ -63,11 +68,7 @@ restore-syntax name fields is = grind (
   number-other line.Restore w8 (λ offset. number w8 (λ value. end (line.Write offset value)))
       (λ offset. number-other line.Restore w8 (λ value. end (line.Write offset value)) (λ value. end-other line.Restore (line.Write offset value) (λ e. cc))) fields,
   bytes-other line.Restore (λ value. end (line.Enqueue value)) (λ value. end-other line.Restore (line.Enqueue value) (λ e. cc)) fields,
-  end-other line.Restore line.Capacity (λ e. cc) fields,
-  end-other line.Restore line.Drain (λ e. cc) fields,
-  end-other line.Restore line.Output (λ e. cc) fields,
-  end-other line.Restore line.Calls (λ e. cc) fields,
-  end-other line.Restore line.Events (λ e. cc) fields,
+  end-restore,
 )
 
 ended : (fields : List (List ℕ)) → end line.Restore fields ≡ Some line.Restore → fields ≡ []
