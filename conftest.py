@@ -28,6 +28,7 @@ def pytest_addoption(parser):
     parser.addoption("--without", default="", metavar="TOOL,..",
                      help=f"leave out the tests that need one of these: {', '.join(TOOLS)}")
     parser.addoption("--write-pictures", action="store_true", help="write the pictures of the page anew")
+    parser.addoption("--boot", action="store_true", help="boot Linux, also if it has passed with these sources")
     parser.addoption("--program", type=Path, help="a program in place of crates/superio/out/superio")
 
 
@@ -75,7 +76,8 @@ def pytest_make_collect_report(collector):
 
 
 def pytest_terminal_summary(terminalreporter):
-    reasons = Counter(report.longrepr[2].removeprefix("Skipped: ") for report in terminalreporter.stats.get("skipped", ()))
+    skipped = terminalreporter.stats.get("skipped", ())
+    reasons = Counter(report.longrepr[2].removeprefix("Skipped: ") for report in skipped)
     for reason, number in sorted(reasons.items()):
         terminalreporter.write_line(f"NOT TRIED: {number} tests, since {reason}")
 
@@ -102,5 +104,5 @@ def source_library(tmp_path_factory):
     import abi
     folder = tmp_path_factory.mktemp("from-source")
     check(["cargo", "rustc", "--crate-type", "cdylib", "--release", "--quiet", "--offline", "--manifest-path",
-           ROOT / "bindings/c/from-source/Cargo.toml", "--target-dir", folder])
+           ROOT / "bindings/c/from-source/Cargo.toml", "--target-dir", folder], timeout=1200)
     return abi.load(folder / "release" / "libsuperio_c.so")

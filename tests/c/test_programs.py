@@ -16,7 +16,7 @@ from pathlib import Path
 import pytest
 from board import Board
 from builds import HOST, PROCESSORS, compilers_for, make_words, prebuilt
-from cargo import toolchain_for
+from cargo import LIMIT, toolchain_for
 from harness import ROOT, at_least, check
 from libraries import STATIC
 from made import commit, every_load, seeds
@@ -25,21 +25,21 @@ from script import line_of, replies_of
 
 HERE = Path(__file__).parent
 LOADED_CALLS, RUNS = 20_000, 2_500
-DEMO = at_least(260, re.findall(r"^\w.*", (HERE / "demo.txt").read_text("ascii"), re.M))
+DEMO = at_least(307, re.findall(r"^\w.*", (HERE / "demo.txt").read_text("ascii"), re.M))
 OTHERS = ["s390x", "arm"]   # for which there is only the library from source
 
 
 def loads():
     """Loads into new devices, as lines of scripts."""
-    calls = [("load", bytes.fromhex(Board().save())), ("clock_load", bytes.fromhex(Board().clock_save())), *every_load()]
-    calls = calls[:LOADED_CALLS]
+    fresh = [("load", bytes.fromhex(Board().save())), ("clock_load", bytes.fromhex(Board().clock_save()))]
+    calls = [*fresh, *every_load()][:LOADED_CALLS]
     return "".join(f"{line_of(*call)} = {reply}\n" for call, reply in zip(calls, replies_of(Board(), calls)))
 
 
 @pytest.fixture(scope="session")
 def calls(tmp_path_factory):
-    """A file of what every library does, and how many calls it has: first C's own, which begin with new devices, then the
-    recordings, which begin with a new clock, and at the end loads and random calls."""
+    """A file of what every library does, and how many calls it has: first C's own, which begin with new devices, then
+    the recordings, which begin with a new clock, and at the end loads and random calls."""
     random_calls = [call for run in random_recorded(seeds("C", RUNS)) for call in run]
     text = "".join([*{**recordings(HERE / "own.txt"), **recordings(), **recordings(HERE / "shared.txt")}.values(),
                     recording_of(every_answer()), loads(), recording_of(random_calls)])
@@ -59,7 +59,7 @@ def from_source(tmp_path_factory):
         toolchain = toolchain_for(target)
         check([toolchain.cargo, "rustc", "--target", target, "--crate-type", "staticlib", "--release", "--quiet",
                "--offline", "--manifest-path", ROOT / "bindings" / "c" / "from-source" / "Cargo.toml"],
-              env=toolchain.environment(CARGO_TARGET_DIR=str(folder)))
+              env=toolchain.environment(CARGO_TARGET_DIR=str(folder)), timeout=LIMIT)
         return folder / target / "release" / STATIC
     return build
 
@@ -87,7 +87,7 @@ def replay(compiler, processor, library, calls, folder):
 
 def exchange(compiler, processor, library, folder):
     said = check(make_words(compiler, processor, library, folder, "exchanges", f"SEED={commit()}"))
-    assert sum(map(int, re.findall(r"^\d+ of (\d+) exchanges stalled: ", said, re.M))) >= 25_000
+    assert sum(map(int, re.findall(r"^\d+ of (\d+) exchanges stalled: ", said, re.M))) >= 30_000
 
 
 @needs_make

@@ -40,6 +40,7 @@ codegen-units = 1
 overflow-checks = true
 """
 
+
 class Toolchain(NamedTuple):
     """The compiler of a toolchain, the Cargo beside it, and its version."""
     rustc: str
@@ -49,6 +50,7 @@ class Toolchain(NamedTuple):
     def environment(self, **more):
         return {**os.environ, "RUSTC": self.rustc, "RUSTDOC": str(Path(self.rustc).with_name("rustdoc")), **more}
 
+
 def toolchains():
     """The toolchains, the one of PATH first."""
     for rustc in dict.fromkeys((shutil.which("rustc"), str(DEBIAN_RUSTC))):
@@ -56,6 +58,7 @@ def toolchains():
         if cargo.is_file():
             said = subprocess.run([rustc, "--version"], capture_output=True, text=True)
             yield Toolchain(rustc, str(cargo), said.stdout.split()[1])
+
 
 def toolchain_for(target):
     """The first toolchain that has the libraries of a target, or `None`."""
@@ -65,9 +68,6 @@ def toolchain_for(target):
             return found
     return None
 
-def lacking():
-    """What is not here of what builds with Cargo, or `None`. By cc it links programs."""
-    return next((tool for tool in ("cargo", "cc") if not shutil.which(tool)), None)
 
 def add_crate(folder, code, rest="[features]\nderive = []\n"):
     """Makes a crate, whose name and version the folder may have. One without code takes the place of an optional
@@ -77,6 +77,7 @@ def add_crate(folder, code, rest="[features]\nderive = []\n"):
     (folder / "src").mkdir(parents=True, exist_ok=True)
     (folder / "src" / "lib.rs").write_text(code or "", encoding="utf-8")
     (folder / "Cargo.toml").write_text(head + rest, encoding="utf-8")
+
 
 class Cargo:
     """Runs Cargo offline in the folder of a crate. Other crates are those of a registry, or an empty serde alone. The
@@ -116,6 +117,7 @@ def copied_crate(folder, toolchain=None, crate=BINDINGS):
     for it in {crate, DEVICES}:
         shutil.copytree(it, folder / it.name, ignore=shutil.ignore_patterns("target", "Cargo.lock"), dirs_exist_ok=True)
     return Cargo(folder / crate.name, toolchain)
+
 
 class Comparison(Cargo):
     """A program of tests/compare, over bindings/rust or over a vm-superio."""

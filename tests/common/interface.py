@@ -42,7 +42,8 @@ def kept():
 
 
 def lost():
-    """What of superio.abi is gone, although the number is the same: a program that was compiled before would go wrong."""
+    """What of superio.abi is gone, although the number is the same: a program that was compiled before would go
+    wrong."""
     old, now = kept(), interface()
     return sorted({*old} - {*now}) if old[0] == now[0] else []
 

@@ -131,8 +131,8 @@ def load_scripts():
 
 
 def made_scripts(what, number):
-    """So many random scripts for a board that has the further lines, and a fifth of that for one that refuses them, half
-    of these without any such line. Each commit has others."""
+    """So many random scripts for a board that has the further lines, and a fifth of that for one that refuses them,
+    half of these without any such line. Each commit has others."""
     for seed in seeds(what, number):
         script = random_script(random.Random(seed))
         yield BoardScript(seed, script, False, *run_script(script))

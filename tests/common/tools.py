@@ -1,6 +1,6 @@
 # SPDX-License-Identifier: Apache-2.0 OR BSD-3-Clause
-"""What tests need of a machine, and the packages of Debian 12 that have it. As a program it prints those of what is missing,
-but for the kit, which is no package; one of another architecture ends with its name."""
+"""What tests need of a machine, and the packages of Debian 12 that have it. As a program it prints those of what is
+missing, but for the kit, which is no package; one of another architecture ends with its name."""
 import os
 import shutil
 import subprocess
@@ -15,6 +15,7 @@ TOOLS = {
     "c++": {"g++": "g++"},
     "clang": {"clang": "clang", "clang++": "clang"},
     "make": {"make": "make"},
+    "qemu": {"qemu-system-x86_64": "qemu-system-x86", "apt-get": "apt"},
     "git": {"git": "git"},
     "valgrind": {"valgrind": "valgrind"},
     "cargo": {"cargo": "cargo", "rustc": "rustc", "cc": "gcc"},

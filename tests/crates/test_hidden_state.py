@@ -74,8 +74,8 @@ def unseen(name, text, code):
 
 
 CRATES = ROOT / "crates"
-SOURCES = {str(path.relative_to(CRATES)): path.read_text(encoding="utf-8") for path in sorted(CRATES.glob("*/src/**/*.rt"))
-           if path.relative_to(CRATES).parts[0] not in TESTS}
+SOURCES = {str(path.relative_to(CRATES)): path.read_text(encoding="utf-8")
+           for path in sorted(CRATES.glob("*/src/**/*.rt")) if path.relative_to(CRATES).parts[0] not in TESTS}
 MODELS = [(name, *model) for name, text in SOURCES.items() for model in models(text, without_contracts(text))]
 
 

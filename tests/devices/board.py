@@ -1,5 +1,6 @@
 # SPDX-License-Identifier: Apache-2.0 OR BSD-3-Clause
-"""What a script is made on, by docs/SCRIPT.md: the devices of a model, an interrupt line, an output, and saved states."""
+"""What a script is made on, by docs/SCRIPT.md: the devices of a model, an interrupt line, an output, and saved
+states."""
 from struct import Struct
 
 import oracle

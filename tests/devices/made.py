@@ -69,7 +69,8 @@ def port_state(source):
 
 def clock_state(source):
     """Any LR, MR, IMSC, RIS, offset and armed."""
-    offset = source.choice([number(source) - number(source), source.getrandbits(64) - 2**63, 2**63 - 1 - number(source)])
+    offset = source.choice([number(source) - number(source), source.getrandbits(64) - 2**63,
+                            2**63 - 1 - number(source)])
     return *(number(source) for _ in range(4)), offset, source.randrange(2)
 
 
@@ -207,7 +208,8 @@ def fewest(calls, differs):
 def smaller_values(value):
     """Smaller numbers than one, or fewer and plainer bytes, the smallest first."""
     if isinstance(value, int):
-        return [it for it in (0, 1, 2, *(value & (1 << bits) - 1 for bits in range(2, 64)), value - 1) if 0 <= it < value]
+        smaller = (0, 1, 2, *(value & (1 << bits) - 1 for bits in range(2, 64)), value - 1)
+        return [it for it in smaller if 0 <= it < value]
     return [bytes(size) for size in range(len(value) + 1) if bytes(size) != value]
 
 

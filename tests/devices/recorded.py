@@ -9,7 +9,7 @@ from itertools import product
 from board import CLOCK_FIELDS, FIFO_SIZE, Board
 from harness import ROOT
 from made import CLOCK_CALLS, CONTROLLER_CALLS, PORT_CALLS, clock_state, drawn, port_state
-from script import LINES, call_of, line_of
+from script import call_of, line_of
 
 CALLS = ROOT / "tests" / "data" / "calls"
 RUN = 40   # calls of a random run
@@ -101,7 +101,8 @@ def recording_of(calls, devices=None):
 
 def difference(rows, made):
     """What is different between recorded rows and what was made of their calls, if anything: ten rows of it at most."""
-    pairs = [f"recorded: {call} = {reply}\ngot:      {call} = {got}" for (call, reply), got in zip(rows, made) if reply != got]
+    pairs = [f"recorded: {call} = {reply}\ngot:      {call} = {got}"
+             for (call, reply), got in zip(rows, made) if reply != got]
     missing = [f"{len(rows)} calls, and {len(made)} replies"] * (len(rows) != len(made))
     return "\n".join([*pairs[:10], *missing])
 

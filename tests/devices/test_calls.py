@@ -75,11 +75,11 @@ def test_every_load_in_rust(rust):
 
 @pytest.mark.needs("cargo", "cc")
 def test_random_calls_in_rust(rust):
-    """A failure shows the fewest calls of a run that differ."""
-    runs = random_recorded(seeds("Rust", RUNS))
+    """A failure shows the fewest calls of a run that differ from new devices on, or else the run."""
+    runs, recorder = random_recorded(seeds("Rust", RUNS)), Recorder()
     made = iter(rust([call for calls in runs for call in calls]))
     for calls in runs:
-        rows = rows_of(recording_of(calls))
-        if difference(rows, [next(made, "no call") for _ in calls]):
+        rows = rows_of(recording_of(calls, recorder))   # a run goes on with the devices of the run before
+        if found := difference(rows, [next(made, "no call") for _ in calls]):
             few = fewest(calls, lambda it: difference(rows_of(recording_of(it)), rust(it)))
-            pytest.fail(difference(rows_of(recording_of(few)), rust(few)) or "only after other runs", pytrace=False)
+            pytest.fail(difference(rows_of(recording_of(few)), rust(few)) or found, pytrace=False)

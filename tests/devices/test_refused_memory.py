@@ -52,7 +52,8 @@ NAMES = at_least(8, re.findall(r"^#\[test\]\n(?:#\[.*\n)*(?:pub )?fn (\w+)", SOU
 def refusing(tmp_path_factory):
     """The library that refuses memory."""
     path = tmp_path_factory.mktemp("refusing") / "refusing.so"
-    check(["cc", "-shared", "-fPIC", "-fno-builtin", "-Wall", "-Werror", "-x", "c", "-", "-o", path], "", input=REFUSING)
+    check(["cc", "-shared", "-fPIC", "-fno-builtin", "-Wall", "-Werror", "-x", "c", "-", "-o", path], "",
+          input=REFUSING)
     return path
 
 

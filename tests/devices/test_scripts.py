@@ -1,8 +1,8 @@
 # SPDX-License-Identifier: Apache-2.0 OR BSD-3-Clause
-"""Scripts with their replies, which the program has to print: those of tests/data, whose form tests/README.md has, those
-that documents show, and the recorded boot of a Linux kernel that has the program's lines alone. The program ends at the
-first of the further lines, which only the Python package and the page have. The commands that documents show have to
-print what these say."""
+"""Scripts with their replies, which the program has to print: those of tests/data, whose form tests/README.md has,
+those that documents show, and the recorded boot of a Linux kernel that has the program's lines alone. The program ends
+at the first of the further lines, which only the Python package and the page have. The commands that documents show
+have to print what these say."""
 import os
 import re
 import subprocess

@@ -1,9 +1,9 @@
 # SPDX-License-Identifier: Apache-2.0 OR BSD-3-Clause
 """A number that several files state is the same in all of them.
 
-tests/documents/facts.txt has a block for each fact, such as the offset of a register: lines with a file and a text that has
-to stand in it, wherever lines break there. After a change of the number, the block names the other places. The registers
-and their bits need no block: test_registers.py compares them.
+tests/documents/facts.txt has a block for each fact, such as the offset of a register: lines with a file and a text that
+has to stand in it, wherever lines break there. After a change of the number, the block names the other places. The
+registers and their bits need no block: test_registers.py compares them.
 """
 import re
 from collections import defaultdict

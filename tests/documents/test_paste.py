@@ -42,7 +42,8 @@ def commands_of(document):
 
 
 def cases():
-    """The documents that have commands, each with its blocks, marked with what they need. Blocks for the kit come apart."""
+    """The documents that have commands, each with its blocks, marked with what they need. Blocks for the kit come
+    apart."""
     for path in sorted(path.relative_to(ROOT) for pattern in DOCUMENTS for path in ROOT.glob(pattern)):
         blocks = list(commands_of(Document(path))) if str(path) not in ELSEWHERE else []
         for is_for_kit in (False, True):

@@ -42,16 +42,17 @@ def serial_results(devices):
     shown = {(offset, dlab): row for offset, dlab, *row in rows_of(devices, "Offset | DLAB |")}
     kept = {row[0]: row[1] for row in rows_of(devices, "Register | Bits |")}
     for name, (_, offset, _, bits, latched, access, ignored) in SERIAL.items():
-        reads, writes, fresh = shown[str(offset), {None: "any", False: "clear", True: "set"}[latched]]
+        place = str(offset), {None: "any", False: "clear", True: "set"}[latched]
+        reads, writes, fresh = shown.get(place, ["none", "none", "none"])
         if "r" in access:
             variant = {"RBR": "Data"}.get(name, name.capitalize())
-            yield compare(f"the register at {offset}", variant, variants[offset, bool(latched)])
+            yield compare(f"the register at {offset}", variant, variants.get((offset, bool(latched))))
             yield compare(f"what is read at {offset}", name, re.match(r"\w+", reads)[0])
         if "w" in access:
             yield compare(f"what is written at {offset}", "ignored" if ignored else name, re.match(r"\w+", writes)[0])
         if name in FIELDS:
             field, value = FIELDS[name], getattr(FRESH, FIELDS[name])
-            yield compare(f"{name} of a new port", value, numbers(fresh)[0],
+            yield compare(f"{name} of a new port", value, (numbers(fresh) or [None])[0],
                           int(re.search(rf"{field} = 0x(\w+);", state)[1], 16))
             comment = re.search(rf"\b{field};\s*/\*(.*?)\*/", header)[1]
             stated = {*numbers(comment), *numbers(kept.get(name, ""))} - {FRESH.interrupt_identification, FIFO_BITS}
@@ -77,9 +78,9 @@ def clock_results(devices):
                 for letter, kind in (("r", "readable"), ("w", "writable"))}
     for name, register in CLOCK.items():
         if not name.startswith("ID"):
-            variant = variants[register.offset]
+            variant = variants.get(register.offset, "Reserved")
             yield compare(f"the register at {register.offset}", name, variant.upper())
-            title, *effects = shown[register.offset]
+            title, *effects = shown.get(register.offset, ["no register", "is invalid", "is invalid"])
             yield compare(f"the register at {register.offset}", f"RTC{name}", title.split(",")[0])
             for letter, effect in zip("rw", effects):
                 stated = accesses[letter].get(variant, accesses[letter]["_"]) == "true"

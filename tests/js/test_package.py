@@ -8,7 +8,7 @@ import tarfile
 
 import pytest
 from documents import Document
-from harness import ROOT, at_least, check, run
+from harness import ROOT, at_least, check
 from recorded import every_answer, recording_of, recordings
 from script_tests import board_scripts
 
@@ -19,7 +19,8 @@ RANDOM_SCRIPTS = 2_000
 RECORDED = {"every answer": recording_of(every_answer()), **recordings()}
 # The first program of a document, as a module that `require` serves has it.
 IMPORT = re.compile(r'^import (\{.*\}) from ("superio");', re.M)
-# What TypeScript takes for each kind of module. The last line has a wrong type, so its error shows that types are found.
+# What TypeScript takes for each kind of module. The last line has a wrong type, so its error shows that types are
+# found.
 TYPED = """import { Rtc, SavedStateError, Serial } from "superio";
 const port: Serial = new Serial();
 const due: number | null = new Rtc().alarmDue(5n);
@@ -56,7 +57,8 @@ OWN_TESTS = at_least(2, sorted((PACKAGE / "tests").glob("*.test.mjs")))
 @pytest.mark.needs("node")
 @pytest.mark.parametrize("path", OWN_TESTS, ids=lambda it: it.name)
 def test_own_tests(path):
-    """Of the package, which compare it with superio.d.ts and package.json. All that are written pass, and no other ends."""
+    """Of the package, which compare it with superio.d.ts and package.json. All that are written pass, and no other
+    ends."""
     said = check(["node", "--test", "--test-reporter=tap", path])
     counts = {kind: int(count) for kind, count in re.findall(r"^# (\w+) (\d+)$", said, re.M)}
     assert counts["pass"] >= len(re.findall(r"^ *test\(", path.read_text("utf-8"), re.M)) > 0, said
@@ -88,7 +90,8 @@ def packed(tmp_path_factory):
     shutil.copytree(PACKAGE, place)
     shutil.copy(ROOT / LICENSES[0], folder)
     shutil.copytree(ROOT / LICENSES[1], folder / LICENSES[1])
-    check(["npm", "pack", "--offline", "--silent", "--cache", folder / "cache", "--pack-destination", folder], cwd=place)
+    check(["npm", "pack", "--offline", "--silent", "--cache", folder / "cache", "--pack-destination", folder],
+          cwd=place)
     [archive] = folder.glob("superio-*.tgz")
     assert not any((place / one).exists() for one in LICENSES), "npm pack leaves its licenses behind"
     return archive

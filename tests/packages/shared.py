@@ -3,7 +3,7 @@
 import os
 import re
 
-from harness import check, run
+from harness import check
 from header import read_header
 from libraries import SHARED
 

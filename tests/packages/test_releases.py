@@ -25,7 +25,8 @@ OF_DEBIAN = {**os.environ, "PATH": "/usr/sbin:/usr/bin:/sbin:/bin"}
 
 @pytest.fixture(scope="module")
 def releases(tmp_path_factory):
-    """Two releases, in other folders, at other times, for other users. Gives the folder with the trees and the releases."""
+    """Two releases, in other folders, at other times, for other users. Gives the folder with the trees and the
+    releases."""
     folder = tmp_path_factory.mktemp("releases")
     own = {**os.environ, "GIT_COMMITTER_DATE": "1700000000 +0000"}
     other = {**own, "TZ": "Asia/Tokyo", "LC_ALL": "C", "USER": "other", "HOME": str(folder)}

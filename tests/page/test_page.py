@@ -2,9 +2,9 @@
 """The page docs/try.html: what it has packed, and what it does in a headless Chromium.
 
 Each control does what features.txt says, and the console stays empty: the page lets the browser refuse any request. It
-fits two widths and two schemes of colours, its controls have names for a screen reader, and it loads fast. It replies to
-scripts as a search of the past does, and docs/try.svg and docs/try-narrow.svg show what it does; --write-pictures writes
-them anew.
+fits two widths and two schemes of colours, its controls have names for a screen reader, and it loads fast. It replies
+to scripts as a search of the past does, and docs/try.svg and docs/try-narrow.svg show what it does; --write-pictures
+writes them anew.
 """
 import json
 import os
@@ -106,7 +106,7 @@ def told(request, tmp_path_factory):
     """Opens the browser once, for the tests of this file that are run. Gives a function that gives what was told of a
     kind and a name, of which something has to be told, and all that the console had besides."""
     items = [item for item in request.session.items if item.path == Path(__file__)]
-    names = {item.callspec.params["name"] for item in items if hasattr(item, "callspec") and "name" in item.callspec.params}
+    names = {item.callspec.params.get("name") for item in items if hasattr(item, "callspec")}
     has_scripts = any(item.name == "test_scripts" for item in items)
     tried = {kind: [row for name, row in rows.items() if name in names] for kind, rows in (
         ("features", FEATURES), ("looks", LOOKS), ("pictures", PICTURES))}
@@ -130,7 +130,8 @@ def test_feature(told, name):
 @pytest.mark.needs("chromium")
 @pytest.mark.parametrize("name", LOOKS)
 def test_looks(told, name):
-    """At a width and in a scheme of colours, nothing is cut or too wide, each text stands out, and controls have names."""
+    """At a width and in a scheme of colours, nothing is cut or too wide, each text stands out, and controls have
+    names."""
     said = told("looks", name)
     assert not said["wrong"]
     assert said["number"] >= LEAST_CONTROLS

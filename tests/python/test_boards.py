@@ -1,6 +1,6 @@
 # SPDX-License-Identifier: Apache-2.0 OR BSD-3-Clause
-"""Scripts over the Python package: on a board, in the shell, and as a script for the program. Random ones without damage
-are in tests/devices/test_random.py."""
+"""Scripts over the Python package: on a board, in the shell, and as a script for the program. Random ones without
+damage are in tests/devices/test_random.py."""
 import io
 import random
 import re

@@ -36,8 +36,10 @@ MACHINES = sorted(path.parent.name.partition("-")[0] for path in ROOT.glob(f"pre
 TAGS = "manylinux_2_17_{0}.manylinux2014_{0}.musllinux_1_1_{0}"
 
 
-@pytest.mark.parametrize("path", at_least(16, [*(PACKAGE / "superio").glob("*.py"), PACKAGE / "setup.py", ROOT / "superio"]),
-                         ids=lambda it: it.name)
+SOURCES = at_least(16, [*(PACKAGE / "superio").glob("*.py"), PACKAGE / "setup.py", ROOT / "superio"])
+
+
+@pytest.mark.parametrize("path", SOURCES, ids=lambda it: it.name)
 def test_python_3_8_takes(path):
     text = path.read_text(encoding="utf-8")
     ast.parse(text, str(path), feature_version=(3, 8))

@@ -1,6 +1,7 @@
 # SPDX-License-Identifier: Apache-2.0 OR BSD-3-Clause
-"""bindings/rust and bindings/superio, on which it stands, as those who use them would have them. tools/check runs their own
-tests by `cargo test`, with checks of overflow; here they run as released, with Debian's Rust and on other processors.
+"""bindings/rust and bindings/superio, on which it stands, as those who use them would have them. tools/check runs their
+own tests by `cargo test`, with checks of overflow; here they run as released, with Debian's Rust and on other
+processors.
 """
 import random
 import re
@@ -19,8 +20,8 @@ CRATES = pytest.mark.parametrize("crate", [DEVICES, BINDINGS], ids=lambda it: it
 ORDER_LINTS = ["-D", "clippy::mixed_read_write_in_expression", "-D", "clippy::diverging_sub_expression"]
 # Where Debian's packages put crates.
 DEBIAN = Path("/usr/share/cargo/registry")
-# Targets of 32 bits, with the highest byte first, and without an operating system, each with the tool that has it. Where
-# the tests run too, the compiler that links them, and the emulator.
+# Targets of 32 bits, with the highest byte first, and without an operating system, each with the tool that has it.
+# Where the tests run too, the compiler that links them, and the emulator.
 TARGETS = {
     "s390x-unknown-linux-gnu": ("s390x", "s390x-linux-gnu-gcc", "qemu-s390x"),
     "armv7-unknown-linux-gnueabihf": ("arm", "arm-linux-gnueabihf-gcc", "qemu-arm"),

@@ -1,6 +1,6 @@
 # SPDX-License-Identifier: Apache-2.0 OR BSD-3-Clause
-"""tools/erase drops no code and keeps no contract: erased.txt has sources of Rattle, each with what it leaves of them, or
-with a part of what refuses them."""
+"""tools/erase drops no code and keeps no contract: erased.txt has sources of Rattle, each with what it leaves of them,
+or with a part of what refuses them."""
 import sys
 from pathlib import Path
 

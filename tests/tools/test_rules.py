@@ -1,5 +1,6 @@
 # SPDX-License-Identifier: Apache-2.0 OR BSD-3-Clause
-"""Nothing passes for not having run: the rules of conftest.py, of at_least and of tools/check, with tests that break them."""
+"""Nothing passes for not having run: the rules of conftest.py, of at_least and of tools/check, with tests that break
+them."""
 import re
 import shutil
 import sys
@@ -25,7 +26,8 @@ BROKEN = {
     "a file that needs a module": (HEAD + "pytest.importorskip('nothing_like_it')\ndef test(): pass", "1 error"),
     "a file that skips itself": (HEAD + "pytest.skip('a', allow_module_level=True)\ndef test(): pass", "1 error"),
     "an empty table": (HEAD + "@pytest.mark.parametrize('it', [])\ndef test(it): pass", "1 error"),
-    "a table that has too few": (HEAD + "@pytest.mark.parametrize('it', at_least(2, [1]))\ndef test(it): pass", "1 error"),
+    "a table that has too few": (HEAD + "@pytest.mark.parametrize('it', at_least(2, [1]))\ndef test(it): pass",
+                                 "1 error"),
     "a mark that nobody knows": (HEAD + "@pytest.mark.nedds('cargo')\ndef test(): pass", "1 error"),
     "a tool that nobody knows": (HEAD + "@pytest.mark.needs('cargoo')\ndef test(): pass", "1 error"),
     "a tool that is missing": (HEAD + "@pytest.mark.needs('chromium')\ndef test(): pass", "1 error"),
@@ -97,6 +99,7 @@ CARGO = "test result: ok. 3 passed; 0 failed; {} ignored; 0 measured; 0 filtered
     (0, [*GATE[:2], "rt: ok; must-fail edits: 4 refused; all", GATE[3]], (10, 1, 0)),
     (0, [*GATE[:2], "rt: ok; must-fail edits: 5 refused, 2 of them only by a limit, 1 bad; all", GATE[3]], (10, 1, 0)),
     (0, GATE[1:], (7, 1, 0)),
+    (0, GATE[:3], (3, 1, 0)),
     (127, [], (0, 1, 0)),
 ])
 def test_gate(status, lines, counts):

@@ -447,11 +447,7 @@ module _ (mask : ℕ) (trace : Trace) (outcome : Outcome) (bytes : List ℕ) (li
   first-replies (line.Write offset value) = call-replies (Write offset value)
   first-replies (line.Enqueue bytes) = call-replies (Enqueue bytes)
   first-replies line.Output = output-first (none_lost trace) (output fresh_state [] trace)
-  first-replies line.Capacity = refl
-  first-replies line.Drain = refl
-  first-replies line.Restore = refl
-  first-replies line.Calls = refl
-  first-replies line.Events = refl
+  first-replies _ = refl
 
 -- the outcomes of the trace after a line are those before it, and the one that it takes
 outcome-of_sent : (sends : Bool) (outcome : Outcome) → outcome_of_sent (sent_with sends outcome) ≡ (if sends then outcome ∷ [] else [])
@@ -472,7 +468,4 @@ outcomes-after_line mask trace outcome (line.Write offset value) = ap (λ more. 
 outcomes-after_line mask trace outcome (line.Enqueue bytes) = ap (λ more. outcomes_of trace ++ more) (outcome-of_sent (sends trace (Enqueue bytes)) outcome)
 outcomes-after_line mask trace outcome line.Drain = reads-no_outcome (length (drained_bytes trace)) trace ∙ sym (append-nil (outcomes_of trace))
 outcomes-after_line mask trace outcome line.Restore = restore-no_outcome (is_restore_refused mask trace) trace ∙ sym (append-nil (outcomes_of trace))
-outcomes-after_line mask trace outcome line.Output = sym (append-nil (outcomes_of trace))
-outcomes-after_line mask trace outcome line.Capacity = sym (append-nil (outcomes_of trace))
-outcomes-after_line mask trace outcome line.Calls = sym (append-nil (outcomes_of trace))
-outcomes-after_line mask trace outcome line.Events = sym (append-nil (outcomes_of trace))
+outcomes-after_line mask trace outcome _ = sym (append-nil (outcomes_of trace))

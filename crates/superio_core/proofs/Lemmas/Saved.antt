@@ -1,12 +1,12 @@
 -- SPDX-License-Identifier: Apache-2.0 OR BSD-3-Clause
 -- Lemmas on the encoding of a saved state. Other crates' proofs use the public ones too.
-use Rattle.std.proofs.Common.{◌≡◌, ℕ, ◌<◌, ◌^◌, Bool, true, false, ap, sym, ◌∙◌, arith, refl, List, drop, ◌==◌, Some, None, IfOk, Result, Ok, Err, ℤ, pos, negsuc, FitsSigned, length, [], ◌∷◌, take, ◌++◌, replicate}
+use Rattle.std.proofs.Common.{◌≡◌, ℕ, suc, ◌<◌, ◌^◌, Bool, true, false, ap, sym, ◌∙◌, arith, refl, List, drop, ◌==◌, Some, None, IfOk, Result, Ok, Err, ℤ, pos, negsuc, FitsSigned, length, [], ◌∷◌, take, ◌++◌, replicate}
 use Rattle.std.specs.Result.{result_err}
-use Rattle.std.specs.Int.{w64, to_le_bytes, from_le_bytes, cast_unsigned, cast_signed}
+use Rattle.std.specs.Int.{w64, w16, to_le_bytes, from_le_bytes, cast_unsigned, cast_signed}
 use Rattle.std.proofs.lemmas.Int.{to_z-of_z}
 use Rattle.std.proofs.lemmas.Nat.{from_le_bytes-to_le_bytes_4, from_le_bytes-to_le_bytes_8}
 use Rattle.superio_core.specs.declared.rtc_pl031.encoding.RtcState.{RtcState}
-use Rattle.superio_core.specs.Saved.{SavedStateError, flag, numbers_in, clock_encoding, clock_fault, IsClock, SerialEncodingLaw, ClockEncodingLaw, OneSerialStateLaw, OneClockStateLaw, serial_encoding, serial_fault, TooShort, NotASavedState, OtherDevice, UnknownVersion, WrongLength, TooManyBytes, InvalidArmed}
+use Rattle.superio_core.specs.Saved.{SavedStateError, magic, serial_kind, version, header, flag, numbers_in, clock_encoding, clock_fault, IsClock, SerialEncodingLaw, ClockEncodingLaw, OneSerialStateLaw, OneClockStateLaw, serial_encoding, serial_fault, TooShort, NotASavedState, OtherDevice, UnknownVersion, WrongLength, TooManyBytes, InvalidArmed}
 use Rattle.superio_core.specs.Serial.{state_of_bytes, fresh_state, State}
 
 of-same : (lr mr imsc ris lr' mr' imsc' ris' : ℕ) (offset offset' : ℤ) (armed armed' : Bool) →
@@ -69,7 +69,7 @@ pub ruleset one_state_of_an_encoding_laws = (one_serial_state, one_clock_state)
 
 pub ruleset encodings_are_read_laws = (serial_encoding_has_no_fault, clock_encoding_has_no_fault)
 
--- ---- worked examples of the encoding: those of docs/SAVED-STATES.md, and one for each check
+-- ---- worked examples of the checks, in order. docs/SAVED-STATES.md has those of the encoding, which scripts try
 
 -- two bytes are held, and received data is pending
 abbrev two_held : State
@@ -81,23 +81,9 @@ two_held = record fresh_state {
   in_buffer = 0x61 ∷ 0x62 ∷ [];
 }
 
-two_held_encoding : serial_encoding two_held ≡
-    0x53 ∷ 0x49 ∷ 0x4F ∷ 0x53 ∷ 0x01 ∷ 0x01 ∷ 0x0B ∷ 0x00
-    ∷ 0x0C ∷ 0x00 ∷ 0x01 ∷ 0x04 ∷ 0x03 ∷ 0x61 ∷ 0x08 ∷ 0xB0 ∷ 0x5A
-    ∷ 0x61 ∷ 0x62 ∷ []
-two_held_encoding = refl
-
 -- guest time is an hour behind, and an alarm is set
 abbrev hour_behind : RtcState
 hour_behind = record { lr = 0x65920080; offset = negsuc 3599; mr = 0x659200BC; imsc = 1; ris = 0; armed = true }
-
-hour_behind_encoding : clock_encoding hour_behind ≡
-    0x53 ∷ 0x49 ∷ 0x4F ∷ 0x53 ∷ 0x02 ∷ 0x01 ∷ 0x19 ∷ 0x00
-    ∷ 0x80 ∷ 0x00 ∷ 0x92 ∷ 0x65 ∷ 0xBC ∷ 0x00 ∷ 0x92 ∷ 0x65 ∷ 0x01 ∷ 0x00 ∷ 0x00 ∷ 0x00 ∷ 0x00 ∷ 0x00 ∷ 0x00 ∷ 0x00
-    ∷ 0xF0 ∷ 0xF1 ∷ 0xFF ∷ 0xFF ∷ 0xFF ∷ 0xFF ∷ 0xFF ∷ 0xFF ∷ 0x01 ∷ []
-hour_behind_encoding = refl
-
--- ---- the checks, in order
 
 good : serial_fault (serial_encoding two_held) ≡ None
 good = refl
@@ -114,27 +100,27 @@ other_letter = refl
 clock_at_port : serial_fault (clock_encoding hour_behind) ≡ Some OtherDevice
 clock_at_port = refl
 
-second_version : serial_fault (0x53 ∷ 0x49 ∷ 0x4F ∷ 0x53 ∷ 0x01 ∷ 0x02 ∷ []) ≡ Some TooShort
-second_version = refl
+next_version : serial_fault (magic ++ serial_kind ∷ suc version ∷ []) ≡ Some TooShort
+next_version = refl
 
-second_version_whole : serial_fault (0x53 ∷ 0x49 ∷ 0x4F ∷ 0x53 ∷ 0x01 ∷ 0x02 ∷ 0x00 ∷ 0x00 ∷ []) ≡ Some (UnknownVersion 2)
-second_version_whole = refl
+next_version_whole : serial_fault (magic ++ serial_kind ∷ suc version ∷ to_le_bytes w16 0) ≡ Some (UnknownVersion (suc version))
+next_version_whole = refl
 
 byte_after_the_end : serial_fault (serial_encoding two_held ++ 0x63 ∷ []) ≡ Some WrongLength
 byte_after_the_end = refl
 
 -- eight bytes are too few for the registers, though the header says eight
-eight_registers : serial_fault (0x53 ∷ 0x49 ∷ 0x4F ∷ 0x53 ∷ 0x01 ∷ 0x01 ∷ 0x08 ∷ 0x00 ∷ replicate 8 0) ≡ Some WrongLength
+eight_registers : serial_fault (header serial_kind 8 ++ replicate 8 0) ≡ Some WrongLength
 eight_registers = refl
 
-full_port : serial_fault (0x53 ∷ 0x49 ∷ 0x4F ∷ 0x53 ∷ 0x01 ∷ 0x01 ∷ 0x49 ∷ 0x00 ∷ replicate 73 0) ≡ None
+full_port : serial_fault (header serial_kind 73 ++ replicate 73 0) ≡ None
 full_port = refl
 
 -- the law speaks of full ports too
 full_encoding : SerialEncodingLaw → (state : State) → length state.in_buffer ≡ 64 → serial_fault (serial_encoding state) ≡ None
 full_encoding law state full = law state (omega (arith, full))
 
-one_more_byte : serial_fault (0x53 ∷ 0x49 ∷ 0x4F ∷ 0x53 ∷ 0x01 ∷ 0x01 ∷ 0x4A ∷ 0x00 ∷ replicate 74 0) ≡ Some TooManyBytes
+one_more_byte : serial_fault (header serial_kind 74 ++ replicate 74 0) ≡ Some TooManyBytes
 one_more_byte = refl
 
 armed_twice : clock_fault (take 32 (clock_encoding hour_behind) ++ 0x02 ∷ []) ≡ Some InvalidArmed
