@@ -1,5 +1,5 @@
 # SPDX-License-Identifier: Apache-2.0 OR BSD-3-Clause
-"""The program `superio`: how it is built, and how tests run it."""
+"""The program `superio`, and others in Rattle: how they are built, and how tests run them."""
 import os
 import re
 import shutil
@@ -11,7 +11,7 @@ from pathlib import Path
 from harness import ROOT
 
 CRATES = ROOT / "crates"
-PROGRAM = CRATES / "superio" / "out" / "superio"
+PROGRAMS = "superio", "long_run"
 TESTS = CRATES / "superio_tests" / "out" / "superio_tests_tests"
 
 
@@ -46,18 +46,23 @@ def crates_below(crate):
     return found
 
 
-def proved_program():
-    """The program that was proved and built, and `None` if it is missing or older than its sources."""
-    sources = [path for it in [*crates_below("superio"), "superio"] for path in (CRATES / it / "src").rglob("*.rt")]
-    is_current = PROGRAM.exists() and PROGRAM.stat().st_mtime >= max(path.stat().st_mtime for path in sources)
-    return PROGRAM if is_current else None
+def path_of(crate):
+    """Where the program of a crate is, once it was built."""
+    return CRATES / crate / "out" / crate
 
 
-def built_program():
-    """The proved program, which is proved and built if it is not there."""
-    if not proved_program():
-        build(*((crate, "lib") for crate in crates_below("superio")), ("superio", "run"))
-    return PROGRAM
+def is_current(crate):
+    """Whether the program of a crate is there, and no older than its sources."""
+    sources = [path for it in [*crates_below(crate), crate] for path in (CRATES / it / "src").rglob("*.rt")]
+    program = path_of(crate)
+    return program.exists() and program.stat().st_mtime >= max(path.stat().st_mtime for path in sources)
+
+
+def built_program(crate="superio"):
+    """The proved program of a crate, which is proved and built if it is not there or older than its sources."""
+    if not is_current(crate):
+        build(*((it, "lib") for it in crates_below(crate)), (crate, "run"))
+    return path_of(crate)
 
 
 def number_of_edits():
@@ -80,7 +85,7 @@ def hand_over():
     for crate in rtlib.crates_below(str(ROOT)):
         if (library := Path(crate.folder, "out", "rlib")).is_dir():
             (library / "stamp").write_text(crate.stamp(), encoding="utf-8")
-    for program in (PROGRAM, TESTS):
+    for program in (*map(path_of, PROGRAMS), TESTS):
         if program.exists():
             program.touch()
 

@@ -88,46 +88,6 @@ fn lists_of_each_size_are_taken(rt: HostRuntime) -> Result<(), Fail> {
     Ok(())
 }
 
-/// How many records a run of so many reads gives.
-fn records_of_reads<'a>(alloc: Global, object: Object<'a>, size: usize) -> Result<usize, Fail> {
-    let mut calls: Vec<SerialCall<'a>> = Vec::with_capacity(alloc, size)?;
-    for _ in 0..size {
-        calls.push(Call::Read(5))?;
-    }
-    let mut serial: TestSerial<'a> = port_over(alloc, object)?;
-    Ok(run(alloc, &mut serial, calls)?.len())
-}
-
-// tests/costs measures these, one at a time.
-
-#[test]
-fn a_run_of_a_thousand_calls(rt: HostRuntime) -> Result<(), Fail> {
-    let log = Log::new();
-    assert!(rt; records_of_reads(rt.alloc(), Object(&log), 1_000)? == 1_000);
-    Ok(())
-}
-
-#[test]
-fn a_run_of_ten_thousand_calls(rt: HostRuntime) -> Result<(), Fail> {
-    let log = Log::new();
-    assert!(rt; records_of_reads(rt.alloc(), Object(&log), 10_000)? == 10_000);
-    Ok(())
-}
-
-#[test]
-fn a_run_of_a_hundred_thousand_calls(rt: HostRuntime) -> Result<(), Fail> {
-    let log = Log::new();
-    assert!(rt; records_of_reads(rt.alloc(), Object(&log), 100_000)? == 100_000);
-    Ok(())
-}
-
-#[test]
-fn a_run_of_a_million_calls(rt: HostRuntime) -> Result<(), Fail> {
-    let log = Log::new();
-    assert!(rt; records_of_reads(rt.alloc(), Object(&log), 1_000_000)? == 1_000_000);
-    Ok(())
-}
-
 /// Whether a queue of this input takes all of it, and is made again with it.
 fn is_input_of(alloc: Global, bytes: &[u8]) -> Result<bool, Fail> {
     let mut input = InputQueue::new(alloc, bytes.len())?;
