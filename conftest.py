@@ -28,6 +28,7 @@ def pytest_addoption(parser):
     parser.addoption("--without", default="", metavar="TOOL,..",
                      help=f"leave out the tests that need one of these: {', '.join(TOOLS)}")
     parser.addoption("--write-pictures", action="store_true", help="write the pictures of the page anew")
+    parser.addoption("--boot", action="store_true", help="boot Linux, also if it has passed with these sources")
     parser.addoption("--program", type=Path, help="a program in place of crates/superio/out/superio")
 
 

@@ -15,6 +15,7 @@ TOOLS = {
     "c++": {"g++": "g++"},
     "clang": {"clang": "clang", "clang++": "clang"},
     "make": {"make": "make"},
+    "qemu": {"qemu-system-x86_64": "qemu-system-x86", "apt-get": "apt"},
     "git": {"git": "git"},
     "valgrind": {"valgrind": "valgrind"},
     "cargo": {"cargo": "cargo", "rustc": "rustc", "cc": "gcc"},

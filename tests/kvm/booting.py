@@ -16,14 +16,14 @@ import time
 from contextlib import contextmanager, suppress
 from pathlib import Path
 
-ROOT = Path(__file__).resolve().parents[2]
-HERE = ROOT / "tests" / "kvm"
-MONITOR = ROOT / "examples" / "kvm"
+from harness import ROOT, check
+from monitors import build_monitor, rust_port
+
 IMAGES = ROOT / "out" / "linux"  # what examples/kvm/fetch gets
 # What a record is of: all that a guest's console and clock go through, and what looks at them.
 SOURCES = ["bindings/c/superio.h", "bindings/rust/src", "bindings/superio/src", "crates/superio_c/src",
-           "crates/superio_core/src", "examples/kvm", "prebuilt/SHA256SUMS", "tests/kvm/booting.py", "tests/kvm/serial",
-           "tests/kvm/test_linux.py"]
+           "crates/superio_core/src", "examples/kvm", "prebuilt/SHA256SUMS", "tests/kvm/booting.py",
+           "tests/kvm/monitors.py", "tests/kvm/serial", "tests/kvm/test_linux.py", "tests/kvm/timeout.c"]
 WORDS = "console=ttyS0 reboot=k panic=1 loglevel=1 mitigations=off initcall_blacklist=i8042_init"
 QEMU = ["qemu-system-x86_64", "-accel", "tcg", "-cpu", "EPYC,+svm,+npt,-x2apic", "-m", "768", "-nodefaults",
         "-nographic", "-no-reboot", "-append", "console=ttyS0 quiet mitigations=off panic=1"]
@@ -41,17 +41,7 @@ while read monitor; do
     echo "status $?"
 done
 """
-# In the place of the library's character timeout: a guest that wants two stop bits gets none, as in tests/kvm/serial.
-TIMEOUT = """#include <superio.h>
-uint8_t __real_superio_serial_character_timeout(superio_serial *port);
-uint8_t __wrap_superio_serial_character_timeout(superio_serial *port);
-uint8_t __wrap_superio_serial_character_timeout(superio_serial *port) {
-    return port->line_control & 0x04 ? 0 : __real_superio_serial_character_timeout(port);
-}
-"""
 LIMIT = 300  # seconds that all monitors may take together
-# What boots Linux, and the packages of Debian that have it.
-NEEDED = {"make": "make", "cc": "gcc", "cargo": "cargo", "apt-get": "apt", "qemu-system-x86_64": "qemu-system-x86"}
 
 
 def sum_of_sources():
@@ -64,30 +54,11 @@ def sum_of_sources():
     return hashlib.sha256(listing.encode()).hexdigest()
 
 
-def fetch_images():
-    """Gets the kernel, its modules and busybox, if they are not there yet."""
-    if not (IMAGES / "initramfs").exists():
-        subprocess.run([MONITOR / "fetch", IMAGES], check=True, stdout=subprocess.DEVNULL, timeout=120)
-
-
 def build_monitors(folder):
-    """Builds the monitor over the C library, and over the Rust crate by tests/kvm/serial."""
-    timeout, target = folder / "timeout.c", folder / "target"
-    timeout.write_text(TIMEOUT, encoding="ascii")
-    subprocess.run(["cargo", "build", "--release", "--quiet", "--offline", "--manifest-path",
-                    HERE / "serial" / "Cargo.toml", "--target-dir", target], check=True, timeout=200)
-    compiler = f"cc -static -Wl,--wrap=superio_serial_character_timeout {timeout}"
-    return {
-        "c": build_monitor(folder / "c", compiler, "serial.c"),
-        "rust": build_monitor(folder / "rust", "cc -static", target / "release" / "libkvm_serial.a"),
-    }
-
-
-def build_monitor(folder, compiler, port):
-    shutil.copytree(MONITOR, folder, ignore=shutil.ignore_patterns("monitor"))
-    words = ["make", "-s", "-C", folder, f"ROOT={ROOT}", f"CC={compiler}", f"SERIAL={port}"]
-    subprocess.run(words, check=True, stderr=subprocess.DEVNULL, timeout=120)  # glibc warns of its static parts
-    return folder / "monitor"
+    """Builds the monitor over the C library, and over the Rust crate."""
+    for name, port in {"c": "serial.c", "rust": rust_port(folder / "target")}.items():
+        build_monitor("linux", folder / name, port)
+    return {name: folder / name / "monitor" for name in ("c", "rust")}
 
 
 class Stalled(AssertionError):
@@ -214,9 +185,8 @@ def make_initramfs(folder, monitors):
 @contextmanager
 def host(folder):
     """A host for the monitors, as a context, which ends whatever runs there after LIMIT seconds."""
-    if missing := [package for tool, package in NEEDED.items() if not shutil.which(tool)]:
-        raise FileNotFoundError(f"to boot Linux, install {' '.join(missing)}")
-    fetch_images()
+    if not (IMAGES / "initramfs").exists():
+        check([ROOT / "examples" / "kvm" / "fetch", IMAGES], timeout=120)
     monitors = build_monitors(folder)
     machine = OwnHost(monitors) if own_processor_runs_guests() else HostInQemu(monitors, folder)
     limit = threading.Timer(LIMIT, machine.stop)

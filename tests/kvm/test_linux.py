@@ -5,17 +5,19 @@ It boots to a shell, and gets pastes in pieces, which arrive whole. It sends byt
 sets and awaits the clock. Without the character timeout a paste stalls until one more byte comes. At the end it resets
 the machine.
 
-Since this takes minutes, `linux.record` has the sum of the sources for which it last passed. If these have changed, or
-with BOOT_LINUX=1 in the environment, Linux boots; if it then passes for other sources, the record is written anew, and
-the test fails until that is committed.
+Since this takes minutes, `linux.record` has the sum of the sources with which it last passed. If these have changed,
+or with --boot, Linux boots. If it then passes with other sources, the record is written anew, and the test fails until
+that is committed.
 """
 import hashlib
-import os
 import random
 import time
 
 import pytest
-from booting import HERE, Stalled, host, sum_of_sources
+from booting import Stalled, host, sum_of_sources
+from monitors import HERE
+
+pytestmark = [pytest.mark.needs("cc", "make", "cargo", "qemu"), pytest.mark.where("Linux on x86-64")]
 
 RECORD = HERE / "linux.record"
 PASTED, MOVED, EXCHANGED = 4096, 65536, 16384
@@ -118,10 +120,10 @@ def check_guest(console):
     end(console)
 
 
-def test_linux_passed_with_these_sources(tmp_path):
+def test_linux_passed_with_these_sources(tmp_path, pytestconfig):
     before = RECORD.read_text(encoding="ascii")
-    record = f"{sum_of_sources()}  the sources for which Linux last passed\n"
-    if before != record or os.environ.get("BOOT_LINUX"):
+    record = f"{sum_of_sources()}  the sources with which Linux last passed\n"
+    if before != record or pytestconfig.getoption("--boot"):
         with host(tmp_path) as machine:
             for name in ("c", "rust"):
                 begun = time.monotonic()
