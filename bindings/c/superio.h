@@ -34,6 +34,7 @@
  *         offer_input();
  *     if (offset == 2 && read.byte & 0x01) // IIR: nothing is pending
  *         interrupt(superio_serial_character_timeout(&port));
+ *     interrupt(0); // for a line that takes levels
  *
  *     // Your event loop makes a turn: its poll has returned.
  *     lock();
@@ -95,8 +96,8 @@
  * ready: until IER enables RDA and not THRE, as no driver's test of a port
  * does. From then on it stays ready, whatever it enables, until the machine is
  * reset. A guest that polls, such as a boot loader, never gets ready in this
- * way: have an option that offers input to it at once. Bound the queue, and do
- * not read from its source while it is full.
+ * way: have an option that offers input to it at once. Bound the queue. While
+ * it is full, do not read from its source, and look again once there is room.
  *
  * Offer input at the moments that the sketch shows and at no others: once when
  * it arrives, once when the guest becomes ready, has read the last byte or may
@@ -106,10 +107,11 @@
  * loop nor under the lock that input needs. Otherwise two monitors that are
  * connected to each other may stand still for ever, each in a send that waits
  * until the other one reads. Keep a bounded queue, from which the event loop
- * writes to a file that does not block. LSR always shows an empty transmitter,
- * so no guest waits by itself until there is room. When the queue is full,
- * either drop the byte and count it, or hold the guest in its access: without
- * the lock, for a limited time, and after that drop the byte.
+ * writes to a file that does not block: it polls for room while bytes wait, and
+ * has to be woken when the first one is queued. LSR always shows an empty
+ * transmitter, so no guest waits by itself until there is room. When the queue
+ * is full, either drop the byte and count it, or hold the guest in its access:
+ * without the lock, for a limited time, and after that drop the byte.
  *
  * Turns. A turn of the event loop comes after each return of its poll, and is
  * made under the port's lock. If the guest's handler runs meanwhile, the turn's
