@@ -1,7 +1,7 @@
 # SPDX-License-Identifier: Apache-2.0 OR BSD-3-Clause
 """The monitor of examples/kvm.
 
-Over host.c, a host that is a script in place of KVM, it does what scripts.txt says, over the C library and over the Rust
+Over host.c, a host that is a script in place of KVM, it does what scripts.txt says, by the C library and by the Rust
 crate's `Serial`, and sanitizers find nothing. Under KVM guest.S echoes a paste of 100,000 bytes by interrupts, although
 it takes at most 256 bytes for an interrupt; sleeps until an alarm; echoes what came meanwhile; and resets the machine.
 Two monitors whose guests echo each other go on after the socket between them was full in both directions.
