@@ -1,0 +1,59 @@
+# SPDX-License-Identifier: Apache-2.0 OR BSD-3-Clause
+"""Each public function of the proved crates has a must-fail edit in its body, or docs/WRONG-BODIES.md lists it as one
+without.
+
+A row of its table names functions by type, such as `Serial::writer, events`, whichever trait they are of. Laws and
+functions of `NoEvents` have no edit either.
+"""
+import pytest
+from contracts import functions_of
+from documents import CODE, Document
+from harness import ROOT, at_least
+
+CRATES = ["superio_core", "vm_superio", "superio_c", "superio_script"]
+
+
+def edited(crate):
+    """Where the edits of a crate change it: the file, and the place in it."""
+    for edit in sorted((crate / "must-fail").glob("*.edit")):
+        path = ""
+        for line in edit.read_text(encoding="utf-8").splitlines():
+            if line.startswith("file: "):
+                path = crate / line.removeprefix("file: ")
+            elif line.startswith("old: "):
+                yield path, path.read_text(encoding="utf-8").find(line.removeprefix("old: "))
+
+
+def functions():
+    """The public functions, each by its type and name, and whether an edit is in its body."""
+    for crate in map((ROOT / "crates").joinpath, CRATES):
+        places = list(edited(crate))
+        for path in sorted((crate / "src").rglob("*.rt")):
+            for function in functions_of(path.read_text(encoding="utf-8")):
+                is_wanted = function.is_public and function.has_body and "laws" not in str(path)
+                if is_wanted and function.path[0] != "NoEvents":
+                    is_edited = any(it == path and function.start <= at < function.end for it, at in places)
+                    yield "::".join(function.path[-2:]), is_edited
+
+
+def listed():
+    """The functions that the table of docs/WRONG-BODIES.md names."""
+    table = Document("docs/WRONG-BODIES.md").text.split("| Functions without an edit |")[1].split("\n\n")[0]
+    for code in CODE.findall(table):
+        owner = code.rpartition("::")[0]
+        for name in code.removeprefix(f"{owner}::").split(", "):
+            yield f"{owner}::{name}" if owner else name
+
+
+FUNCTIONS, LISTED = at_least(140, functions()), set(listed())
+
+
+@pytest.mark.parametrize("function, is_edited", FUNCTIONS)
+def test_function(function, is_edited):
+    """A public function has an edit, or is listed."""
+    assert is_edited or function in LISTED
+
+
+def test_listed():
+    """A listed function is there, and has no edit."""
+    assert LISTED <= {function for function, is_edited in FUNCTIONS if not is_edited}
