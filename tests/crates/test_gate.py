@@ -15,7 +15,7 @@ def test_crates():
 
 
 def test_numbers():
-    assert number_of_edits() >= 97
+    assert number_of_edits() >= 101
     assert number_of_tests() >= 164
 
 
