@@ -41,7 +41,7 @@ while read monitor; do
     echo "status $?"
 done
 """
-LIMIT = 300  # seconds that all monitors may take together
+LIMIT = 300  # seconds that a guest may take
 
 
 def sum_of_sources():
@@ -118,7 +118,7 @@ class OwnHost:
     def __init__(self, monitors):
         self.monitors, self.running = monitors, []
 
-    def start(self, name):
+    def begin(self, name):
         ours, theirs = socket.socketpair()
         script = f'{self.monitors[name]} kernel initramfs "{WORDS}"; echo "status $?"'
         self.running.append(subprocess.Popen(["sh", "-c", script], cwd=IMAGES, stdin=theirs, stdout=theirs,
@@ -147,7 +147,7 @@ class HostInQemu:
         theirs.close()
         self.console = Console(ours)
 
-    def start(self, name):
+    def begin(self, name):
         self.console.send(f"{name}\n")
         return self.console
 
@@ -184,15 +184,23 @@ def make_initramfs(folder, monitors):
 
 @contextmanager
 def host(folder):
-    """A host for the monitors, as a context, which ends whatever runs there after LIMIT seconds."""
+    """A host for the monitors, as a context."""
     if not (IMAGES / "initramfs").exists():
         check([ROOT / "examples" / "kvm" / "fetch", IMAGES], timeout=120)
     monitors = build_monitors(folder)
     machine = OwnHost(monitors) if own_processor_runs_guests() else HostInQemu(monitors, folder)
-    limit = threading.Timer(LIMIT, machine.stop)
-    limit.start()
     try:
         yield machine
     finally:
-        limit.cancel()
         machine.stop()
+
+
+@contextmanager
+def console(machine, name):
+    """The console of a guest in a monitor, as a context. If this takes LIMIT seconds, the host ends."""
+    limit = threading.Timer(LIMIT, machine.stop)
+    limit.start()
+    try:
+        yield machine.begin(name)
+    finally:
+        limit.cancel()

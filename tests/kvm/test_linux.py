@@ -14,7 +14,7 @@ import random
 import time
 
 import pytest
-from booting import Stalled, host, sum_of_sources
+from booting import Stalled, console, host, sum_of_sources
 from monitors import HERE
 
 pytestmark = [pytest.mark.needs("cc", "make", "cargo", "qemu"), pytest.mark.where("Linux on x86-64")]
@@ -24,7 +24,7 @@ PASTED, MOVED, EXCHANGED = 4096, 65536, 16384
 # Pieces of a paste: their sizes in turn.
 EVEN, ODD = [1000], [1, 7, 64, 65, 300, 1000, 255, 257]
 # The most seconds that a boot, a command, a paste and much output may take, and how long a stall is looked at.
-BOOT, COMMAND, PASTE, OUTPUT, STALL = 100, 30, 30, 150, 8
+BOOT, COMMAND, PASTE, OUTPUT, STALL = 100, 30, 30, 200, 8
 CLOCK = 0xD0000
 RTCDR, RTCMR, RTCLR, RTCIMSC, RTCMIS = (CLOCK + offset for offset in (0x000, 0x004, 0x008, 0x010, 0x018))
 SET_TO = 0x10000000  # in 1978
@@ -39,85 +39,85 @@ def digest(content):
     return hashlib.md5(content).hexdigest()
 
 
-def run(console, command):
+def run(guest, command):
     """What a command of the guest prints."""
-    console.send(f"echo b''egin; {command}; echo e''nd\n")
-    console.until(b"begin\r\n", COMMAND)
-    return console.until(b"end\r\n", COMMAND).decode()
+    guest.send(f"echo b''egin; {command}; echo e''nd\n")
+    guest.until(b"begin\r\n", COMMAND)
+    return guest.until(b"end\r\n", COMMAND).decode()
 
 
-def begin_raw(console, command):
+def begin_raw(guest, command):
     """Starts a command on a terminal that passes every byte as it is."""
-    console.send(f"stty raw -echo; echo r''eady; {command}; stty sane\n")
-    console.until(b"ready\n", COMMAND)
+    guest.send(f"stty raw -echo; echo r''eady; {command}; stty sane\n")
+    guest.until(b"ready\n", COMMAND)
 
 
-def check_paste(console, sizes):
+def check_paste(guest, sizes):
     """A paste arrives whole."""
     content = printable(PASTED, str(sizes))
-    begin_raw(console, f"head -c {PASTED} | md5sum")
-    console.paste(content, sizes)
-    assert console.until(b"  -\n", PASTE).decode() == digest(content)
+    begin_raw(guest, f"head -c {PASTED} | md5sum")
+    guest.paste(content, sizes)
+    assert guest.until(b"  -\n", PASTE).decode() == digest(content)
 
 
-def check_output(console):
+def check_output(guest):
     """What the guest sends comes out as it is."""
-    run(console, f"dd if=/dev/urandom of=/sent bs={MOVED} count=1")
-    begin_raw(console, "cat /sent; md5sum < /sent")
-    content = console.take(MOVED, OUTPUT)
-    assert console.until(b"  -\n", COMMAND).decode() == digest(content)
+    run(guest, f"dd if=/dev/urandom of=/sent bs={MOVED} count=1")
+    begin_raw(guest, "cat /sent; md5sum < /sent")
+    content = guest.take(MOVED, OUTPUT)
+    assert guest.until(b"  -\n", COMMAND).decode() == digest(content)
 
 
-def check_both(console):
+def check_both(guest):
     """The guest receives while it sends."""
     content = printable(EXCHANGED, "both")
-    run(console, f"dd if=/dev/urandom of=/sent bs={EXCHANGED} count=1")
-    begin_raw(console, f"(cat /sent & head -c {EXCHANGED} > /received; wait); cat /sent /received | md5sum")
-    console.paste(content, EVEN)
-    sent = console.take(EXCHANGED, OUTPUT)
-    assert console.until(b"  -\n", OUTPUT).decode() == digest(sent + content)
+    run(guest, f"dd if=/dev/urandom of=/sent bs={EXCHANGED} count=1")
+    begin_raw(guest, f"(cat /sent & head -c {EXCHANGED} > /received; wait); cat /sent /received | md5sum")
+    guest.paste(content, EVEN)
+    sent = guest.take(EXCHANGED, OUTPUT)
+    assert guest.until(b"  -\n", OUTPUT).decode() == digest(sent + content)
 
 
-def check_stall(console):
+def check_stall(guest):
     """Without the character timeout a paste waits until one more byte comes, and has lost nothing."""
-    run(console, "stty cstopb")  # the monitors of this test make none then
+    run(guest, "stty cstopb")  # the monitors of this test make none then
     content = printable(PASTED, "stall")
-    begin_raw(console, f"head -c {PASTED} | md5sum")
-    console.paste(content, EVEN)
+    begin_raw(guest, f"head -c {PASTED} | md5sum")
+    guest.paste(content, EVEN)
     with pytest.raises(Stalled):
-        console.until(b"  -\n", STALL)
-    console.send(b"\n")
-    assert console.until(b"  -\n", PASTE).decode() == digest(content)
+        guest.until(b"  -\n", STALL)
+    guest.send(b"\n")
+    assert guest.until(b"  -\n", PASTE).decode() == digest(content)
 
 
-def check_clock(console):
+def check_clock(guest):
     """The guest reads the time, sets it, and sees an alarm."""
-    assert abs(int(run(console, f"devmem {RTCDR}"), 16) - time.time()) < 60
-    run(console, f"devmem {RTCLR} 32 {SET_TO}")
-    assert 0 <= int(run(console, f"devmem {RTCDR}"), 16) - SET_TO < COMMAND
-    run(console, f"devmem {RTCIMSC} 32 1; devmem {RTCMR} 32 $(($(devmem {RTCDR}) + 2))")
-    assert int(run(console, f"devmem {RTCMIS}"), 16) == 0
-    assert run(console, f"while [ $(devmem {RTCMIS}) = 0x00000000 ]; do usleep 100000; done; devmem {RTCMIS}") \
+    assert abs(int(run(guest, f"devmem {RTCDR}"), 16) - time.time()) < 60
+    run(guest, f"devmem {RTCLR} 32 {SET_TO}")
+    assert 0 <= int(run(guest, f"devmem {RTCDR}"), 16) - SET_TO < COMMAND
+    alarm = f"devmem {RTCIMSC} 32 1; devmem {RTCMR} 32 $(($(devmem {RTCDR}) + 4)); devmem {RTCMIS}"
+    assert run(guest, alarm) == "0x00000000\r\n"
+    assert run(guest, f"while [ $(devmem {RTCMIS}) = 0x00000000 ]; do usleep 100000; done; devmem {RTCMIS}") \
         == "0x00000001\r\n"
 
 
-def end(console):
+def end(guest):
     """The guest resets the machine, which ends the monitor."""
-    console.send("reboot -f\n")
-    console.until(b": the guest reset the machine\n", COMMAND)
-    console.until(b"status 0\n", COMMAND)
+    guest.send("reboot -f\n")
+    guest.until(b": the guest reset the machine\n", COMMAND)
+    guest.until(b"status 0\n", COMMAND)
 
 
-def check_guest(console):
-    console.until(b"/ # ", BOOT)
-    assert run(console, "uname -s") == "Linux\r\n"
+def check_guest(guest):
+    guest.until(b"/ # ", BOOT)
+    assert run(guest, "uname -s") == "Linux\r\n"
     for sizes in (EVEN, ODD, EVEN):
-        check_paste(console, sizes)
-    check_output(console)
-    check_both(console)
-    check_clock(console)
-    check_stall(console)
-    end(console)
+        check_paste(guest, sizes)
+    check_output(guest)
+    check_both(guest)
+    check_clock(guest)
+    check_stall(guest)
+    end(guest)
 
 
 def test_linux_passed_with_these_sources(tmp_path, pytestconfig):
@@ -126,8 +126,7 @@ def test_linux_passed_with_these_sources(tmp_path, pytestconfig):
     if before != record or pytestconfig.getoption("--boot"):
         with host(tmp_path) as machine:
             for name in ("c", "rust"):
-                begun = time.monotonic()
-                check_guest(machine.start(name))
-                print(f"Linux over {name}: {time.monotonic() - begun:.0f} seconds")
+                with console(machine, name) as guest:
+                    check_guest(guest)
         RECORD.write_text(record, encoding="ascii")
     assert before == record, "Linux passed with the changed sources: commit tests/kvm/linux.record"
