@@ -235,7 +235,8 @@ class Rtc(Saved):
 def _serial_state(raw: bytes) -> SerialState:
     """The state that a struct has. A program looks at most states many times."""
     port = SerialStruct.from_buffer_copy(raw)
-    held = bytes(port.bytes[port.head:]) + bytes(port.bytes[:port.head])
+    place = port.head % FIFO_SIZE
+    held = bytes(port.bytes[place:]) + bytes(port.bytes[:place])
     return SerialState(**{name: getattr(port, name) for name in SerialState.kinds()}, in_buffer=held[:port.len])
 
 

@@ -142,6 +142,15 @@ class States(unittest.TestCase):
         self.assertEqual(pickle.dumps(Serial.from_state(SerialState(in_buffer=b"ab", line_status=0x61))),
                          pickle.dumps(port))
 
+    def test_a_state_has_the_held_bytes_wherever_the_ring_begins(self):
+        """Its place counts on past the last one."""
+        port = Serial()
+        for number in range(300):
+            port.enqueue(bytes([number % 251, 1]))
+            port.read("RBR")
+            self.assertEqual(Serial.from_bytes(port.to_bytes()).state, port.state)
+            port.read("RBR")
+
     def test_a_copied_board_goes_on_as_its_original(self):
         """Every part of it, among them what its line has still to refuse."""
         lines = [b"sw 01 03", b"sq 6162", b"sw 00 41", b"sr 02", b"si", b"sw 00 42", b"st", b"se", b"so", b"sb", b"cb"]
