@@ -1,0 +1,39 @@
+# SPDX-License-Identifier: Apache-2.0 OR BSD-3-Clause
+"""Each program to copy ends at once over a library of another binary interface."""
+import platform
+import shutil
+
+import pytest
+from harness import ROOT, check, run
+from libraries import PREBUILT, STATIC
+
+pytestmark = pytest.mark.needs("cc", "make")
+
+# The linker has this answer for the library.
+OTHER = """#include <superio.h>
+uint32_t __wrap_superio_abi(void);
+uint32_t __wrap_superio_abi(void) { return SUPERIO_ABI + 1; }
+"""
+
+
+@pytest.fixture
+def compiler(tmp_path):
+    """A compiler whose programs find another number in the library."""
+    (tmp_path / "other.c").write_text(OTHER, encoding="ascii")
+    return ["cc", "-I", ROOT / "bindings/c", tmp_path / "other.c", "-Wl,--wrap=superio_abi"]
+
+
+def test_monitor_to_copy(compiler, tmp_path):
+    library = PREBUILT / f"{platform.machine()}-linux" / STATIC
+    check([*compiler, ROOT / "examples/c/monitor.c", library, "-o", tmp_path / "monitor"], "")
+    ran = run([tmp_path / "monitor"])
+    assert (ran.returncode, ran.stdout) == (1, "the comparison of header and library failed\n")
+
+
+@pytest.mark.where("Linux on x86-64")
+def test_monitor_for_kvm(compiler, tmp_path):
+    folder = tmp_path / "kvm"
+    shutil.copytree(ROOT / "examples" / "kvm", folder, ignore=shutil.ignore_patterns("monitor"))
+    check(["make", "-s", "-C", folder, f"ROOT={ROOT}", f"CC={' '.join(map(str, compiler))}"], "")
+    ran = run([folder / "monitor", "image"])
+    assert (ran.returncode, ran.stdout) == (1, "monitor: the library has another interface than the header\n")
