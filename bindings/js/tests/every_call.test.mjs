@@ -203,6 +203,15 @@ test("saved bytes that are cut, longer or changed in a bit are refused, or are a
   }
 });
 
+test("the longest bytes whose header has their length hold too many, and longer ones have another length", () => {
+  const header = [0x53, 0x49, 0x4f, 0x53, 1, 1, 0xff, 0xff];
+  for (const [count, reason] of [[0xfffe, "wrong length"], [0xffff, "too many bytes"], [0x10000, "wrong length"],
+    [0x1ffff, "wrong length"]]) {
+    const bytes = Uint8Array.from([...header, ...new Uint8Array(count)]);
+    assert.throws(() => Serial.fromBytes(bytes), { name: "SavedStateError", reason });
+  }
+});
+
 test("an enqueue takes the first 64 bytes of any number", () => {
   for (const count of [63, 64, 65, 2 ** 16, 2 ** 24 + 1, 2 ** 32]) {
     const port = new Serial();
