@@ -158,6 +158,63 @@ test("calls that only look leave a device as it is", () => {
   }
 });
 
+/** How many conditions are set: RDA, 0x04, and THRE, 0x02. */
+const conditions = (bits) => ((bits >> 2) & 1) + ((bits >> 1) & 1);
+/** Those that IER enables, in the places of IIR. */
+const enabled = ({ interruptEnable }) => ((interruptEnable & 1) << 2) | (interruptEnable & 2);
+
+test("the effects of a port's calls are what its states before and after show", () => {
+  const below = randomNumbers(7);
+  for (let round = 0; round < ROUNDS; round += 1) {
+    const before = anyPort(below);
+    const port = Serial.fromState(before);
+    const pending = before.interruptIdentification;
+    assert.equal(port.fifoCapacity(), 64 - before.inBuffer.length);
+    assert.equal(port.interruptsDue(), conditions(pending & enabled(before)));
+    assert.equal(port.interruptLine(), (pending & enabled(before)) !== 0);
+    const [isData, isOutside] = [(before.lineControl & 0x80) === 0, (before.modemControl & 0x10) === 0];
+    const raised = () => conditions(port.state.interruptIdentification & ~pending);
+    const [name, parameters] = drawn(Serial, below);
+    const [first] = parameters;
+    const given = made(port, [name, parameters]);
+    const after = port.state;
+    if (name === "read") {
+      const bufferRead = first === 0 && isData;
+      const inBufferEmpty = bufferRead && after.inBuffer.length === 0;
+      assert.deepEqual(given, { byte: given.byte, bufferRead, inBufferEmpty });
+      if (first === 7) assert.equal(given.byte, before.scratch);
+      if (bufferRead) assert.equal(given.byte, before.inBuffer[0] ?? 0);
+    } else if (name === "write") {
+      assert.deepEqual(given, { sends: first === 0 && isData && isOutside, interrupts: raised() });
+    } else if (name === "enqueue") {
+      const fifoFull = isOutside && first.length > 0 && before.inBuffer.length === 64;
+      const accepted = isOutside ? Math.min(first.length, 64 - before.inBuffer.length) : 0;
+      assert.deepEqual(given, { accepted, fifoFull, interrupts: raised() });
+      assert.deepEqual(after.inBuffer, Uint8Array.from([...before.inBuffer, ...first.slice(0, accepted)]));
+    } else if (name === "characterTimeout") {
+      assert.equal(given, raised());
+    }
+  }
+});
+
+test("a clock's registers read as its state has them", () => {
+  const below = randomNumbers(8);
+  for (let round = 0; round < ROUNDS / 10; round += 1) {
+    const clock = Rtc.fromState(anyClock(below));
+    const now = anyMoment(below);
+    for (const [offset, name] of [[0x04, "mr"], [0x08, "lr"], [0x10, "imsc"], [0x14, "ris"]]) {
+      assert.deepEqual(clock.read(offset, now), { value: clock.state[name], invalidRead: false });
+    }
+    const { ris, imsc } = clock.state;
+    assert.equal(clock.read(0x18, now).value, (ris & imsc) >>> 0);
+    assert.equal(clock.interruptLine(), (ris & imsc & 1) !== 0);
+    assert.deepEqual(clock.read(0x21, now), { value: 0, invalidRead: true });
+    assert.deepEqual(clock.write(0x14, 1, now), { invalidWrite: true });
+    const value = anyWord(below);
+    assert.deepEqual([clock.write(0x08, value, now), clock.read(0, now).value], [{ invalidWrite: false }, value]);
+  }
+});
+
 test("any state goes there and back", () => {
   const below = randomNumbers(5);
   for (const [kind, { state }] of STATES) {
