@@ -1,470 +1,652 @@
-#!/usr/bin/env python3
 # SPDX-License-Identifier: Apache-2.0 OR BSD-3-Clause
-"""Translates definitions of crates/*/specs/*.antt, and all that they rest on, to Coq.
+"""Translates definitions of crates/*/specs, and all that they rest on, to Coq.
 
-antt2coq ROOT NAME...   where a NAME is Module.name, such as vm_superio.Serial.Laws.PortRun.PortRunLaw
+Each definition becomes one of the same shape. Nothing is simplified or left out: a form that is not known here is
+refused. A field `f` of a record `R` becomes the projection `R_f`, and a variant `V` of a Rust enum `E` becomes `E_V`.
+The types of Rust are those of rust2coq.py, and the words of the language's library those of Prelude.v. A variable
+that would hide a name of Coq's gets a `'0` after it, which no name of a definition has.
+"""
+import re
+from pathlib import Path
 
-Each definition becomes one Coq definition of the same shape. Nothing is simplified or skipped: a form that is not
-known here is an error. A record's field `f` of `R` becomes the projection `R_f`; a variant `V` of a Rust enum `E`
-becomes `E_V`; the words of the standard prelude are those of Prelude.v."""
-import re, sys, os
+from antt_tree import Refused, Terms, blocks, tokens
 
-class Refused(Exception):
-    pass
+__all__ = ["Refused", "translate"]
 
-KEYWORDS = {'end', 'at', 'left', 'right', 'as', 'in', 'fix', 'match', 'return', 'where', 'using', 'with', 'forall',
-            'exists', 'then', 'else', 'if', 'let', 'read', 'Set', 'Prop'} - {'left', 'right', 'read'}
-# operator: precedence, associativity, Coq
-OPERATORS = {'→': (0, 'r', None), '↔': (1, 'r', 'iff_type'), '⊎': (2, 'r', 'sum'), '×': (3, 'r', 'prod'),
-             '≡': (4, 'n', '='), '≤': (4, 'n', '<='), '<': (4, 'n', '<'),
-             '||': (5, 'r', '||'), '&&': (6, 'r', '&&'), '==': (7, 'n', '=?'),
-             '∷': (8, 'r', '::'), '++': (8, 'r', '++'), '+': (9, 'l', '+'), '-': (9, 'l', '-'),
-             '+ℤ': (9, 'l', 'int_add'), '-ℤ': (9, 'l', 'int_sub'),
-             '*': (10, 'l', '*'), '/': (10, 'l', '/'), '%': (10, 'l', 'mod'), '^': (11, 'r', '^')}
-STD = dict(Bool='bool', List='list', Option='option', true='true', false='false', Some='Some',
-           pos='pos', negsuc='negsuc', zero='0', length='length', take='take', drop='drop',
-           slice_index='slice_index', min='N.min', nat_le='N.leb', nat_lt='N.ltb', bit_and='N.land', bit_or='N.lor',
-           IsTrue='IsTrue', IsFalse='IsFalse', option_or='option_or', unwrap_or='unwrap_or',
-           option_map_or='option_map_or', sum_by='sum_by', count_by='count_by', beq='Bool.eqb', list_all='forallb',
-           list_any='list_any', w16='w16', w32='w32', w64='w64', to_le_bytes='to_le_bytes',
-           from_le_bytes='from_le_bytes', cast_unsigned='cast_unsigned', cast_signed='cast_signed', bytes_eq='bytes_eq',
-           is_some='is_some', bit_at='bit_at', FitsSigned='FitsSigned', filter='filter', map='map')
-STD['ℕ'] = 'N'; STD['ℤ'] = 'int'; STD['not'] = 'negb'; STD['None'] = 'None'; STD['⊤'] = 'unit'; STD['⊥'] = 'Empty_set'; STD['[]'] = '[]'
-RESULT_OF = {'take': 1, 'drop': 1, 'filter': 1, 'option_or': 0}      # the type is that of this argument
+# The words of the library, by the module that they come from, with their names in Prelude.v.
+LIBRARY = {
+    "Prelude": {"ℕ": "N", "ℤ": "int", "⊤": "unit", "Bool": "bool", "true": "true", "false": "false", "not": "negb",
+                "List": "list", "[]": "[]", "Option": "option", "Some": "Some", "None": "None", "pos": "pos",
+                "negsuc": "negsuc", "min": "N.min", "nat_le": "N.leb", "nat_lt": "N.ltb", "bit_and": "N.land",
+                "bit_or": "N.lor", **{word: word for word in """length take drop slice_index unwrap_or is_some sum_by
+                count_by IsTrue IsFalse FitsSigned""".split()}},
+    "Bool": {"beq": "Bool.eqb", "IsFalse": "IsFalse"},
+    "Int": {word: word for word in "w16 w32 w64 to_le_bytes from_le_bytes cast_unsigned cast_signed bit_at".split()},
+    "List": {"list_all": "forallb", "list_any": "list_any"},
+    "Option": {"option_or": "option_or", "option_map_or": "option_map_or"},
+    "Str": {"bytes_eq": "bytes_eq"},
+}
+OPERATOR = {"↔": "iff_type {} {}", "⊎": "sum {} {}", "×": "prod {} {}", "≡": "{} = {}", "≤": "{} <= {}", "<": "{} < {}",
+            "||": "{} || {}", "&&": "{} && {}", "==": "{} =? {}", "∷": "{} :: {}", "++": "{} ++ {}", "+": "{} + {}",
+            "-": "{} - {}", "+ℤ": "int_add {} {}", "-ℤ": "int_sub {} {}", "*": "{} * {}", "/": "{} / {}",
+            "%": "{} mod {}", "^": "{} ^ {}"}
+SAME_TYPE = {"take": 1, "drop": 1, "option_or": 0}  # the result has the type of this argument
+CONSTRUCTORS = {"true", "false", "Some", "None", "pos", "negsuc", "[]"}
+KEYWORDS = set("""as at cofix else end exists exists2 fix for forall fun if IF in let match mod return Set Prop SProp Type
+    then using where with read""".split()) - {"read"}
+OF_COQ = {name for words in LIBRARY.values() for name in words.values()} | {"int_add", "int_sub", "iff_type", "sum", "prod"}
 
-TOKEN = re.compile(r'--.*|[(){}\[\];,λ]|"[^"]*"|[^\s(){}\[\];,λ"]+')
-
-def tokens(text):
-    out = []
-    for t in TOKEN.findall(text):
-        if t.startswith('--'): continue
-        if t == ']' and out and out[-1] == '[': out[-1] = '[]'; continue
-        if t.endswith('.') and len(t) > 1 and not t.startswith('.'): out += [t[:-1], '.']
-        else: out.append(t)
-    return out
-
-class Parser:
-    def __init__(self, toks): self.t, self.i = toks, 0
-    def peek(self, k=0): return self.t[self.i + k] if self.i + k < len(self.t) else None
-    def next(self): self.i += 1; return self.t[self.i - 1]
-    def eat(self, x):
-        if self.peek() != x: raise SyntaxError(f'{x} expected at {self.t[self.i:self.i+8]}')
-        self.i += 1
-    def binder(self):
-        """`(a b : T)` or `{a b : T}` ahead, else None"""
-        if self.peek() not in ('(', '{'): return None
-        j = self.i + 1
-        while j < len(self.t) and re.match(r"^[\w'ℕℤ]+$", self.t[j]): j += 1
-        if j == self.i + 1 or j >= len(self.t) or self.t[j] != ':': return None
-        close = {'(': ')', '{': '}'}[self.t[self.i]]
-        names = self.t[self.i + 1:j]; self.i = j + 1
-        ty = self.expr(); self.eat(close)
-        return names, ty, close == '}'
-    def binder_ahead(self):
-        at = self.i
-        try: return self.binder() is not None
-        finally: self.i = at
-    def expr(self, prec=0):
-        b = self.binder()
-        if b:
-            if self.peek() in ('(', '{') and self.binder_ahead(): return ('pi', *b, self.expr(prec))
-            op = self.next()
-            if op not in ('→', '×') or prec > OPERATORS[op][0]: raise SyntaxError(f'binder before {op}')
-            body = self.expr(OPERATORS[op][0])
-            return ('pi' if op == '→' else 'sigma', *b, body)
-        if self.peek() == 'λ':
-            self.next(); params = []
-            while self.peek() != '.':
-                b = self.binder()
-                params.append(b if b else ([self.next()], None, False))
-            self.eat('.'); return ('lam', params, self.expr())
-        if self.peek() == 'let':
-            self.next(); x = self.next(); ty = None
-            if self.peek() == ':': self.next(); ty = self.expr()
-            self.eat('='); e = self.expr(); self.eat('in'); return ('let', x, ty, e, self.expr())
-        if self.peek() == 'if':
-            self.next(); c = self.expr(); self.eat('then'); a = self.expr(); self.eat('else')
-            return ('if', c, a, self.expr())
-        a = self.application()
-        while self.peek() in OPERATORS:
-            p, assoc, _ = OPERATORS[self.peek()]
-            if p < prec: break
-            op = self.next(); b = self.expr(p if assoc == 'r' else p + 1)
-            if assoc == 'n' and self.peek() in OPERATORS and OPERATORS[self.peek()][0] == p: raise SyntaxError('chain')
-            a = ('pi', ['_'], a, False, b) if op == '→' else ('op', op, a, b)
-        return a
-    def application(self):
-        f = self.atom(); args = []
-        while self.peek() is not None and self.peek() not in OPERATORS and self.peek() not in (
-                ')', ']', '}', ',', ';', '=', 'then', 'else', 'in', ':', '.', '|', '[', '↦'):
-            args.append(self.atom())
-        return ('app', f, args) if args else f
-    def atom(self):
-        t = self.next()
-        if t == '(':
-            e = self.expr()
-            if self.peek() == ',':
-                parts = [e]
-                while self.peek() == ',': self.next(); parts.append(self.expr())
-                e = ('tuple', parts)
-            self.eat(')')
-        elif t == '{': e = ('implicit', self.expr()); self.eat('}')
-        elif t == 'record':
-            base = None if self.peek() == '{' else self.atom()
-            self.eat('{'); fields = []
-            while self.peek() != '}':
-                f = self.next(); self.eat('='); fields.append((f, self.expr()))
-                if self.peek() == ';': self.next()
-            self.eat('}'); e = ('record', base, fields)
-        elif re.match(r'^(0x[0-9A-F]+|[0-9]+)$', t): e = ('num', int(t, 0))
-        elif re.match(r"^[\w'ℕℤ⊤⊥]|^\[\]$", t):
-            head, *rest = t.split('.') if t != '[]' else [t]
-            e = ('id', head)
-            for r in rest: e = ('proj', e, r)
-        else: raise SyntaxError(f'atom {t} at {self.t[self.i-4:self.i+6]}')
-        while self.peek() and self.peek().startswith('.') and len(self.peek()) > 1:
-            for r in self.next()[1:].split('.'): e = ('proj', e, r)
-        return e
 
 class Entity:
-    """a global: kind (def, data, record, con, field type), its module and name, and what it is"""
-    def __init__(self, kind, mod, name, **kw): self.kind, self.mod, self.name = kind, mod, name; self.__dict__.update(kw)
+    """What a name stands for: a `word` of the library, a `def`, a `data`, a `record` or a `variant`."""
+    def __init__(self, kind, name, module=None, **fields):
+        self.kind, self.name, self.module, self.group, self.comment = kind, name, module, None, []
+        self.__dict__.update(fields)
+
+
+class Module:
+    """The names of a file of definitions, and where it has others from."""
+    def __init__(self, path):
+        self.path, self.names, self.imports, self.broken = path, {}, {}, {}
+
+
+def parenthesized(text):
+    """In parentheses, unless it is one word or has them already."""
+    if re.fullmatch(r"[\w.'\[\]]+", text):
+        return text
+    if text[0] in "([{" and closing(text) == len(text) - 1:
+        return text
+    return f"({text})"
+
+
+def closing(text):
+    depth = 0
+    for at, sign in enumerate(text):
+        depth += {"(": 1, "[": 1, "{": 1, ")": -1, "]": -1, "}": -1}.get(sign, 0)
+        if depth == 0:
+            return at
+    return -1
+
+
+def filled(text, indent, width=118):
+    """The text in lines, broken at spaces outside parentheses, and then inside."""
+    if len(text) + indent <= width and "\n" not in text:
+        return text
+    parts, depth, part = [], 0, ""
+    for sign in text:
+        depth += {"(": 1, "[": 1, "{": 1, ")": -1, "]": -1, "}": -1}.get(sign, 0)
+        if sign == " " and depth == 0:
+            parts.append(part)
+            part = ""
+        else:
+            part += sign
+    parts.append(part)
+    lines, line = [], ""
+    for part in parts:
+        if line and len(line) + 1 + len(part) + indent > width:
+            lines.append(line)
+            line = ""
+        if len(part) + indent > width and part[0] in "({" and closing(part) == len(part) - 1:
+            part = part[0] + filled(part[1:-1], indent + 3, width) + part[-1]
+        line = f"{line} {part}" if line else part
+    lines.append(line)
+    return ("\n" + " " * indent).join(lines)
+
 
 class Project:
+    """The definitions of some crates, as Coq."""
     def __init__(self, root, crate):
-        self.crate = crate
-        self.root, self.modules, self.out, self.coq, self.files = root, {}, [], {}, set()
-        self.rust, self.alias, self.globals = {}, {}, set()
+        self.root, self.crate, self.modules, self.types = Path(root), crate, {}, {}
+        self.coq, self.out, self.globals, self.fields = {}, [], set(), {}
 
-    # ---- reading files
+    # ---- reading
+
     def module(self, path):
-        if path in self.modules: return self.modules[path]
-        crate, *rest = path.split('.')
-        scope = self.modules[path] = dict(path=path, names={}, uses={}, broken={})
-        if 'declared' in rest: return scope
-        file = os.path.join(self.root, crate, 'specs', *rest) + '.antt'
-        self.files.add(file)
-        lines = open(file, encoding='utf-8').read().split('\n')
-        self.items(scope, lines, [])
-        return scope
-    def items(self, scope, lines, params):
-        blocks = []
-        for l in lines:
-            if not l.strip() or l.strip().startswith('--'): continue
-            if l[0] not in ' }': blocks.append([l])
-            else: blocks[-1].append(l)
-        for b in blocks:
-            try: self.block(scope, b, params)
-            except (SyntaxError, IndexError, KeyError, AttributeError) as error:      # refused if it is needed
-                words = [w for w in b[0].split() if w not in ('pub', 'abbrev', 'unfoldable', 'data', 'record')]
-                if words[0] == 'use': raise
-                scope['broken'][words[0]] = f'{scope["path"]}: {b[0]}: {error}'
-    def block(self, scope, b, params, group=None):
-        text = '\n'.join(b); first = b[0]; names = scope['names']
-        words = [w for w in first.split() if w not in ('pub', 'abbrev', 'unfoldable')]
-        if words[0] == 'use':
-            path = text.split('use ', 1)[1]
-            m = re.match(r'([\w.]+?)(?:\.\{(.*)\})?(?: as (\w+))?$', path.strip(), re.S)
-            mod = m.group(1)
-            if mod.startswith('Rattle.'): mod = mod[7:]
-            mod = mod.replace('.specs.', '.', 1).replace('.proofs.', '.proofs.', 1)
-            for n in (m.group(2) or '').split(','):
-                n = n.strip()
-                if n: old, _, new = n.partition(' as '); scope['uses'][(new or old).strip()] = (mod, old.strip())
-        elif words[0] == 'mod': pass
-        elif words[0] == 'module':
-            ps = []; p = Parser(tokens(first.split('module _', 1)[1].split(' where')[0]))
-            while p.peek(): ps.append(p.binder())
-            self.items(scope, [l[2:] for l in b[1:]], params + ps)
-        elif words[0] == 'mutual':
-            inner = [l[2:] for l in b[1:]]; before = set(names)
-            self.items(scope, inner, params)
-            group = [names[n] for n in names if n not in before]
-            for e in group: e.group = group
-        elif words[0] in ('data', 'record'):
-            head, at = first, 1
-            while ' where' not in head: head += ' ' + b[at]; at += 1
-            p = Parser(tokens(head.split(words[0], 1)[1].rsplit(' where', 1)[0])); name = p.next(); ps = []
-            while p.peek() in ('(', '{'): ps.append(p.binder())
-            members = []
-            for l in b[at:]:
-                if l.startswith('  ') and l[2] != ' ': members.append(l)
-                else: members[-1] += ' ' + l
-            members = [(x[0], Parser(x[2:]).expr()) for x in (tokens(m.replace('pub ', '', 1)) for m in members)]
-            e = names[name] = Entity(words[0], scope, name, params=params + ps, members=members, group=None)
-            if words[0] == 'data':
-                for c, ty in members: names[c] = Entity('con', scope, c, type=ty, parent=e)
-        else:
-            sig = re.match(r"^(?:unfoldable )?(?:abbrev )?(?:pub )?([\w'-]+) :(?=\s)(.*)$", text, re.S)
-            if sig:
-                names[sig.group(1)] = Entity('def', scope, sig.group(1), params=params, group=None, clauses=[],
-                                             type=Parser(tokens(sig.group(2))).expr())
+        if path not in self.modules:
+            crate, *rest = path.split(".")
+            module = self.modules[path] = Module(path)
+            file = self.root.joinpath(crate, "specs", *rest).with_suffix(".antt")
+            self.read(module, blocks(file.read_text(encoding="utf-8").splitlines()))
+            self.globals |= set(module.names)
+            for source, _ in module.imports.values():
+                if source.split(".")[0] != "std" and ".declared." not in source:
+                    self.module(source)
+        return self.modules[path]
+
+    def read(self, module, found):
+        for comment, lines in found:
+            words = [word for word in lines[0].split() if word not in ("pub", "abbrev", "unfoldable")]
+            try:
+                self.block(module, comment, lines, words)
+            except Refused as refused:  # only what is asked for has to be known
+                if words[0] == "use":
+                    raise
+                name = words[1] if words[0] in ("data", "record") else words[0]
+                module.broken[name] = f"{module.path}: {name}: {refused}"
+
+    def block(self, module, comment, lines, words):
+        if words[0] == "use":
+            self.use(module, " ".join(lines))
+        elif words[0] == "mutual":
+            before = set(module.names)
+            self.read(module, blocks([line[2:] for line in lines[1:]]))
+            group = [entity for name, entity in module.names.items() if name not in before]
+            for entity in group:
+                entity.group = group
+            group[0].comment = comment
+        elif words[0] in ("data", "record"):
+            self.type(module, comment, lines, words[0])
+        elif words[0] != "mod":
+            self.definition(module, comment, lines)
+
+    def put(self, module, entity, comment=()):
+        if entity.name in module.names:
+            raise Refused(f"two {entity.name}")
+        entity.comment = list(comment)
+        module.names[entity.name] = entity
+        return entity
+
+    def use(self, module, text):
+        match = re.fullmatch(r"(?:unfoldable )?(?:pub )?use Rattle\.([\w.]+)\.\{(.*)\}", text)
+        if not match:
+            raise Refused(text)
+        source = match[1].replace(".specs.", ".", 1)
+        for name in filter(None, (name.strip() for name in match[2].split(","))):
+            old, _, new = name.partition(" as ")
+            if "◌" in name and (not source.startswith("std.") or new):
+                raise Refused(f"the operator {name} of {source}")
+            module.imports[new or old] = (source, old)
+
+    def type(self, module, comment, lines, kind):
+        """`data` or `record`: its parameters, and its variants or fields, which begin at the second column"""
+        at = next(at for at, line in enumerate(lines) if line.endswith(" where"))
+        head = " ".join(lines[:at + 1]).partition(f"{kind} ")[2].rpartition(" where")[0]
+        terms = Terms(tokens(head))
+        name, parameters = terms.name(), terms.binders()
+        terms.eat(":")
+        terms.eat("Type")
+        members = []
+        for line in lines[at + 1:]:
+            if line.startswith("   "):
+                members[-1] += " " + line
             else:
-                toks = tokens(text); e = names[toks[0]]
-                p = Parser(toks[1:]); pats = []
-                while p.peek() != '=': pats.append(p.atom())
-                p.eat('='); e.clauses.append((pats, p.expr()))
-                if p.peek(): raise SyntaxError(f'{toks[0]}: left over {p.t[p.i:]}')
+                members.append(line)
+        found = []
+        for member in members:
+            terms = Terms(tokens(member.replace("pub ", "", 1)))
+            field = terms.name()
+            terms.eat(":")
+            found.append((field, terms.all()))
+        entity = self.put(module, Entity(kind, name, module, parameters=parameters, members=found), comment)
+        if kind == "data":
+            for variant, type_ in found:
+                self.put(module, Entity("variant", variant, module, type=type_, parent=entity))
+
+    def definition(self, module, comment, lines):
+        """A signature, or a clause of the definition that has it"""
+        text = "\n".join(lines)
+        signature = re.match(r"(?:unfoldable )?(?:abbrev )?(?:pub )?([\w']+) :(?=\s)", text)
+        if signature:
+            type_ = Terms(tokens(text[signature.end():])).all()
+            self.put(module, Entity("def", signature[1], module, clauses=[], type=type_), comment)
+            return
+        terms = Terms(tokens(text))
+        name = terms.name()
+        if name not in module.names or module.names[name].kind != "def":
+            raise Refused(f"a clause of {name}")
+        patterns = []
+        while not terms.has("="):
+            patterns.append(terms.atom())
+        module.names[name].clauses.append((patterns, terms.all()))
 
     # ---- names
-    def lookup(self, scope, name):
-        if name in scope.get('broken', ()): raise SyntaxError('cannot read ' + scope['broken'][name])
-        if name in scope['names']: return scope['names'][name]
-        if name in scope['uses']:
-            mod, old = scope['uses'][name]
-            if mod.split('.')[0] in ('std', 'core', 'mathlib', 'lib'): return self.std(old)
-            if '.declared.' in mod: return self.declared(mod, old)
-            return self.lookup(self.module(mod), old)
-        if name in ('Type', '⊥'): return self.std(name)
-        raise KeyError(f'{name} is not in scope in {scope["path"]}')
-    def std(self, name):
-        if name != 'Type' and name not in STD: raise KeyError(f'Prelude.v has no {name}')
-        return Entity('std', None, name)
-    def declared(self, mod, name):
-        crate, rest = mod.split('.declared.')
-        parts = rest.split('.'); variant = 'TheVariants' in parts
-        parts = [x for x in parts if x != 'TheVariants']
-        key = parts[-1]
-        if key not in self.rust:
-            e = self.rust[key] = rust_type(self.crate, key)
-            self.coq[e] = key
-            for v, c in getattr(e, 'cons', {}).items(): self.coq[c] = key + '_' + v
-        return self.rust[key].cons[name] if variant else self.rust[key]
 
-    # ---- types
-    def resolve(self, scope, ty, env=()):
-        k = ty[0]
-        if k == 'id':
-            try: return ('local', ty[1]) if ty[1] in env else ('g', self.lookup(scope, ty[1]))
-            except KeyError: return ('local', ty[1])                  # a type parameter; Coq infers it
-        if k == 'app': return ('app', self.resolve(scope, ty[1], env), [self.resolve(scope, a, env) for a in ty[2]])
-        if k == 'op' and ty[1] == '×': return ('pair', self.resolve(scope, ty[2], env), self.resolve(scope, ty[3], env))
-        return ('other',)
-    def whnf(self, ty):
-        while ty and ty[0] == 'g' and ty[1].kind == 'def' and ty[1].clauses and not ty[1].clauses[0][0]:
-            ty = self.resolve(ty[1].mod, ty[1].clauses[0][1])
-        return ty
-    def telescope(self, e):
-        """the parameters and the result of a definition or constructor"""
-        ps, ty = [], e.type
-        while ty[0] == 'pi': ps += [(n, ty[2], ty[3]) for n in ty[1]]; ty = ty[4]
-        return ps, ty
-    def record_of(self, ty, what):
-        ty = self.whnf(ty)
-        if ty and ty[0] == 'app': ty = ty[1]
-        if ty and ty[0] == 'g' and ty[1].kind == 'record': return ty[1]
-        raise TypeError(f'the record of {what} is not known: {ty}')
+    def lookup(self, module, name):
+        if name in module.broken:
+            raise Refused(module.broken[name])
+        if name in module.names:
+            return module.names[name]
+        if name in module.imports:
+            source, old = module.imports[name]
+            if source.startswith("std."):
+                return self.word(source.rpartition(".")[2], old)
+            if ".declared." in source:
+                return self.declared(source, old)
+            return self.lookup(self.module(source), old)
+        if name == "[]":
+            return self.word("Prelude", "[]")
+        return None
 
-    # ---- Coq
-    def name(self, e):
-        if e.kind == 'std': return 'Type' if e.name == 'Type' else STD[e.name]
-        if e not in self.coq:
-            alias, self.alias = self.alias, {}
-            self.emit(e.parent if e.kind == 'con' else e)
-            self.alias = alias
-            if e not in self.coq: raise KeyError(f'{e.name} is used before it is defined')
-        return self.coq[e]
-    def take_name(self, e, plain):
-        taken = set(self.coq.values()) | set(STD.values())
-        if plain in taken or plain in KEYWORDS:
-            plain = e.mod['path'].split('.')[-1] + '_' + plain if e.mod else plain + '_'
-        if plain in taken: raise KeyError(f'two {plain}')
-        self.coq[e] = plain
-    def var(self, x):
-        if x in self.alias: return self.alias[x]
-        return x + '_' if x in KEYWORDS or x in STD.values() or x in self.globals else x
-    def term(self, scope, e, env, want=None):
-        """the Coq term, and its type if it is known"""
-        T = lambda x, w=None, v=None: self.term(scope, x, env if v is None else v, w)[0]
-        k = e[0]
-        if k == 'num': return str(e[1]), None
-        if k == 'id':
-            if e[1] in env: return self.var(e[1]), env[e[1]]
-            g = self.lookup(scope, e[1]); ty = None
-            if g.kind == 'def':
-                ps, r = self.telescope(g)
-                if not ps: ty = self.resolve(g.mod, r)
-            return self.name(g), ty
-        if k == 'app':
-            if e[1] == ('id', 'Type'): return 'Type', None
-            if e[1] == ('id', 'IsTrue') or e[1][0] != 'id' or e[1][1] in env:
-                return '(' + ' '.join([T(e[1])] + [T(a) for a in e[2]]) + ')', None
-            g = self.lookup(scope, e[1][1]); ty, wants = None, [None] * len(e[2])
-            if g.kind in ('def', 'con'):
-                ps, r = self.telescope(g); ps = [p for p in ps if not p[2]]
-                wants = [self.resolve(g.mod, p[1]) for p in ps][:len(e[2])] + wants
-                if len(e[2]) == len(ps): ty = self.resolve(g.mod, r)
-            elif g.kind in ('data', 'record'):
-                wants = [self.resolve(g.mod, p[1]) for p in g.params for n in p[0] if not p[2]][:len(e[2])] + wants
-            args = [self.term(scope, a, env, w) for a, w in zip(e[2], wants)]
-            if g.kind == 'std' and g.name in RESULT_OF: ty = args[RESULT_OF[g.name]][1]
-            return '(' + ' '.join([self.name(g)] + [a for a, _ in args]) + ')', ty
-        if k == 'op':
-            (a, ta), (b, tb) = self.term(scope, e[2], env), self.term(scope, e[3], env)
-            op = OPERATORS[e[1]][2]
-            return f'({op} {a} {b})' if op[0].isalpha() and op != 'mod' else f'({a} {op} {b})', (ta or tb) if e[1] in ('++', '∷') else None
-        if k == 'if':
-            return f'(if {T(e[1])} then {T(e[2], want)} else {T(e[3], want)})', want
-        if k == 'let':
-            v, ty = self.term(scope, e[3], env, self.resolve(scope, e[2]) if e[2] else None)
-            ty = self.resolve(scope, e[2]) if e[2] else ty
-            return f'(let {self.var(e[1])} := {v} in {T(e[4], want, {**env, e[1]: ty})})', want
-        if k == 'lam':
-            v, bs = dict(env), ''
-            for ns, ty, _ in e[1]:
-                for n in ns:
-                    bs += f' ({self.var(n)} : {T(ty)})' if ty else f' {self.var(n)}'
-                    v[n] = self.resolve(scope, ty, env) if ty else None
-            return f'(fun{bs} => {T(e[2], None, v)})', None
-        if k in ('pi', 'sigma'):
-            v = {**env, **{n: self.resolve(scope, e[2], env) for n in e[1]}}
-            if k == 'pi' and e[1] == ['_']: return f'({T(e[2])} -> {T(e[4])})', None
-            names = [self.var(n) for n in e[1]]
-            if k == 'pi': return f'(forall {" ".join(names)} : {T(e[2])}, {T(e[4], None, v)})', None
-            inner = T(e[4], None, v)
-            for n in reversed(names): inner = f'{{{n} : {T(e[2])} & {inner}}}'
-            return inner, None
-        if k == 'tuple': return '(' + ', '.join(T(p) for p in e[1]) + ')', None
-        if k == 'proj':
-            if e[1][0] == 'id' and e[1][1] not in env:
-                g = self.lookup(scope, e[1][1])
-                if g.kind in ('data', 'record') and hasattr(g, 'cons'): return self.name(g.cons[e[2]]), None
-            v, ty = self.term(scope, e[1], env)
-            if e[2] in ('0', '1'):
-                ty = self.whnf(ty)
-                if ty[0] != 'pair': raise TypeError(f'.{e[2]} of {ty}')
-                return f'({["fst", "snd"][int(e[2])]} {v})', ty[1 + int(e[2])]
-            r = self.record_of(ty, v); fty = dict(r.members)[e[2]]
-            return f'({self.name(r)}_{e[2]} {v})', self.resolve(r.mod, fty, [n for p in r.params for n in p[0]])
-        if k == 'record':
-            if e[1]: b, ty = self.term(scope, e[1], env); r = self.record_of(ty, b)
-            else: r = self.record_of(want, e[2]); ty = want; b = None
-            n, given = self.name(r), dict(e[2])
-            if set(given) - {m for m, _ in r.members}: raise TypeError(f'{n} has no such field')
-            parts = [T(given[m], self.resolve(r.mod, t)) if m in given else f'({n}_{m} {b})' for m, t in r.members]
-            return f'(mk_{n} {" ".join(parts)})', ty
-        raise TypeError(k)
-    def pattern(self, scope, p, ty, env):
-        if p[0] == 'id' and p[1] == '_': return '_'
-        if p[0] == 'id' and self.is_var(scope, p[1]): env[p[1]] = ty; return self.var(p[1])
-        if p[0] == 'num': return str(p[1])
-        if p[0] == 'op' and p[1] == '∷':
-            item = None; t = self.whnf(ty)
-            if t and t[0] == 'app': item = t[2][0]
-            return f'({self.pattern(scope, p[2], item, env)} :: {self.pattern(scope, p[3], ty, env)})'
-        head, args = (p[1], p[2]) if p[0] == 'app' else (p, [])
-        if head[0] == 'proj': return self.term(scope, head, {})[0]
-        g = self.lookup(scope, head[1]); tys = [None] * len(args)
-        if g.kind == 'con' and g.type: tys = [self.resolve(g.mod, q[1]) for q in self.telescope(g)[0]]
-        if g.kind == 'std' and g.name == 'Some': t = self.whnf(ty); tys = t[2] if t and t[0] == 'app' else [None]
-        parts = [self.pattern(scope, a, t, env) for a, t in zip(args, tys)]
-        return '(' + ' '.join([self.name(g)] + parts) + ')' if parts else self.name(g)
-    def is_var(self, scope, n):
-        if n == '[]': return False
-        if n in ('zero', 'suc', 'tt', 'refl', 'Ok', 'Err'): raise SyntaxError(f'the pattern {n}')
-        try: g = self.lookup(scope, n)
-        except KeyError: return True
-        return g.kind != 'con' and not (g.kind == 'std' and n in ('true', 'false', 'Some', 'None', 'pos', 'negsuc'))
-    def params(self, scope, ps, env):
-        out = ''
-        for ns, ty, implicit in ps:
-            t = self.term(scope, ty, env)[0]
-            for n in ns: env[n] = self.resolve(scope, ty, env)
-            out += ' ' + '({'[implicit] + ' '.join(self.var(n) for n in ns) + f' : {t}' + ')}'[implicit]
-        return out
-    def emit(self, e):
-        group = e.group or [e]
-        if e.kind in ('data', 'record'):
-            self.take_name(e, e.name); n = self.coq[e]; env = {}
-            ps = self.params(e.mod, e.params, env)
-            if e.kind == 'record':
-                fields, fenv = [], dict(env)
-                for f, ty in e.members:
-                    fields.append(f'  {n}_{f} : {self.term(e.mod, ty, fenv)[0]}')
-                    fenv[f] = self.resolve(e.mod, ty, env); self.alias[f] = f'{n}_{f}'
-                self.out.append(f'Record {n}{ps} : Type := mk_{n} {{\n' + ';\n'.join(fields) + '\n}.')
+    def found(self, module, name):
+        entity = self.lookup(module, name)
+        if not entity:
+            raise Refused(f"{module.path}: {name} is not in scope")
+        return entity
+
+    def word(self, source, name):
+        if name not in LIBRARY.get(source, {}):
+            raise Refused(f"the word {name} of {source}")
+        return Entity("word", name, coq=LIBRARY[source][name])
+
+    def declared(self, source, name):
+        """A type of Rust, or a variant of one"""
+        path = [part for part in source.split(".") if part != "TheVariants"]
+        if path[-1] not in self.crate.types:
+            raise Refused(f"Rust has no type {path[-1]}")
+        entity = self.of_rust(path[-1])
+        return entity.variants[name] if "TheVariants" in source else entity
+
+    def of_rust(self, name):
+        if name in self.types:
+            return self.types[name]
+        item, module = self.crate.types[name], Module("rust")
+        module.imports = {word: ("std.specs.Prelude", word) for word in ("ℕ", "ℤ", "Bool", "List")}
+
+        def type_of(type_):
+            type_ = self.crate.known(type_)
+            if isinstance(type_, tuple):
+                return ("apply", ("name", "List"), [type_of(type_[1])])
+            if type_ in self.crate.types:
+                module.imports[type_] = (f"rust.declared.{type_}", type_)
+                return ("name", type_)
+            return ("name", {"i64": "ℤ", "bool": "Bool"}.get(type_, "ℕ"))
+        if item.kind == "struct":
+            entity = Entity("record", name, module, parameters=[], members=[(f, type_of(t)) for f, t in item.fields])
+        else:
+            entity = Entity("data", name, module, parameters=[])
+            entity.variants = {}
+            for variant, held in item.variants:
+                type_ = ("pi", ["_"], type_of(held), False, ("name", name)) if held else ("name", name)
+                entity.variants[variant] = Entity("variant", variant, module, type=type_, parent=entity)
+                self.coq[entity.variants[variant]] = f"{name}_{variant}"
+            module.names[name] = entity
+        self.coq[entity] = name
+        self.types[name] = entity
+        return entity
+
+    # ---- types: ("global", entity), ("apply", type, types), ("pair", one, other), ("local", name), or None
+
+    def resolved(self, module, term, env=()):
+        if term[0] == "name":
+            if term[1] in env:
+                return ("local", term[1])
+            entity = self.lookup(module, term[1])
+            return ("global", entity) if entity else ("local", term[1])
+        if term[0] == "apply":
+            return ("apply", self.resolved(module, term[1], env), [self.resolved(module, part, env) for part in term[2]])
+        if term[0] == "operator" and term[1] == "×":
+            return ("pair", self.resolved(module, term[2], env), self.resolved(module, term[3], env))
+        return None
+
+    def unfolded(self, type_):
+        """The type that a name such as `Trace` stands for."""
+        while type_ and type_[0] == "global" and type_[1].kind == "def" and type_[1].clauses and not type_[1].clauses[0][0]:
+            type_ = self.resolved(type_[1].module, type_[1].clauses[0][1])
+        return type_
+
+    @staticmethod
+    def telescope(entity):
+        """The parameters (names, type, implicit) of a definition or variant, and its result."""
+        parameters, type_ = [], entity.type
+        while type_[0] == "pi":
+            parameters += [(name, type_[2], type_[3]) for name in type_[1]]
+            type_ = type_[4]
+        return parameters, type_
+
+    def record_of(self, type_, what):
+        type_ = self.unfolded(type_)
+        if type_ and type_[0] == "apply":
+            type_ = type_[1]
+        if not type_ or type_[0] != "global" or type_[1].kind != "record":
+            raise Refused(f"the record of {what} is not known")
+        return type_[1]
+
+    # ---- Coq names
+
+    def name(self, entity):
+        if entity.kind == "word":
+            return entity.coq
+        if entity not in self.coq:
+            saved, self.fields = self.fields, {}
+            self.emit(entity.parent if entity.kind == "variant" else entity)
+            self.fields = saved
+        return self.coq[entity]
+
+    def take_name(self, entity):
+        """Its own name, or with that of its module before it if there is another of this name"""
+        name = entity.name
+        if name in KEYWORDS | OF_COQ or name in self.coq.values():
+            name = f"{entity.module.path.rpartition('.')[2]}_{name}"
+        if name in KEYWORDS | OF_COQ or name in self.coq.values():
+            raise Refused(f"two {name}")
+        self.coq[entity] = name
+
+    def variable(self, name):
+        if name in self.fields:
+            return self.fields[name]
+        return name + "'0" if name in KEYWORDS | OF_COQ | self.globals else name
+
+    # ---- terms: the Coq text, and the type if it is known
+
+    def text(self, module, term, env, want=None):
+        return self.term(module, term, env, want)[0]
+
+    def atom(self, module, term, env, want=None):
+        return parenthesized(self.term(module, term, env, want)[0])
+
+    def term(self, module, term, env, want=None):
+        return getattr(self, "term_" + term[0])(module, term, env, want)
+
+    def term_number(self, module, term, env, want):
+        return str(term[1]), None
+
+    def term_name(self, module, term, env, want):
+        name = term[1]
+        if name in env:
+            return self.variable(name), env[name]
+        if name == "Type":
+            return "Type", None
+        entity, type_ = self.found(module, name), None
+        if entity.kind == "def":
+            parameters, result = self.telescope(entity)
+            type_ = None if parameters else self.resolved(entity.module, result)
+        return self.name(entity), type_
+
+    def term_apply(self, module, term, env, want):
+        head, arguments = term[1], term[2]
+        if head == ("name", "Type"):
+            return "Type", None
+        if head[0] != "name" or head[1] in env:
+            return " ".join([self.atom(module, head, env), *(self.atom(module, part, env) for part in arguments)]), None
+        entity, type_, wants = self.found(module, head[1]), None, []
+        if entity.kind in ("def", "variant"):
+            parameters, result = self.telescope(entity)
+            explicit = [parameter for parameter in parameters if not parameter[2]]
+            wants = [self.resolved(entity.module, parameter[1]) for parameter in explicit]
+            if len(arguments) == len(explicit):
+                type_ = self.resolved(entity.module, result)
+        elif entity.kind in ("data", "record"):
+            wants = [self.resolved(entity.module, type_) for names, type_, hidden in entity.parameters for _ in names if not hidden]
+            type_ = None
+        wants = wants[:len(arguments)] + [None] * (len(arguments) - len(wants))
+        found = [self.term(module, part, env, one) for part, one in zip(arguments, wants)]
+        if entity.kind == "word" and entity.name in SAME_TYPE:
+            type_ = found[SAME_TYPE[entity.name]][1]
+        return " ".join([self.name(entity), *(parenthesized(text) for text, _ in found)]), type_
+
+    def term_operator(self, module, term, env, want):
+        operator, left, right = term[1:]
+        if operator in ("/", "%") and not self.is_positive(right):
+            raise Refused(f"{operator} by what may be 0")
+        (one, type_), (other, its_type) = self.term(module, left, env), self.term(module, right, env)
+        text = OPERATOR[operator].format(parenthesized(one), parenthesized(other))
+        return text, (type_ or its_type) if operator in ("++", "∷") else None
+
+    @staticmethod
+    def is_positive(term):
+        if term[0] == "operator" and term[1] == "^":
+            return Project.is_positive(term[2])
+        return term[0] == "number" and term[1] > 0
+
+    def term_if(self, module, term, env, want):
+        condition, then, other = term[1:]
+        return (f"if {self.text(module, condition, env)} then {self.text(module, then, env, want)} "
+                f"else {self.text(module, other, env, want)}"), want
+
+    def term_let(self, module, term, env, want):
+        name, given, value, body = term[1:]
+        given = self.resolved(module, given, env) if given else None
+        text, type_ = self.term(module, value, env, given)
+        inner = {**env, name: given or type_}
+        return f"let {self.variable(name)} := {text} in {self.text(module, body, inner, want)}", want
+
+    def term_lambda(self, module, term, env, want):
+        inner, shown = dict(env), ""
+        for names, type_, _ in term[1]:
+            for name in names:
+                shown += f" ({self.variable(name)} : {self.text(module, type_, env)})" if type_ else f" {self.variable(name)}"
+                inner[name] = self.resolved(module, type_, env) if type_ else None
+        return f"fun{shown} => {self.text(module, term[2], inner)}", None
+
+    def term_pi(self, module, term, env, want):
+        names, type_, hidden, body = term[1:]
+        if hidden:
+            raise Refused("an implicit parameter in a term")
+        if names == ["_"]:
+            return f"{self.atom(module, type_, env)} -> {self.text(module, body, env)}", None
+        inner = {**env, **{name: self.resolved(module, type_, env) for name in names}}
+        shown = " ".join(self.variable(name) for name in names)
+        return f"forall {shown} : {self.text(module, type_, env)}, {self.text(module, body, inner)}", None
+
+    def term_sigma(self, module, term, env, want):
+        names, type_, _, body = term[1:]
+        inner = {**env, **{name: self.resolved(module, type_, env) for name in names}}
+        text, shown = self.text(module, body, inner), self.text(module, type_, env)
+        for name in reversed(names):
+            text = f"{{{self.variable(name)} : {shown} & {text}}}"
+        return text, None
+
+    def term_tuple(self, module, term, env, want):
+        *parts, last = [self.text(module, part, env) for part in term[1]]
+        for part in reversed(parts):
+            last = f"({part}, {last})"
+        return last, None
+
+    def term_field(self, module, term, env, want):
+        owner, field = term[1:]
+        if owner[0] == "name" and owner[1] not in env:
+            entity = self.found(module, owner[1])
+            if entity.kind == "data" and hasattr(entity, "variants"):
+                if field not in entity.variants:
+                    raise Refused(f"{owner[1]} has no {field}")
+                return self.name(entity.variants[field]), ("global", entity)
+        text, type_ = self.term(module, owner, env)
+        if field.isdigit():
+            return self.part(text, self.unfolded(type_), field)
+        record = self.record_of(type_, text)
+        if field not in dict(record.members):
+            raise Refused(f"{record.name} has no {field}")
+        names = [name for parameter in record.parameters for name in parameter[0]]
+        found = self.resolved(record.module, dict(record.members)[field], names)
+        return f"{self.name(record)}_{field} {parenthesized(text)}", found
+
+    @staticmethod
+    def part(text, type_, field):
+        """`.0` or `.1` of a pair. Of three or more, the parts are not those of nested pairs"""
+        if not type_ or type_[0] != "pair" or type_[2] and type_[2][0] == "pair" or field not in ("0", "1"):
+            raise Refused(f".{field} of {text}")
+        return f"{('fst', 'snd')[int(field)]} {parenthesized(text)}", type_[1 + int(field)]
+
+    def term_record(self, module, term, env, want):
+        base, given = term[1], dict(term[2])
+        if len(given) != len(term[2]):
+            raise Refused("a field twice")
+        if base:
+            old, type_ = self.term(module, base, env)
+        else:
+            old, type_ = None, want
+        record = self.record_of(type_, old or "a literal")
+        name, parts = self.name(record), []
+        if set(given) - set(dict(record.members)) or not base and len(given) != len(record.members):
+            raise Refused(f"the fields of {name}")
+        for member, member_type in record.members:
+            if member in given:
+                parts.append(self.atom(module, given[member], env, self.resolved(record.module, member_type)))
             else:
-                cons = []
-                for c, ty in e.members:
-                    con = e.mod['names'][c] if e.mod and c in e.mod.get('names', {}) else e.cons[c]
-                    self.take_name(con, f'{n}_{c}' if hasattr(e, 'cons') else c)
-                    cons.append(f'| {self.coq[con]} : {self.term(e.mod, ty, env)[0]}')
-                self.out.append(f'Inductive {n}{ps} : Type :=\n' + '\n'.join(cons) + '.')
-            return
-        bodies = []
-        if e.kind != 'def': raise TypeError(f'{e.name}: {e.kind}')
-        for f in group: self.take_name(f, f.name)
-        for f in group: bodies.append(self.definition(f))
-        rec = any(self.mentions(c, f2.name) for f in group for c in [b for _, b in f.clauses] for f2 in group)
-        self.out.append(('Fixpoint ' if rec else 'Definition ') + '\nwith '.join(bodies) + '.')
-    def mentions(self, x, n):
-        if x == ('id', n): return True
-        return isinstance(x, (tuple, list)) and any(self.mentions(y, n) for y in x)
-    def definition(self, f):
-        scope, env = f.mod, {}
-        outer = self.params(scope, f.params, env)
-        ps, result = self.telescope(f); n = len(f.clauses[0][0])
-        explicit = [p for p in ps if not p[2]]
-        count = 0; used = []
-        for p in ps:
-            if not p[2]:
-                if count == n: break
-                count += 1
-            used.append(p)
-        rest = ps[len(used):]
-        for p in reversed(rest): result = ('pi', [p[0]], p[1], p[2], result)
-        clauses = f.clauses
-        if len(clauses) == 1 and all(p[0] == 'id' and (p[1] == '_' or self.is_var(scope, p[1])) for p in clauses[0][0]):
-            names = iter(clauses[0][0]); binders = ''
-            for x, ty, imp in used:
-                t = self.term(scope, ty, env)[0]; y = x if imp else next(names)[1]
-                env[y] = self.resolve(scope, ty, env)
-                binders += ' ' + '({'[imp] + f'{self.var(y)} : {t}' + ')}'[imp]
-            want = self.resolve(scope, result, env)
-            return f'{self.coq[f]}{outer}{binders} : {self.term(scope, result, env)[0]} :=\n  {self.term(scope, clauses[0][1], env, want)[0]}'
-        binders, vars_ = '', []
-        for i, (x, ty, imp) in enumerate(used):
-            if x == '_': x = f'x{i}'
-            t = self.term(scope, ty, env)[0]; env[x] = self.resolve(scope, ty, env)
-            binders += ' ' + '({'[imp] + f'{self.var(x)} : {t}' + ')}'[imp]
-            if not imp: vars_.append((x, env[x]))
-        want = self.resolve(scope, result, env); arms = []
-        same = [all(c[0][i] == ('id', vars_[i][0]) for c in clauses) for i in range(n)]
-        for pats, body in clauses:
-            cenv = dict(env); cols = []
-            for i, p in enumerate(pats):
-                if not same[i]: cols.append(self.pattern(scope, p, vars_[i][1], cenv))
-            arms.append(f'  | {", ".join(cols)} => {self.term(scope, body, cenv, want)[0]}')
-        scrut = ', '.join(self.var(v[0]) for i, v in enumerate(vars_) if not same[i])
-        return f'{self.coq[f]}{outer}{binders} : {self.term(scope, result, env)[0]} :=\n  match {scrut} with\n' + '\n'.join(arms) + '\n  end'
+                parts.append(f"({name}_{member} {parenthesized(old)})")
+        return f"mk_{name} {' '.join(parts)}", type_
 
-def rust_type(crate, name):
-    """a struct or an enum of the Rust sources, as the prover's `declared` names it"""
-    item = crate.types[name]
-    scope = dict(path='rust.' + name, names={}, uses={k: ('std', k) for k in ('ℕ', 'ℤ', 'Bool', 'List')})
-    def ty(t):
-        t = crate.known(t)
-        if t in crate.types: scope['uses'][t] = ('.declared.' + t, t); return ('id', t)
-        if isinstance(t, tuple): return ('app', ('id', 'List'), [ty(t[1])])
-        return ('id', {'i64': 'ℤ', 'bool': 'Bool'}.get(t, 'ℕ'))
-    if item.kind == 'struct':
-        return Entity('record', scope, name, params=[], members=[(f, ty(t)) for f, t in item.fields], group=None)
-    members = [(v, ('pi', ['_'], ty(t), False, ('id', name)) if t else ('id', name)) for v, t in item.variants]
-    e = Entity('data', scope, name, params=[], members=members, group=None)
-    scope['names'][name] = e
-    e.cons = {v: Entity('con', scope, v, type=t, parent=e) for v, t in members}
-    return e
+    # ---- patterns
+
+    def pattern(self, module, term, type_, env):
+        if term == ("name", "_"):
+            return "_"
+        if term[0] == "number":
+            return str(term[1])
+        if term[0] == "name" and self.is_variable(module, term[1]):
+            if term[1] in env:
+                raise Refused(f"the variable {term[1]} twice")
+            env[term[1]] = type_
+            return self.variable(term[1])
+        if term[0] == "operator" and term[1] == "∷":
+            whole = self.unfolded(type_)
+            item = whole[2][0] if whole and whole[0] == "apply" else None
+            return f"{self.pattern_atom(module, term[2], item, env)} :: {self.pattern_atom(module, term[3], type_, env)}"
+        head, arguments = (term[1], term[2]) if term[0] == "apply" else (term, [])
+        if head[0] == "field":
+            if arguments:
+                raise Refused("a pattern")
+            return self.text(module, head, {})
+        if head[0] != "name":
+            raise Refused("a pattern")
+        entity = self.found(module, head[1])
+        if entity.kind != "variant" and not (entity.kind == "word" and entity.name in CONSTRUCTORS):
+            raise Refused(f"the pattern {head[1]}")
+        types = [None] * len(arguments)
+        if entity.kind == "variant":
+            types = [self.resolved(entity.module, parameter[1]) for parameter in self.telescope(entity)[0]]
+        elif entity.name == "Some":
+            whole = self.unfolded(type_)
+            types = whole[2] if whole and whole[0] == "apply" else [None]
+        if len(types) != len(arguments):
+            raise Refused(f"the pattern {head[1]}")
+        parts = [self.pattern_atom(module, part, one, env) for part, one in zip(arguments, types)]
+        return " ".join([self.name(entity), *parts])
+
+    def pattern_atom(self, module, term, type_, env):
+        return parenthesized(self.pattern(module, term, type_, env))
+
+    def is_variable(self, module, name):
+        if name in ("zero", "suc", "tt", "refl", "Ok", "Err", "inl", "inr"):
+            raise Refused(f"the pattern {name}")
+        entity = self.lookup(module, name)
+        return not entity or entity.kind != "variant" and not (entity.kind == "word" and name in CONSTRUCTORS)
+
+    # ---- declarations
+
+    def emit(self, entity):
+        if entity.kind in ("data", "record"):
+            self.emit_type(entity)
+            return
+        group = entity.group or [entity]
+        for one in group:
+            self.take_name(one)
+        bodies = [self.emitted(one) for one in group]
+        names = {one.name for one in group}
+        is_recursive = any(names_in(body, names) for one in group for _, body in one.clauses)
+        self.put_out(group[0], ("Fixpoint " if is_recursive else "Definition ") + "\nwith ".join(bodies) + ".")
+
+    def put_out(self, entity, text):
+        comment = "\n   ".join(entity.comment).replace('"', "''")
+        self.out.append((f"(* {comment} *)\n" if comment else "") + text)
+
+    def emit_type(self, entity):
+        self.take_name(entity)
+        name, env = self.coq[entity], {}
+        parameters = self.parameters(entity.module, entity.parameters, env)
+        lines = []
+        if entity.kind == "record":
+            inner = dict(env)
+            for field, type_ in entity.members:
+                lines.append(f"  {name}_{field} : {filled(self.text(entity.module, type_, inner), 6)}")
+                inner[field] = self.resolved(entity.module, type_, env)
+                self.fields[field] = f"{name}_{field}"
+            self.put_out(entity, f"Record {name}{parameters} : Type := mk_{name} {{\n" + ";\n".join(lines) + "\n}.")
+            return
+        for variant, type_ in entity.members:
+            constructor = entity.module.names[variant]
+            self.take_name(constructor)
+            lines.append(f"| {self.coq[constructor]} : {filled(self.text(entity.module, type_, env), 6)}")
+        self.put_out(entity, f"Inductive {name}{parameters} : Type :=\n" + "\n".join(lines) + ".")
+
+    def parameters(self, module, parameters, env):
+        text = ""
+        for names, type_, hidden in parameters:
+            shown = f"{' '.join(map(self.variable, names))} : {self.text(module, type_, env)}"
+            env.update({name: self.resolved(module, type_, env) for name in names})
+            text += f" {{{shown}}}" if hidden else f" ({shown})"
+        return text
+
+    def emitted(self, entity):
+        """The definition, whose parameters are those that its clauses have patterns for"""
+        module, (parameters, result) = entity.module, self.telescope(entity)
+        if not entity.clauses or len({len(patterns) for patterns, _ in entity.clauses}) != 1:
+            raise Refused(f"the clauses of {entity.name}")
+        count = len(entity.clauses[0][0])
+        hidden = [parameter for parameter in parameters if parameter[2]]
+        explicit = [parameter for parameter in parameters if not parameter[2]]
+        if parameters[:len(hidden)] != hidden or len(explicit) < count:
+            raise Refused(f"the parameters of {entity.name}")
+        for parameter in reversed(explicit[count:]):
+            result = ("pi", [parameter[0]], parameter[1], False, result)
+        env = {}
+        binders = self.parameters(module, [([name], type_, True) for name, type_, _ in hidden], env)
+        names = self.argument_names(module, entity, explicit[:count])
+        signature, types = dict(env), []  # the names of the signature, which only its types can use
+        for (plain, type_, _), name in zip(explicit, names):
+            text = self.renamed(module, type_, signature, dict(zip((one[0] for one in explicit), names)))
+            binders += f" ({name} : {text})"
+            types.append(self.resolved(module, type_, env))
+            signature[plain] = types[-1]
+        want = self.resolved(module, result, signature)
+        shown = self.renamed(module, result, signature, dict(zip((one[0] for one in explicit), names)))
+        head = f"{self.coq[entity]}{binders} : {shown} :="
+        return head + "\n  " + self.clauses(entity, names, types, env, want)
+
+    def argument_names(self, module, entity, explicit):
+        """The Coq names of the arguments: the variable that all clauses have there, or a name that they cannot have"""
+        names = []
+        for at, (plain, _, _) in enumerate(explicit):
+            patterns = [patterns[at] for patterns, _ in entity.clauses if patterns[at] != ("name", "_")]
+            pattern = patterns[0] if patterns and all(other == patterns[0] for other in patterns) else None
+            if pattern and pattern[0] == "name" and self.is_variable(module, pattern[1]):
+                names.append(self.variable(pattern[1]))
+            else:
+                names.append(f"{'argument' if plain == '_' else plain}'{at + 1}")
+        return names
+
+    def renamed(self, module, term, signature, names):
+        """A type of the signature, with its names as those of the arguments"""
+        saved, self.fields = self.fields, {**self.fields, **names}
+        text = self.text(module, term, signature)
+        self.fields = saved
+        return text
+
+    def clauses(self, entity, names, types, env, want):
+        module, arms = entity.module, []
+        plain = [all(patterns[at] == ("name", "_") or patterns[at][0] == "name" and self.is_variable(module, patterns[at][1])
+                     and self.variable(patterns[at][1]) == name for patterns, _ in entity.clauses) for at, name in enumerate(names)]
+        for patterns, body in entity.clauses:
+            inner, columns = dict(env), []
+            for at, pattern in enumerate(patterns):
+                if plain[at]:
+                    if pattern != ("name", "_"):
+                        inner[pattern[1]] = types[at]
+                else:
+                    columns.append(self.pattern(module, pattern, types[at], inner))
+            arms.append((columns, self.text(module, body, inner, want)))
+        if all(plain):
+            if len(arms) > 1:
+                raise Refused(f"the clauses of {entity.name}")
+            return filled(arms[0][1], 2)
+        matched = ", ".join(name for name, is_plain in zip(names, plain) if not is_plain)
+        lines = [f"  | {', '.join(columns)} => {filled(text, 6)}" for columns, text in arms]
+        return f"match {matched} with\n" + "\n".join(lines) + "\n  end"
+
+
+def names_in(term, names):
+    if isinstance(term, tuple) and len(term) == 2 and term[0] == "name" and term[1] in names:
+        return True
+    return isinstance(term, (tuple, list)) and any(names_in(part, names) for part in term)
+
 
 def translate(root, crate, names):
-    p = Project(root, crate)
-    roots = [n.rpartition('.') for n in names]
-    def load(mod):                      # all names that a definition may meet, so that no local name hides one
-        if mod in p.modules: return
-        for m, _ in p.module(mod)['uses'].values():
-            if m.split('.')[0] in ('superio_core', 'superio_laws') and '.declared.' not in m: load(m)
-        p.globals |= set(p.modules[mod]['names'])
-    for mod, _, _ in roots: load(mod)
-    for mod, _, name in roots:
-        p.name(p.lookup(p.module(mod), name))
-    return ('(* Made by recheck/antt2coq.py from crates/*/specs. *)\nRequire Export Recheck.Prelude Recheck.Types.\n\n'
-            + '\n\n'.join(p.out) + '\n')
+    """These definitions, each as Module.name, and all that they rest on."""
+    project = Project(root, crate)
+    paths = [name.rpartition(".") for name in names]
+    for path, _, _ in paths:
+        project.module(path)
+    for path, _, name in paths:
+        project.name(project.found(project.module(path), name))
+    head = "(* Made by recheck/antt2coq.py from crates/*/specs. *)\nRequire Export Recheck.Prelude Recheck.Types.\n\n"
+    return head + "\n\n".join(project.out) + "\n"
