@@ -24,6 +24,7 @@ TOOLS = {
     "serde": {"/usr/share/cargo/registry/bincode-1.*": "librust-bincode-dev",
               "/usr/share/cargo/registry/serde_derive-1.*": "librust-serde-derive-dev",
               "/usr/share/cargo/registry/serde_json-1.*": "librust-serde-json-dev"},
+    "coq": {"coqc": "coq"},
     "node": {"node": "nodejs"},
     "npm": {"npm": "npm"},
     "tsc": {"tsc": "node-typescript"},
@@ -53,6 +54,7 @@ TOOLS = {
 PLACES = {"KVM": "import fcntl, os; fcntl.ioctl(fcntl.ioctl(os.open('/dev/kvm', os.O_RDWR), 0xAE01), 0xAE60)",
           "Deno": "deno", "Linux on x86-64": "/lib64/ld-linux-x86-64.so.2",
           "folder VM_SUPERIO of vm-superio 0.8.2": "$VM_SUPERIO",
+          "variable RECHECK_PLANTS": "$RECHECK_PLANTS",
           # Those of docs/PERFORMANCE.md.
           "rustc 1.95.0": "import os; assert ' 1.95.0 ' in os.popen('rustc --version').read()",
           "gcc 12.2.0": "import os; assert os.popen('gcc -dumpfullversion').read() == '12.2.0\\n'"}

@@ -2,15 +2,11 @@
 """The translator of Rust refuses what it does not know, and is right about what it knows."""
 import re
 import subprocess
-import sys
-from pathlib import Path
 
 import pytest
 from rust_cases import REFUSED, RIGHT
 
-ROOT = Path(__file__).resolve().parents[2]
-sys.path.insert(0, str(ROOT / "recheck"))
-import rust2coq  # noqa: E402
+import rust2coq
 
 pytestmark = pytest.mark.needs("cargo")
 

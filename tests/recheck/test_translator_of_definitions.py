@@ -2,15 +2,11 @@
 """The translator of definitions refuses what it does not know, and is right about what it knows."""
 import re
 import subprocess
-import sys
-from pathlib import Path
 
 import pytest
 
-ROOT = Path(__file__).resolve().parents[2]
-sys.path.insert(0, str(ROOT / "recheck"))
-import antt2coq  # noqa: E402
-import rust2coq  # noqa: E402
+import antt2coq
+import rust2coq
 
 USES = """use Rattle.std.specs.Prelude.{ℕ, ◌+◌, ◌-◌, ◌*◌, ◌/◌, ◌%◌, ◌^◌, ◌==◌, ◌&&◌, ◌||◌, ◌≡◌, ◌≤◌, Bool, true, false, not, nat_le, if◌then◌else◌, List, [], ◌∷◌, ◌++◌, length, take, drop, Option, Some, None, ⊤}
 pub data Sign : Type 0 where

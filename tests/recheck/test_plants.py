@@ -1,0 +1,99 @@
+# SPDX-License-Identifier: Apache-2.0 OR BSD-3-Clause
+"""Wrong bodies and wrong definitions, one at a time: tools/recheck has to refuse each, in the proof about it. And
+harmless changes, which have to pass. They take half an hour, so they run at a release, with RECHECK_PLANTS set."""
+import re
+import shutil
+
+import pytest
+from harness import ROOT, run
+
+DEVICES, SPECS = "bindings/superio/src/devices/", "crates/"
+FIFO, CODE, SAVED, CLOCK = {"Fifo"}, {"PortCode"}, {"SavedPort", "SavedClock"}, {"ClockCode", "AlarmDue"}
+
+# A file, what stands there, what is planted, and the files of proofs of which one has to fail.
+WRONG = [(DEVICES + file, old, new, proofs) for file, old, new, proofs in [
+    ("fifo.rs", "+ distance) % FIFO_SIZE", "+ distance) % 63", FIFO),
+    ("fifo.rs", "self.head = self.place(1)", "self.head = self.place(2)", FIFO),
+    ("fifo.rs", "if held == FIFO_SIZE {", "if held == 63 {", FIFO),
+    ("fifo.rs", "self.len = (held - 1) as u8", "self.len = held as u8", FIFO),
+    ("fifo.rs", "self.len = (held + 1) as u8", "self.len = (held + 2) as u8", FIFO),
+    ("fifo.rs", ".min(FIFO_SIZE - held)", ".min(FIFO_SIZE)", FIFO),
+    ("fifo.rs", "usize::from(self.len).min(FIFO_SIZE)", "usize::from(self.len)", FIFO | CODE),
+    ("serial.rs", "self.line_status = with_bits(self.line_status, LSR_DATA_READY_BIT);", "", CODE),
+    ("serial.rs", "buffer_read: true,", "buffer_read: false,", CODE),
+    ("serial.rs", "                self.interrupt_identification = IIR_NONE_BIT;\n", "", CODE),
+    ("serial.rs", "fifo_full: true,", "fifo_full: false,", CODE),
+    ("serial.rs", "if in_buffer_empty {", "if !in_buffer_empty {", CODE),
+    ("serial.rs", "if due == 2 && matches!", "if due == 1 && matches!", CODE),
+    ("serial.rs", "sends = true;", "sends = false;", CODE),
+    ("serial.rs", "self.is_asserted(Condition::Thre) || self", "self.is_asserted(Condition::Thre) && self", CODE),
+    ("serial.rs", "Register::Scr => self.scratch = value", "Register::Scr => self.line_control = value", CODE),
+    ("serial.rs", "usize::from(self.in_buffer.len) <= FIFO_SIZE", "usize::from(self.in_buffer.len) < FIFO_SIZE", CODE),
+    ("serial/registers.rs", "MCR_LOOP_BIT: u8 = 0x10", "MCR_LOOP_BIT: u8 = 0x08", CODE),
+    ("serial/registers.rs", "self.loopback_bit(MCR_DTR_BIT, MSR_DSR_BIT)", "self.loopback_bit(MCR_DTR_BIT, MSR_CTS_BIT)", CODE),
+    ("serial/registers.rs", "0x04 => holds_bytes", "0x04 => true", CODE),
+    ("serial/registers.rs", "LCR_OFFSET => Register::Lcr", "LCR_OFFSET => Register::Mcr", CODE),
+    ("serial/registers.rs", "DEFAULT_MODEM_STATUS: u8 = 0xB0", "DEFAULT_MODEM_STATUS: u8 = 0xF0", CODE),
+    ("serial/encoding.rs", "in_buffer.len() > FIFO_SIZE", "in_buffer.len() >= FIFO_SIZE", SAVED),
+    ("serial/encoding.rs", "self.modem_control,\n            self.modem_status,", "self.modem_status,\n            self.modem_control,", SAVED),
+    ("saved.rs", "*its_kind != kind", "*its_kind != VERSION", SAVED),
+    ("saved.rs", "const VERSION: u8 = 1", "const VERSION: u8 = 2", SAVED),
+    ("rtc_pl031/encoding.rs", "[1] => true,", "[2] => true,", SAVED),
+    ("rtc_pl031/encoding.rs", "            ris,\n            armed,\n        })", "            ris: imsc,\n            armed,\n        })", SAVED),
+    ("rtc_pl031/alarm.rs", "counter < 1 << 32 =>", "counter <= 1 << 32 =>", CLOCK),
+    ("rtc_pl031/alarm.rs", "if from < by_counter { by_counter } else { value }", "if from < by_counter { by_counter } else { from }", CLOCK),
+    ("rtc_pl031/alarm.rs", "(1 << 32) - u64::from(time)", "(1 << 31) - u64::from(time)", CLOCK),
+    ("rtc_pl031.rs", ">= self.mr", "> self.mr", CLOCK),
+    ("rtc_pl031.rs", "value & 1,", "value & 3,", CLOCK),
+    ("rtc_pl031.rs", "u64::from(guest_time < value)", "u64::from(guest_time <= value)", CLOCK),
+    ("rtc_pl031.rs", "i64::from(value) - i64::from(time)", "i64::from(time) - i64::from(value)", CLOCK),
+    ("rtc_pl031.rs", "self.ris & self.imsc & 1 == 1", "self.ris & 1 == 1", CLOCK),
+    ("rtc_pl031/registers.rs", "- AMBA_ID_LOW) / 4", "- AMBA_ID_LOW) / 2", CLOCK),
+    ("i8042.rs", "CMD_RESET_CPU: u8 = 0xFE", "CMD_RESET_CPU: u8 = 0xFF", {"Claims"}),
+]]
+WRONG += [(SPECS + file, old, new, proofs) for file, old, new, proofs in [
+    ("superio_core/specs/Serial/Step.antt", "if others == 0 then iir_none_bit", "if others == 0 then 0", {"PortHistory"}),
+    ("superio_core/specs/Rtc/Step.antt", "imsc = value % 2", "imsc = value % 4", {"ClockHistory", "ClockCode"}),
+    ("superio_core/specs/Serial/RegisterMap.antt", "iir_bit Thre = 0x02", "iir_bit Thre = 0x08", {"PortHistory"}),
+    ("superio_laws/specs/Serial/History/Registers.antt", "take (64 - length held) bytes", "take (63 - length held) bytes", {"PortHistory"}),
+    ("superio_laws/specs/Serial/History/Interrupts.antt", "acknowledges Rda kind = is_iir_read kind || is_rbr_read kind",
+     "acknowledges Rda kind = is_iir_read kind", {"PortHistory"}),
+    ("superio_laws/specs/Serial/Laws/UartRun.antt", "≤ 2 + 2 *", "≤ 1 + 2 *", {"PortLaws"}),
+    ("superio_laws/specs/Rtc/History.antt", "if at == offset then Some value else None", "None", {"ClockHistory"}),
+    ("superio_laws/specs/Serial/Laws/Console.antt", "take (length runs) (held_bytes", "take (1 + length runs) (held_bytes", {"Console"}),
+]]
+HARMLESS = [(DEVICES + file, old, new) for file, old, new in [
+    ("fifo.rs", "if held == 0 {", "if held < 1 {"),
+    ("serial.rs", "Register::Ier => self.interrupt_enable,\n", "Register::Ier => {\n                let enable = self.interrupt_enable;\n                enable\n            }\n"),
+    ("serial.rs", "if self.is_loopback() || input.is_empty() {", "if self.is_loopback() | input.is_empty() {"),
+    ("rtc_pl031.rs", "self.mr = value;\n        self.armed = u64::from(guest_time < value);",
+     "self.armed = u64::from(guest_time < value);\n        self.mr = value;"),
+    ("serial/registers.rs", "byte & bits == bits", "bits == byte & bits"),
+]]
+
+
+def planted(folder, file, old, new):
+    """A copy of the sources with one change, and what tools/recheck says of it."""
+    for source in (DEVICES, *(f"{SPECS}{crate}/specs" for crate in ("superio_core", "superio_laws"))):
+        shutil.copytree(ROOT / source, folder / source)
+    text = (folder / file).read_text(encoding="utf-8")
+    assert old in text, f"{file} has no {old!r}"
+    (folder / file).write_text(text.replace(old, new, 1), encoding="utf-8")
+    return run([ROOT / "tools/recheck", folder])
+
+
+@pytest.mark.where("variable RECHECK_PLANTS")
+@pytest.mark.needs("coq")
+@pytest.mark.parametrize("file, old, new, proofs", WRONG, ids=lambda value: str(value)[:30])
+def test_wrong(file, old, new, proofs, tmp_path):
+    ran = planted(tmp_path, file, old, new)
+    found = set(re.findall(r"^recheck: (\w+)\.v is not proved", ran.stdout, re.M))
+    assert ran.returncode == 1 and found & proofs, ran.stdout[-2000:]
+
+
+@pytest.mark.where("variable RECHECK_PLANTS")
+@pytest.mark.needs("coq")
+@pytest.mark.parametrize("file, old, new", HARMLESS, ids=lambda value: str(value)[:30])
+def test_harmless(file, old, new, tmp_path):
+    ran = planted(tmp_path, file, old, new)
+    assert ran.returncode == 0, ran.stdout[-2000:]
