@@ -4,6 +4,7 @@ import re
 import subprocess
 
 import pytest
+from harness import ROOT
 
 import antt2coq
 import rust2coq

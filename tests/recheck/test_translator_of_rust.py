@@ -4,6 +4,7 @@ import re
 import subprocess
 
 import pytest
+from harness import ROOT
 from rust_cases import REFUSED, RIGHT
 
 import rust2coq
