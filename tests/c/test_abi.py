@@ -233,18 +233,31 @@ def test_there_and_back(library, kind):
             assert [other.bytes[(other.head + place) % 64] for place in range(other.len)] == held
 
 
+def status_of(kind, data):
+    """What a load of bytes returns: the first check that they fail, in the header's order."""
+    device, least, most = (1, 9, 9 + 64) if kind == "serial" else (2, 25, 25)
+    length = int.from_bytes(data[6:8], "little")
+    checks = [("TOO_SHORT", len(data) < HEADER), ("NOT_A_SAVED_STATE", data[:4] != b"SIOS"),
+              ("OTHER_DEVICE", data[4:5] != bytes([device])), ("UNKNOWN_VERSION", data[5:6] != b"\1"),
+              ("WRONG_LENGTH", length != len(data) - HEADER or length < least or (kind == "rtc" and length > most)),
+              ("TOO_MANY_BYTES", length > most), ("INVALID_ARMED", kind == "rtc" and data[32:] not in (b"\0", b"\1"))]
+    return CONSTANTS[f"SUPERIO_LOAD_{next((name for name, fails in checks if fails), 'OK')}"]
+
+
 @pytest.mark.parametrize("kind", SAVED)
 def test_damaged(library, kind):
-    """Saved bytes that are cut, longer, or changed in one bit load as another state, whose saved bytes they are, or
-    leave the struct as it was."""
+    """Saved bytes that are cut, longer, changed in a bit or of another length load as the state whose saved bytes they
+    are, or leave the struct as it was and say which check they fail."""
     source, struct = random.Random(kind), STRUCTS[f"superio_{kind}"]
     for _ in range(8):
         data = saved(library, kind, struct.from_buffer_copy(random_device(source, struct)))
         flipped = [bytes([*data[:place], data[place] ^ 1 << bit, *data[place + 1:]])
                    for place in range(len(data)) for bit in range(8)]
         other_lengths = [data[:count] for count in range(len(data))] + [data + bytes(count) for count in (1, 9, 65536)]
-        for damaged in flipped + other_lengths:
+        with_length = [data[:6] + count.to_bytes(2, "little") + bytes(count) for count in (0, 8, 9, 25, 73, 74, 65535)]
+        for damaged in flipped + other_lengths + with_length:
             status, device = loaded(library, kind, damaged)
+            assert status == status_of(kind, damaged)
             if status == 0:
                 assert saved(library, kind, device) == damaged
             else:
