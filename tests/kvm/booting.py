@@ -116,7 +116,7 @@ class OwnHost:
     """This machine."""
 
     def __init__(self, monitors):
-        self.monitors, self.running = monitors, []
+        self.monitors, self.running, self.logs = monitors, [], []
 
     def begin(self, name):
         ours, theirs = socket.socketpair()
@@ -138,10 +138,11 @@ class HostInQemu:
 
     def __init__(self, monitors, folder):
         ours, theirs = socket.socketpair()
+        self.logs = [folder / "qemu.log", folder / "host.log"]
         words = [*QEMU, "-kernel", IMAGES / "kernel", "-initrd", make_initramfs(folder, monitors),
-                 "-serial", f"file:{folder / 'host.log'}", "-chardev", f"socket,id=port,fd={theirs.fileno()}",
+                 "-serial", f"file:{self.logs[1]}", "-chardev", f"socket,id=port,fd={theirs.fileno()}",
                  "-device", "virtio-serial", "-device", "virtserialport,chardev=port"]
-        with open(folder / "qemu.log", "wb") as log:
+        with open(self.logs[0], "wb") as log:
             self.process = subprocess.Popen(words, stdin=subprocess.DEVNULL, stdout=log, stderr=log,
                                             pass_fds=[theirs.fileno()])
         theirs.close()
@@ -202,5 +203,8 @@ def console(machine, name):
     limit.start()
     try:
         yield machine.begin(name)
+    except Stalled:
+        print(*(log.read_text(errors="replace")[-2000:] for log in machine.logs if log.exists()), sep="\n")
+        raise
     finally:
         limit.cancel()
