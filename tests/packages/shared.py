@@ -19,14 +19,14 @@ def symbols(library, *options):
     return set(re.findall(r" [A-Z] ([^\s@]+)", check(["nm", *options, library])))
 
 
-def assert_properties(library, more=(), less=()):
+def assert_properties(library, calls, more=(), less=()):
     """A shared library has what docs/RELEASE.md says, and no more. It shows the functions of the header, and takes only
-    memcpy and memmove from elsewhere: no stack protector, and no checked call of the C library."""
+    these calls from elsewhere: no stack protector, and no checked call of the C library."""
     said = check(["readelf", "--wide", "--notes", "--segments", "--dynamic", "--sections", library])
     found = {pattern for pattern in [*HAS, *more, *LACKS, *less] if re.search(pattern, said)}
     assert found == {*HAS, *more}
     assert symbols(library, "--dynamic", "--defined-only") == read_header().functions.keys()
-    assert symbols(library, "--dynamic", "--undefined-only") == {"memcpy", "memmove"}
+    assert symbols(library, "--dynamic", "--undefined-only") == set(calls)
 
 
 def finding(libdir, environment=os.environ):

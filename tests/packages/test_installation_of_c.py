@@ -30,7 +30,7 @@ def listing(folder):
 @pytest.mark.parametrize("target", sorted(TARGETS))
 def test_properties(target):
     """Of the libraries of the repository."""
-    assert_properties(PREBUILT / target / SHARED, less=HAS_FROM_SOURCE)
+    assert_properties(PREBUILT / target / SHARED, ["memcpy", "memmove"], less=HAS_FROM_SOURCE)
     assert symbols(PREBUILT / target / STATIC, "--defined-only", "--extern-only") == read_header().functions.keys()
 
 

@@ -114,7 +114,7 @@ def test_lintian(packages):
 @needs_debian
 def test_properties_of_the_packaged_library(packages):
     [shared] = packages[1].rglob(SHARED)
-    assert_properties(shared, more=HAS_FROM_SOURCE)
+    assert_properties(shared, ["memcpy", "memset"], more=HAS_FROM_SOURCE)
 
 
 @needs_debian
