@@ -6,7 +6,7 @@ with those beside `rt` if a command is of KIT. It has to succeed, and to print w
 there is one before a heading; what follows a prompt there, such as `superio> `, is its input. What takes long is
 shortened: `tools/check` prints its help, and pytest only collects.
 
-The steps of rattle.md are carried out beside a link to this repository, with the file that claims.md shows, up to a
+The steps of RATTLE.md are carried out beside a link to this repository, with the file that CLAIMS.md shows, up to a
 proved claim. This proves the libraries first, in minutes, unless `rt` proved them here.
 """
 import os
@@ -19,7 +19,7 @@ from harness import ROOT, at_least, run
 
 DOCUMENTS = ("README.md", "CONTRIBUTING.md", "docs/*.md", "bindings/*/README.md", "tests/README.md")
 # Their commands are for a folder of the user's own, and for a host with KVM, where tests/kvm runs them.
-ELSEWHERE = ("docs/rattle.md", "docs/claims.md", "docs/MONITOR.md")
+ELSEWHERE = ("docs/RATTLE.md", "docs/CLAIMS.md", "docs/MONITOR.md")
 KIT = re.compile(r"^(?:rt|tools/run|tools/prebuild)\b", re.M)
 # The tools that programs in commands are of, as tests name them.
 PROGRAMS = {"cc": "cc", "cargo": "debian-rust", "git": "git", "make": "make", "npm": "npm", "pkg-config": "pkg-config",
@@ -81,8 +81,8 @@ def test_document(blocks, tmp_path):
 
 @pytest.mark.needs("kit")
 def test_first_crate(tmp_path):
-    """The steps of rattle.md and claims.md."""
-    rattle, claims = (Document(f"docs/{name}.md") for name in ("rattle", "claims"))
+    """The steps of RATTLE.md and CLAIMS.md."""
+    rattle, claims = (Document(f"docs/{name}.md") for name in ("RATTLE", "CLAIMS"))
     [claim] = [block.lines for block in claims.blocks if block.language == "rust"]
     [(where, last, typed, printed)] = commands_of(claims)
     steps = [*(commands for _, commands, *_ in commands_of(rattle)), "cp ../../own.rt src", last]

@@ -75,7 +75,7 @@ def program_of(place):
 
 
 @pytest.mark.needs("node")
-@pytest.mark.parametrize("place", ["bindings/js/README.md", "docs/page.md"])
+@pytest.mark.parametrize("place", ["bindings/js/README.md", "docs/PAGE.md"])
 def test_program_of(place):
     """The first program of a document prints what follows it. In the folder of a package its name is the package."""
     program, printed = program_of(place)
