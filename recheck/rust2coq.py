@@ -173,12 +173,18 @@ class Writer:
 
     # -- places
     def read(self, place, env):
+        if view := getattr(getattr(place, "local", None), "view", None):
+            whole, start, stop = view
+            return f"(part_of {self.read(whole, env)} {start} {stop})"
         if place.kind == "name":
             return env[place.local]
         return f"({actual(place.value.type)}_{place.name} {self.read(place.value, env)})"
 
     def update(self, place, value, env, then):
         """The place's variable under a new name, with the new part, and what comes after"""
+        if view := getattr(getattr(place, "local", None), "view", None):
+            whole, start, stop = view
+            return self.update(whole, f"(with_part {self.read(whole, env)} {start} {stop} {value})", env, then)
         if place.kind == "name":
             name = self.fresh(place.name)
             return f"let {name} := {value} in\n{then({**env, place.local: name})}"
@@ -328,6 +334,10 @@ class Writer:
 
     # -- match
     def _match(self, node, env, then):
+        if node.value.kind == "tuple":
+            self.known(node.value)
+            return self.each(node.value.parts, env, lambda values, after: self.by_parts(node, values, after, then))
+
         def chosen(value, after):
             type_ = self.known(node.value)
             head = type_[0] if isinstance(type_, tuple) else type_
@@ -338,6 +348,20 @@ class Writer:
                 return self.in_turn(node.arms, value, type_, after, then, node)
             raise Refused(f"{self.where}:{node.line}: a match of {type_}")
         return self.expr(node.value, env, chosen)
+
+    def by_parts(self, node, values, env, then, at=0):
+        """The arms of a match of a tuple. If none fits, which rustc rules out, it counts as a panic"""
+        if at == len(node.arms):
+            return "None"
+        arm, rest = node.arms[at], lambda: self.by_parts(node, values, env, then, at + 1)
+        if arm.pattern.kind == "any":
+            return self.guarded(arm, env, then, rest)
+        if arm.pattern.kind != "tuple pattern":
+            raise Refused(f"{self.where}:{arm.line}: the pattern {arm.pattern.kind}")
+        tests = [self.test(part, value, actual(node.value.type)[1 + at])
+                 for at, (part, value) in enumerate(zip(arm.pattern.parts, values)) if part.kind != "any"]
+        test = " && ".join(tests) or "true"
+        return f"if ({test})%bool then\n  {indented(self.guarded(arm, env, then, rest))}\nelse\n  {indented(rest())}"
 
     def guarded(self, arm, env, then, otherwise):
         if not arm.guard:
@@ -461,7 +485,7 @@ class Writer:
             def put(at, env):
                 if at == len(places):
                     return then(result, env)
-                if places[at].kind == "name":
+                if places[at].kind == "name" and not hasattr(places[at].local, "view"):
                     return put(at + 1, {**env, places[at].local: new[at]})
                 return self.update(places[at], new[at], env, lambda after: put(at + 1, after))
             pattern = f"'({', '.join([result, *new])})" if new else result
@@ -481,6 +505,8 @@ class Writer:
             return self.bind(f"split_index {a} {values[1]}", "parts", lambda parts: then(parts, env))
         if name == "to_le_bytes":
             return then(f"(to_le_bytes 64 (cast_unsigned 64 {a}))" if of == "i64" else f"(to_le_bytes {WIDTHS[of]} {a})", env)
+        if name == "wrapping_add":
+            return then(f"(N.modulo ({a} + {values[1]}) {2 ** WIDTHS[of]})", env)
         text = {"len": f"(length {a})", "is_empty": f"(N.eqb (length {a}) 0)", "unsigned_abs": f"(unsigned_abs {a})",
                 "is_some": f"(is_some {a})", "is_none": f"(negb (is_some {a}))"}.get(name)
         if not text:

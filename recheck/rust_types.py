@@ -299,6 +299,13 @@ class Checker:
                 self.refuse(node, "the fields of a variant")
             if node.inner:
                 self.pattern(node.inner, inner, "inner")
+        elif kind == "tuple pattern" and role == "match":
+            if not isinstance(type_, tuple) or type_[0] != "tuple" or len(type_) != len(node.parts) + 1:
+                self.refuse(node, "a tuple")
+            for part, part_type in zip(node.parts, type_[1:]):
+                if part.kind not in ("any", "boolean", "integer"):
+                    self.refuse(node, "a pattern in a pattern")
+                self.pattern(part, part_type, "match")
         elif kind == "tuple pattern" and role == "let":
             if not isinstance(type_, tuple) or type_[0] != "tuple" or len(type_) != len(node.parts) + 1:
                 self.refuse(node, "a tuple")
@@ -636,6 +643,9 @@ class Checker:
                 return node.type
             if node.kind == "name" and self.find(node.name) and self.find(node.name).mode == "mut":
                 return self.place(node)
+            if node.kind == "name" and self.find(node.name) and self.find(node.name).mode == "view":
+                node.local, node.type = self.find(node.name), self.find(node.name).type
+                return node.type
             self.refuse(node, "a mutable reference")
         return self.base(node) if node.kind == "name" and self.find(node.name) else self.expr(node, type_)
 
@@ -693,7 +703,7 @@ class Checker:
             return ("list", "u8")
         if type_ == "i64" and name == "unsigned_abs" and count(0):
             return "u64"
-        if (type_ in WIDTHS and name in ("min", "max", "saturating_sub")
+        if (type_ in WIDTHS and name in ("min", "max", "saturating_sub", "wrapping_add")
                 or type_ == "i64" and name == "checked_add") and count(1):
             self.unify(node, self.expr(arguments[0], type_), type_)
             return ("option", type_) if name == "checked_add" else type_

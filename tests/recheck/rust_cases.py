@@ -154,8 +154,8 @@ REFUSED = {
     "assert": ("the macro assert", "pub fn case() -> u32 { assert!(1 == 2); 5 }"),
     "panic": ("the macro panic", "pub fn case() -> u32 { panic!() }"),
     "block comment": ("/* + 1", "pub fn case() -> u32 { 1 /* + 1 */ + 2 }"),
-    "wrapping": ("the method wrapping_add of u32",
-        "pub fn case() -> u32 { let x: u32 = 4294967295; x.wrapping_add(6) }"),
+    "wrapping": ("the method wrapping_mul of u32",
+        "pub fn case() -> u32 { let x: u32 = 4294967295; x.wrapping_mul(6) }"),
     "iterator": ("the method iter of ('list', 'u32')", "pub fn case() -> u32 { [1u32, 2].iter().sum() }"),
     "inclusive range": (".. expected", "pub fn case() -> u32 { let mut n = 0; for _i in 0..=3 { n += 1; } n }"),
     "half-open pattern": ("a pattern", "pub fn case() -> u32 { let x: u32 = 7; match x { 5.. => 1, _ => 2 } }"),
@@ -362,6 +362,14 @@ RIGHT = {
         """// fn case() -> u32 { 1 }
         pub fn case() -> u32 { 2 // + 1
         }""",
+    "wrapping": "pub fn case() -> u32 { let x: u8 = 250; let y: u32 = 4294967295; u32::from(x.wrapping_add(10)) + y.wrapping_add(6) }",
+    "two at once": """fn f(a: bool, b: bool) -> u32 { match (a, b) { (true, true) => 1, (true, false) => 2, (false, true) => 3,
+        (false, false) => 4 } } pub fn case() -> u32 { f(true, true) * 1000 + f(true, false) * 100 + f(false, true) * 10 + f(false, false) }""",
+    "two at once, with calls": QUEUE + """pub fn case() -> u32 { let mut q = Queue { n: 1 };
+        match (q.more() == 2, q.more() == 2) { (true, false) => q.n * 10, (_, true) => 1, _ => 2 } }""",
+    "a view as an argument": """fn put(x: &mut [u8], y: &[u8]) { let (a, _b) = x.split_at_mut(y.len()); a.copy_from_slice(y); }
+        pub fn case() -> u32 { let mut x = [0u8; 6]; let (a, b) = x.split_at_mut(2); put(b, &[3, 4]); put(a, &[1]);
+        u32::from(x[0]) * 1000 + u32::from(x[1]) * 100 + u32::from(x[2]) * 10 + u32::from(x[3]) }""",
     "trailing commas": "fn f(a: u32, b: u32,) -> u32 { a + b } pub fn case() -> u32 { f(1, 2,) }",
     "blocks as statements":
         """pub fn case() -> u32 { let mut x = 1u32; if x == 1 { x += 1; } else { x += 5; } { x += 10; } match x {

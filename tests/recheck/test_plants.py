@@ -13,7 +13,7 @@ FIFO, CODE, SAVED, CLOCK = {"Fifo"}, {"PortCode"}, {"SavedPort", "SavedClock"}, 
 # A file, what stands there, what is planted, and the files of proofs of which one has to fail.
 WRONG = [(DEVICES + file, old, new, proofs) for file, old, new, proofs in [
     ("fifo.rs", "+ distance) % FIFO_SIZE", "+ distance) % 63", FIFO),
-    ("fifo.rs", "self.head = self.place(1)", "self.head = self.place(2)", FIFO),
+    ("fifo.rs", "self.head.wrapping_add(1)", "self.head.wrapping_add(2)", FIFO),
     ("fifo.rs", "if held == FIFO_SIZE {", "if held == 63 {", FIFO),
     ("fifo.rs", "self.len = (held - 1) as u8", "self.len = held as u8", FIFO),
     ("fifo.rs", "self.len = (held + 1) as u8", "self.len = (held + 2) as u8", FIFO),

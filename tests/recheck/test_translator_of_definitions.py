@@ -103,6 +103,7 @@ def test_refused(name, tmp_path):
         translated(tmp_path, text)
 
 
+@pytest.mark.needs("coq")
 def test_right(tmp_path):
     """What Coq computes from each is what it stands for."""
     text = "Require Import Recheck.Prelude.\n"

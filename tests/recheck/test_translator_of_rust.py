@@ -85,11 +85,13 @@ def test_refused_crate(name, tmp_path):
         rust2coq.translate(rust2coq.Crate(tmp_path), ["case"])
 
 
+@pytest.mark.needs("coq", "cargo")
 def test_refused_are_rust(tmp_path):
     """Each is a program that rustc takes: what is refused is the form, and no slip."""
     compiled(tmp_path, [source for _, source in REFUSED.values()])
 
 
+@pytest.mark.needs("coq", "cargo")
 def test_right(tmp_path):
     expected = compiled(tmp_path, RIGHT.values())
     found = computed(tmp_path, RIGHT.values())
