@@ -37,16 +37,18 @@
  *     interrupt(0); // for a line that takes levels
  *
  *     // Your event loop makes a turn: its poll has returned.
- *     lock();
- *     write_output(); // as much as its reader takes now
- *     read_input();   // as much as the queue has room for
- *     offer_input();
- *     interrupt(superio_serial_character_timeout(&port));
- *     unlock();
+ *     write_output();   // as much as its reader takes now
+ *     if (read_input()) // as much as the queue has room for
+ *         offer_input();
+ *     times = superio_serial_character_timeout(&port);
+ *     if (is_refused) // these have the timeout's interrupt among them
+ *         times = superio_serial_interrupts_due(&port);
+ *     is_refused = false;
+ *     interrupt(times);
  *
  *     // The guest resets the machine. The clock goes on.
  *     port = superio_serial_new();
- *     is_ready = false;
+ *     is_ready = is_refused = false;
  *     interrupt(0);
  *
  *     // What `offer_input` does.
@@ -60,7 +62,8 @@
  *     // What `interrupt` does.
  *     for (int i = 0; i < times; i++) {
  *         if (!ask_for_interrupt()) {
- *             ask_again_later(); // superio_serial_interrupts_due(&port) times
+ *             is_refused = true;
+ *             wake_event_loop(); // in some milliseconds
  *             break;
  *         }
  *     }
@@ -87,17 +90,22 @@
  * Around the calls
  * ----------------
  *
+ * Lock. Hold the port's lock over each call and what it leaves to you, in the
+ * guest's accesses and in turns of the event loop. Otherwise two changes of the
+ * interrupt line may change places.
+ *
  * Accesses. A serial port takes one byte: split a wider access into bytes, the
- * lowest port first. The clock takes four bytes: answer a narrower read from
- * the four bytes around it, and ignore a narrower write.
+ * lowest port first. The clock takes four bytes at a multiple of four: answer a
+ * narrower read from the four bytes around it, and ignore a narrower write.
  *
  * Input. A driver tests the port before it uses it, and throws away what it
  * finds in the FIFO. So keep input in a queue of your own until the guest is
  * ready: until IER enables RDA and not THRE, as no driver's test of a port
  * does. From then on it stays ready, whatever it enables, until the machine is
- * reset. A guest that polls, such as a boot loader, never gets ready in this
- * way: have an option that offers input to it at once. Bound the queue. While
- * it is full, do not read from its source, and look again once there is room.
+ * reset. A guest that polls, such as a boot loader, or that enables RDA only
+ * together with THRE, never gets ready in this way: have an option with which
+ * it is ready from the start, also after a reset. Bound the queue. While it is
+ * full, do not read from its source. Wake the event loop once it has room.
  *
  * Offer input at the moments that the sketch shows and at no others: once when
  * it arrives, once when the guest becomes ready, has read the last byte or may
@@ -111,17 +119,22 @@
  * has to be woken when the first one is queued. LSR always shows an empty
  * transmitter, so no guest waits by itself until there is room. When the queue
  * is full, either drop the byte and count it, or hold the guest in its access:
- * without the lock, for a limited time, and after that drop the byte.
+ * without the lock, and for a limited time. After that time drop bytes at once,
+ * until the reader takes some.
  *
- * Turns. A turn of the event loop comes after each return of its poll, and is
- * made under the port's lock. If the guest's handler runs meanwhile, the turn's
- * character timeout may interrupt it once more than there is work for. Linux
- * counts such an interrupt as unhandled, and goes on.
+ * Turns. A turn of the event loop comes after each return of its poll. Bound
+ * the poll to some milliseconds while an interrupt is refused and, for a guest
+ * whose handler does not read IIR until nothing is pending, while bytes are
+ * held; and wake the loop when one of the two begins in a guest's access. Such
+ * a guest gets one run in each turn. If the guest's handler runs meanwhile, the
+ * turn's character timeout may interrupt it once more than there is work for.
+ * Linux counts such an interrupt as unhandled, and goes on.
  *
  * A line that takes levels. Set it after every call on the port, also after
  * `new` and a load: the port before it may have left the line up. Call your
  * interrupt controller only when the level changes, since some take each call
- * for an interrupt. After a reset of the controller, call it once more.
+ * for an interrupt. After your interrupt controller is reset, call it once more
+ * with the levels of the port and of the clock, changed or not.
  *
  *     // In place of `interrupt`.
  *     bool is_up = superio_serial_interrupt_line(&port);
@@ -130,10 +143,17 @@
  *     was_up = is_up;
  *
  * A reset of the machine. Make the port anew, and do not keep requests for
- * refused interrupts. Keep the input and the output that wait. Keep the clock
- * as it is, with its time, alarm, mask and status: a guest expects its clock to
- * go on until the power is off. The reset controller has no state. A port that
- * is not made anew may look to a firmware as if there were none.
+ * refused interrupts. Keep the input and the output that wait; the bytes in
+ * the FIFO are lost. Keep the clock as it is, with its time, alarm, mask and
+ * status: a guest expects its clock to go on until the power is off. Its driver
+ * may set the time back by a write at 0x00C, as superio_rtc_write explains. The
+ * reset controller has no state. A port that is not made anew may look to a
+ * firmware as if there were none.
+ *
+ * A snapshot. A saved port has neither the input and the output that wait, nor
+ * whether the guest is ready, nor whether an interrupt was refused: save these
+ * beside it. After a load, ask for the interrupt as often as
+ * superio_serial_interrupts_due says, or set the level.
  *
  * Break. The port has none. A guest that sends a break, by bit 0x40 of LCR,
  * sends nothing, and no call gives it one: ignore a break of your terminal, and
@@ -251,9 +271,13 @@ uint32_t superio_abi(void);
 
 /*
  * A 16550 serial port, reduced to what a guest's driver uses: its registers,
- * and a receive FIFO of 64 bytes that is always on. The registers are at
- * offsets 0 to 7 from the port's base. Any other offset reads as 0, and a
- * write there has no effect.
+ * and a receive FIFO of 64 bytes that is always on. There is no FCR: a write at
+ * offset 2 has no effect. The registers are at offsets 0 to 7 from the port's
+ * base. Any other offset reads as 0, and a write there has no effect.
+ *
+ * IIR has a bit for each condition, so 0xC6 is RDA and THRE, where a 16550
+ * shows an error of the line. One read of it ends both. A driver that compares
+ * IIR with one value may miss THRE.
  *
  * The received bytes form a ring: the oldest is at bytes[head % 64], the
  * others follow it, and bytes[0] follows bytes[63]. At most 64 are held: a
@@ -272,7 +296,7 @@ typedef struct superio_serial {
     uint8_t modem_control;     /* MCR. 0x10 is loopback */
     uint8_t modem_status;      /* MSR */
     uint8_t scratch;           /* SCR */
-    uint8_t head;              /* the place of the oldest received byte */
+    uint8_t head;              /* the place of the oldest byte, modulo 64 */
     uint8_t len;               /* how many received bytes are held */
     uint8_t bytes[SUPERIO_SERIAL_FIFO_SIZE]; /* the received bytes. Those that
                                                 are not held mean nothing */
@@ -297,7 +321,7 @@ typedef struct superio_serial_write_effects {
 /* What an enqueue did, and leaves to you. */
 typedef struct superio_serial_enqueue_effects {
     size_t accepted;    /* how many bytes it accepted, first ones first */
-    bool fifo_full;     /* there were bytes, but no room */
+    bool fifo_full;     /* there were bytes, and no room for one of them */
     uint8_t interrupts; /* how often to ask for the interrupt: 0 or 1 times */
 } superio_serial_enqueue_effects;
 
@@ -335,7 +359,9 @@ superio_serial_read_effects superio_serial_read(superio_serial *port,
  * The condition of a refused interrupt stays pending, so no later access asks
  * for it until the guest has acknowledged it. A guest that waits for the
  * interrupt may never do so. If your interrupt can be refused, ask again
- * later, as often as superio_serial_interrupts_due says.
+ * later, as often as superio_serial_interrupts_due says. Nor does a write to
+ * IER ask for a condition that was pending before it. If you raise edges and
+ * your controller may lose one, ask that often after a write at offset 1 too.
  *
  * `interrupts` is 2 only if a write to IER raises both conditions. If the first
  * of the two is refused, both conditions are pending, and
@@ -358,7 +384,7 @@ superio_serial_write_effects superio_serial_write(superio_serial *port,
  * are kept even if that is refused: do not offer them again.
  *
  * Keep the bytes that were not accepted. Offer them when a read reports
- * `in_buffer_empty`, or when the guest leaves loopback.
+ * `in_buffer_empty`, or when the guest becomes ready or leaves loopback.
  *
  * `bytes` points to `count` bytes outside the port. If `count` is 0 it may be
  * NULL.
