@@ -16,7 +16,7 @@ def test_crates():
 
 def test_numbers():
     assert number_of_edits() >= 91
-    assert number_of_tests() >= 159
+    assert number_of_tests() >= 162
 
 
 def test_stored_output():

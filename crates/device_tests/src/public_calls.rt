@@ -252,14 +252,30 @@ fn is_compared_and_printed<V: Debug + Eq>(alloc: Global, value: &V) -> Result<bo
 #[test]
 fn states_and_parts_of_records_are_compared_and_printed(rt: HostRuntime) -> Result<(), Fail> {
     let alloc = rt.alloc();
+    // The fields of a state, in their order.
     let state = SerialState {
+        baud_divisor_low: 0x0C,
+        baud_divisor_high: 0x00,
+        interrupt_enable: 0x00,
+        interrupt_identification: 0x01,
+        line_control: 0x03,
+        line_status: 0x60,
+        modem_control: 0x08,
+        modem_status: 0xB0,
         scratch: 0x00,
-        ..SerialState::default(alloc)
+        in_buffer: Vec::new(alloc),
     };
     assert!(rt; state == SerialState::default(alloc) && state == state.clone(alloc)?);
     assert!(rt; is_compared_and_printed(alloc, &state)?);
-    let state = RtcState::default();
-    assert!(rt; state == RtcState::from_five(0, 0, 0, 0, 0));
+    let state = RtcState {
+        lr: 0,
+        offset: 0,
+        mr: 0,
+        imsc: 0,
+        ris: 0,
+        armed: false,
+    };
+    assert!(rt; state == RtcState::default() && state == RtcState::from_five(0, 0, 0, 0, 0));
     assert!(rt; is_compared_and_printed(alloc, &state)?);
     assert!(rt; is_compared_and_printed(alloc, &Act::Restore)?);
     assert!(rt; is_compared_and_printed(alloc, &Asked::Took)?);

@@ -195,3 +195,9 @@ fn data_ready_without_a_byte_ends_at_the_next_read(rt: HostRuntime) {
     ];
     restored_shows(&rt, without_byte(0x01, 0x00, 0x61), &steps);
 }
+
+#[test]
+fn a_restored_ier_is_cut_to_four_bits_by_the_next_write(rt: HostRuntime) {
+    let steps = [Calls(1), Read(IER, 0xFF), Write(IER, 0xFF), Read(IER, 0x0F)];
+    restored_shows(&rt, without_byte(0x02, 0xFF, 0x60), &steps);
+}
