@@ -44,8 +44,8 @@ pub fn fault_of(number: i32) -> io::Error {
     }
 }
 
-/// How a writer may answer a byte: it takes it, fails by the fault of this number or takes nothing, at once or after
-/// interruptions, of which every sixteenth fault has many, or its flush fails.
+/// What a writer may do with a byte: take it; fail by the fault of this number; take nothing; or take it, and fail to
+/// flush. It may be interrupted first: 300 times if 16 divides the number of the fault, and twice otherwise.
 pub fn writings(number: i32) -> [Writing; 6] {
     let fault = fault_of(number);
     let takes = Writing::takes();
