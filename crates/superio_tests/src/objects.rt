@@ -21,8 +21,8 @@ use vm_superio::{Serial, Trigger};
 /// How many faults there are.
 pub const FAULTS: i32 = 148;
 
-/// The fault of a number below [`FAULTS`]: by each number of the system but that of an interrupted call, which is
-/// repeated; by a driver's number; by kinds, among them those that no number has; and with a text of its own.
+/// The fault of a number below [`FAULTS`]. There is one for each error number of the system, except that of an
+/// interrupted call, which is repeated. Others have a driver's number, a kind without a number, or a text of their own.
 pub fn fault_of(number: i32) -> io::Error {
     match number {
         4 => io::Error::from_raw_os_error(4_095),
