@@ -13,8 +13,8 @@
  * pointer, changes it, and returns its effects: what is left for you to do.
  * There are no callbacks and no handles. The library allocates no memory,
  * keeps no state, makes no system calls, and needs no initialisation. Of other
- * libraries it needs only memcpy and memmove. No call fails, except that a
- * load refuses bytes that are not a saved state.
+ * libraries it needs at most memcpy, memmove and memset. No call fails, except
+ * that a load refuses bytes that are not a saved state.
  *
  *     superio_serial port = superio_serial_new();
  *
