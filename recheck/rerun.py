@@ -12,6 +12,7 @@ from pathlib import Path
 
 import antt2coq
 import rust2coq
+from c_functions import safe_part
 
 HERE = Path(__file__).resolve().parents[1]
 
@@ -38,7 +39,8 @@ class Failed(Exception):
 
 def translated(root):
     """The generated files, and the names of the public functions."""
-    crate = rust2coq.Crate(root / "bindings/superio/src/devices")
+    c_functions = safe_part((root / "bindings/c/from-source/src/lib.rs").read_text())
+    crate = rust2coq.Crate(root / "bindings/superio/src/devices", c_functions)
     functions = sorted(name for name, item in crate.functions.items() if item.public)
     types, code = rust2coq.translate(crate, functions)
     return {"Types": types, "Code": code, "Definitions": antt2coq.translate(root / "crates", crate, LAWS + WORDS)}, functions

@@ -12,7 +12,7 @@ pytestmark = pytest.mark.needs("coq", "cargo")
 
 
 def test_every_claim_is_proved(checked):
-    assert int(re.fullmatch(r"proved again: (\d+) theorems\n", checked[1])[1]) >= 68
+    assert int(re.fullmatch(r"proved again: (\d+) theorems\n", checked[1])[1]) >= 73
 
 
 def test_code_does_what_coq_computes(checked, tmp_path):
