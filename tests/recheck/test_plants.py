@@ -10,7 +10,7 @@ from harness import ROOT
 import rerun
 
 JOBS = len(os.sched_getaffinity(0))
-DEVICES, SPECS = "bindings/superio/src/devices/", "crates/"
+DEVICES, SPECS, C_FUNCTIONS = "bindings/superio/src/devices/", "crates/", "bindings/c/from-source/src/lib.rs"
 FIFO, CODE, SAVED, CLOCK = {"Fifo"}, {"PortCode"}, {"SavedPort", "SavedClock"}, {"ClockCode", "AlarmDue"}
 
 # A file, what stands there, what is planted, and the files of proofs of which one has to fail.
@@ -65,6 +65,14 @@ WRONG += [(SPECS + file, old, new, proofs) for file, old, new, proofs in [
     ("superio_laws/specs/Rtc/History.antt", "if at == offset then Some value else None", "None", {"ClockHistory"}),
     ("superio_laws/specs/Serial/Laws/Console.antt", "take (length runs) (held_bytes", "take (1 + length runs) (held_bytes", {"Console"}),
 ]]
+WRONG += [(C_FUNCTIONS, old, new, {"CFunctions", "Claims"}) for old, new in [
+    ("invalid_read: value.is_none()", "invalid_read: value.is_some()"),
+    ("invalid_write: !is_taken", "invalid_write: is_taken"),
+    ("SavedStateError::OtherDevice => 3", "SavedStateError::OtherDevice => 2"),
+    ("_ => port.read(offset)", "_ => port.read(1)"),
+    ("const LOADED: u32 = 0", "const LOADED: u32 = 1"),
+    ("const NEVER: u64 = u64::MAX", "const NEVER: u64 = 0"),
+]]
 HARMLESS = [(DEVICES + file, old, new) for file, old, new in [
     ("fifo.rs", "if held == 0 {", "if held < 1 {"),
     ("serial.rs", "Register::Ier => self.interrupt_enable,\n", "Register::Ier => {\n                let enable = self.interrupt_enable;\n                enable\n            }\n"),
@@ -79,6 +87,8 @@ def planted(checked, folder, file, old, new):
     """A copy of what is checked, with one change of a source, and the names of the files that are to be checked anew."""
     for source in (DEVICES, *(f"{SPECS}{crate}/specs" for crate in ("superio_core", "superio_laws"))):
         shutil.copytree(ROOT / source, folder / source)
+    (folder / C_FUNCTIONS).parent.mkdir(parents=True)
+    shutil.copy(ROOT / C_FUNCTIONS, folder / C_FUNCTIONS)
     text = (folder / file).read_text(encoding="utf-8")
     assert old in text, f"{file} has no {old!r}"
     (folder / file).write_text(text.replace(old, new, 1), encoding="utf-8")
