@@ -1,12 +1,11 @@
 # SPDX-License-Identifier: Apache-2.0 OR BSD-3-Clause
 """The translator of definitions refuses what it does not know, and is right about what it knows."""
 import re
-import subprocess
 
 import pytest
-from harness import ROOT
 
 import antt2coq
+import rerun
 import rust2coq
 
 USES = """use Rattle.std.specs.Prelude.{ℕ, ◌+◌, ◌-◌, ◌*◌, ◌/◌, ◌%◌, ◌^◌, ◌==◌, ◌&&◌, ◌||◌, ◌≡◌, ◌≤◌, Bool, true, false, not, nat_le, if◌then◌else◌, List, [], ◌∷◌, ◌++◌, length, take, drop, Option, Some, None, ⊤}
@@ -104,7 +103,7 @@ def test_refused(name, tmp_path):
 
 
 @pytest.mark.needs("coq")
-def test_right(tmp_path):
+def test_right(words, tmp_path):
     """What Coq computes from each is what it stands for."""
     text = "Require Import Recheck.Prelude.\n"
     for at, (name, (source, value, expected)) in enumerate(RIGHT.items()):
@@ -112,8 +111,5 @@ def test_right(tmp_path):
         found = translated(tmp_path / str(at), source, last)
         body = "\n".join(line for line in found.splitlines() if not line.startswith("Require"))
         text += f"(* {name} *)\nModule Case{at}.\n{body}\nGoal {value} = {expected}. Proof. vm_compute. reflexivity. Qed.\nEnd Case{at}.\n"
-    (tmp_path / "Prelude.v").write_text((ROOT / "recheck/Prelude.v").read_text())
-    (tmp_path / "Cases.v").write_text(text)
-    for name in ("Prelude", "Cases"):
-        run = subprocess.run(["coqc", "-w", "none", "-Q", ".", "Recheck", f"{name}.v"], cwd=tmp_path, capture_output=True, text=True)
-        assert run.returncode == 0, run.stdout + run.stderr
+    (words / "Definitions.v").write_text(text)
+    rerun.coqc(words, "Definitions")

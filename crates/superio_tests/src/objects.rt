@@ -21,8 +21,8 @@ use vm_superio::{Serial, Trigger};
 /// How many faults there are.
 pub const FAULTS: i32 = 148;
 
-/// The fault of a number below [`FAULTS`]: by each number of the system but that of an interrupted call, which is
-/// repeated; by a driver's number; by kinds, among them those that no number has; and with a text of its own.
+/// The fault of a number below [`FAULTS`]. There is one for each error number of the system, except that of an
+/// interrupted call, which is repeated. Others have a driver's number, a kind without a number, or a text of their own.
 pub fn fault_of(number: i32) -> io::Error {
     match number {
         4 => io::Error::from_raw_os_error(4_095),
@@ -44,8 +44,8 @@ pub fn fault_of(number: i32) -> io::Error {
     }
 }
 
-/// How a writer may answer a byte: it takes it, fails by the fault of this number or takes nothing, at once or after
-/// interruptions, of which every sixteenth fault has many, or its flush fails.
+/// What a writer may do with a byte: take it; fail by the fault of this number; take nothing; or take it, and fail to
+/// flush. It may be interrupted first: 300 times if 16 divides the number of the fault, and twice otherwise.
 pub fn writings(number: i32) -> [Writing; 6] {
     let fault = fault_of(number);
     let takes = Writing::takes();

@@ -1,7 +1,8 @@
 // SPDX-License-Identifier: Apache-2.0 OR BSD-3-Clause
-//! The laws over the definitions. Each function does nothing: its contract is the law.
+//! The laws about the definitions. Each function does nothing: its contract is the law.
 //!
-//! Laws that need no object stand in `superio_laws`, whose head explains the terms.
+//! This module has the laws about a writer or a saved state, and re-exports all others from `superio_laws`. The head of
+//! that crate explains the terms.
 ghost use Rattle.vm_superio.specs.Links.Writer.{KnownOutputLaw};
 
 pub mod saved;

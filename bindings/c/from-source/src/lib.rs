@@ -11,7 +11,7 @@ use superio::{is_reset_command, Pl031, RtcState, Uart};
 /// Changes with every change to a struct or to the meaning of a call.
 const ABI: u32 = 4;
 
-/// What a due alarm returns if it never is.
+/// What `superio_rtc_alarm_due` returns if no access ever finds an alarm due.
 const NEVER: u64 = u64::MAX;
 
 /// What a load returns on success.
