@@ -113,9 +113,13 @@ def with_required(folder, names):
     return names
 
 
+def short(value):
+    return value[:30] if isinstance(value, str) else ",".join(sorted(value))
+
+
 @pytest.mark.where("variable RECHECK_PLANTS")
 @pytest.mark.needs("coq")
-@pytest.mark.parametrize("file, old, new, proofs", WRONG, ids=lambda value: str(value)[:30])
+@pytest.mark.parametrize("file, old, new, proofs", WRONG, ids=short)
 def test_wrong(file, old, new, proofs, checked, tmp_path):
     folder, changed = planted(checked, tmp_path, file, old, new)
     with pytest.raises(rerun.Failed) as failed:
@@ -125,7 +129,7 @@ def test_wrong(file, old, new, proofs, checked, tmp_path):
 
 @pytest.mark.where("variable RECHECK_PLANTS")
 @pytest.mark.needs("coq")
-@pytest.mark.parametrize("file, old, new", HARMLESS, ids=lambda value: str(value)[:30])
+@pytest.mark.parametrize("file, old, new", HARMLESS, ids=short)
 def test_harmless(file, old, new, checked, tmp_path):
     folder, changed = planted(checked, tmp_path, file, old, new)
     assert "Claims" in changed
