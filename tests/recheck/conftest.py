@@ -1,7 +1,5 @@
 # SPDX-License-Identifier: Apache-2.0 OR BSD-3-Clause
 """What the tests of the proofs share."""
-import shutil
-
 import pytest
 from harness import ROOT, check
 
@@ -15,11 +13,12 @@ def checked(tmp_path_factory):
     return folder, check([ROOT / "tools/recheck", "--keep", folder])
 
 
-@pytest.fixture(scope="session")
-def words(tmp_path_factory):
-    """A folder with the words that translations use, checked."""
-    folder = tmp_path_factory.mktemp("words")
-    for name in ("Prelude", "Machine"):
-        shutil.copy(ROOT / f"recheck/{name}.v", folder)
-        rerun.coqc(folder, name)
-    return folder
+@pytest.fixture
+def computed(tmp_path):
+    """What Coq prints for some lines after the words that translations use."""
+    def run(lines):
+        words = [(ROOT / f"recheck/{name}.v").read_text() for name in ("Prelude", "Machine")]
+        text = "\n".join([*words, lines]).replace("Require Import Recheck.Prelude.\n", "")
+        (tmp_path / "Cases.v").write_text(text)
+        return rerun.coqc(tmp_path, "Cases")
+    return run

@@ -5,7 +5,6 @@ import re
 import pytest
 
 import antt2coq
-import rerun
 import rust2coq
 
 USES = """use Rattle.std.specs.Prelude.{ℕ, ◌+◌, ◌-◌, ◌*◌, ◌/◌, ◌%◌, ◌^◌, ◌==◌, ◌&&◌, ◌||◌, ◌≡◌, ◌≤◌, Bool, true, false, not, nat_le, if◌then◌else◌, List, [], ◌∷◌, ◌++◌, length, take, drop, Option, Some, None, ⊤}
@@ -103,13 +102,12 @@ def test_refused(name, tmp_path):
 
 
 @pytest.mark.needs("coq")
-def test_right(words, tmp_path):
+def test_right(computed, tmp_path):
     """What Coq computes from each is what it stands for."""
-    text = "Require Import Recheck.Prelude.\n"
+    text = ""
     for at, (name, (source, value, expected)) in enumerate(RIGHT.items()):
         last = re.findall(r"^(\w+) :", source, re.M)[-1] if "used" in source or "mutual" in source else "value"
         found = translated(tmp_path / str(at), source, last)
         body = "\n".join(line for line in found.splitlines() if not line.startswith("Require"))
         text += f"(* {name} *)\nModule Case{at}.\n{body}\nGoal {value} = {expected}. Proof. vm_compute. reflexivity. Qed.\nEnd Case{at}.\n"
-    (words / "Definitions.v").write_text(text)
-    rerun.coqc(words, "Definitions")
+    computed(text)

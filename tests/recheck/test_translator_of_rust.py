@@ -6,7 +6,6 @@ import subprocess
 import pytest
 from rust_cases import REFUSED, RIGHT
 
-import rerun
 import rust2coq
 
 pytestmark = pytest.mark.needs("cargo")
@@ -37,15 +36,14 @@ fn main() {
     return subprocess.run([folder / "main"], capture_output=True, text=True, check=True).stdout.split("\n")[:-1]
 
 
-def computed(folder, words, cases):
-    """What Coq computes from the translations."""
-    text = "Require Import Recheck.Prelude Recheck.Machine.\n"
+def translations(folder, cases):
+    """What Coq is to compute."""
+    text = ""
     for i, source in enumerate(cases):
         types, code = rust2coq.translate(crate_of(folder, source), ["case"])
         body = "\n".join(line for line in (types + code).splitlines() if not line.startswith("Require"))
         text += f"Module Case{i}.\n{body}\nEnd Case{i}.\nCompute Case{i}.rs_case.\n"
-    (words / "Cases.v").write_text(text)
-    return re.findall(r"^ +=\s+(Some \d+|None)$", rerun.coqc(words, "Cases"), re.M)
+    return text
 
 
 @pytest.mark.parametrize("name", REFUSED)
@@ -87,7 +85,7 @@ def test_refused_are_rust(tmp_path):
 
 
 @pytest.mark.needs("coq", "cargo")
-def test_right(words, tmp_path):
+def test_right(computed, tmp_path):
     expected = compiled(tmp_path, RIGHT.values())
-    found = computed(tmp_path, words, RIGHT.values())
+    found = re.findall(r"^ +=\s+(Some \d+|None)$", computed(translations(tmp_path, RIGHT.values())), re.M)
     assert dict(zip(RIGHT, found)) == dict(zip(RIGHT, expected))
