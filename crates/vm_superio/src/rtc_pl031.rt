@@ -199,14 +199,11 @@ impl<EV: RtcEvents> Rtc<EV> {
     /// First, if an alarm is set and guest time has reached it, the alarm raises bit 0 of the raw interrupt status and
     /// is cleared.
     ///
-    /// RTCMR (0x004) stores the value and drops any alarm set before. It sets the alarm if guest time is less than the
-    /// value, raises at once if guest time equals the value, and does neither if the value is past. RTCLR (0x008)
-    /// stores the value and makes it guest time. RTCCR (0x00C) resets the load register and guest time on 1; other
-    /// values have no effect. RTCIMSC (0x010) stores bit 0 only. RTCICR (0x01C) clears the raw interrupt status bits
-    /// that the value has set.
+    /// Then the write has the effect of the register at the offset: `after_write`, in `specs/Rtc/Step` of
+    /// `superio_core`, has a line for each.
     ///
-    /// A write at any other offset stores nothing and calls the events object's `invalid_write` once, before it
-    /// returns. No write makes another call.
+    /// A write at an offset that takes none (`is_writable`) stores nothing and calls the events object's
+    /// `invalid_write` once, before it returns. No write makes another call.
     pub fn write(&mut self, offset: u16, bytes: &[u8; 4], now: u64)
         ensures state { self.new.state ≡ clock_step self.old.state (write_of offset bytes.now now) }
         ensures invalid { OnFalse (is_writable (clock_register_at offset))
@@ -244,12 +241,9 @@ impl<EV: RtcEvents> Rtc<EV> {
     /// 1970. Only the low 32 bits of `now` count. A read changes a register only if it finds the alarm due, as a write
     /// does first.
     ///
-    /// RTCDR (0x000) shows guest time, RTCCR (0x00C) shows 1, RTCMIS (0x018) shows the raw interrupt status under the
-    /// mask, and RTCMR (0x004), RTCLR (0x008), RTCIMSC (0x010) and RTCRIS (0x014) show their fields. Offsets 0xFE0 to
-    /// 0xFFF show the identification, each byte at four offsets.
-    ///
-    /// A read at any other offset, including RTCICR (0x01C), leaves `bytes` unchanged and calls the events object's
-    /// `invalid_read` once, before it returns. No read makes another call.
+    /// `clock_register_read`, in `specs/Rtc` of `superio_core`, has a line for what each register shows, beside
+    /// `clock_register_at` for their offsets. A read at an offset that shows nothing leaves `bytes` unchanged and calls
+    /// the events object's `invalid_read` once, before it returns. No read makes another call.
     pub fn read(&mut self, offset: u16, bytes: &mut [u8; 4], now: u64)
         ensures response { bytes.new ≡ bytes_left (clock_response self.old.state (read offset now)) bytes.old }
         ensures invalid { OnFalse (is_readable (clock_register_at offset)) (bytes.new ≡ bytes.old) }
