@@ -17,11 +17,12 @@ BY_OFFSET = ["RBR", "IER", "IIR", "LCR", "MCR", "LSR", "MSR", "SCR"]
 BITS = {"IIR": {"RDA": 0x04, "THRE": 0x02, "NONE": 0x01}, "LSR": {"READY": 0x01}}
 ENABLED_BY = {"RDA": 0x01, "THRE": 0x02}
 # The outputs of MCR, DTR, RTS, OUT1 and OUT2, each with the input of MSR that shows it in loopback.
-LOOPED = [(0x01, 0x20), (0x02, 0x10), (0x04, 0x40), (0x08, 0x80)]
+LOOPED = {0x01: 0x20, 0x02: 0x10, 0x04: 0x40, 0x08: 0x80}
 
 # The fields of a clock, in the order of a saved state, each with the format of its number there, as struct has it.
 CLOCK_FIELDS = {"LR": "I", "MR": "I", "IMSC": "I", "RIS": "I", "offset": "q", "armed": "b"}
 CLOCK_AT = {0x00: "DR", 0x04: "MR", 0x08: "LR", 0x0C: "CR", 0x10: "IMSC", 0x14: "RIS", 0x18: "MIS", 0x1C: "ICR"}
+READ_ONLY = "DR", "RIS", "MIS"
 IDENTIFICATION = bytes.fromhex("31 10 04 00 0d f0 05 b1")   # from 0xFE0 on, at four offsets each
 
 
@@ -115,7 +116,7 @@ class Port(Device):
             shown |= FIFO_BITS
         if name == "MSR" and self.is_looped():
             outputs = self.last("MCR")
-            shown = shown & 0x0F | sum(seen for bit, seen in LOOPED if outputs & bit)
+            shown = shown & 0x0F | sum(seen for bit, seen in LOOPED.items() if outputs & bit)
         return f"{shown:02x}"
 
     def read_out(self):
@@ -205,9 +206,8 @@ class Clock(Device):
         name, found = CLOCK_AT.get(offset), {"RIS": 1, "armed": 0} if is_reached else {}
         if value is None:
             self.past.append(Fact(found))
-            status, mask = self.raw_status(), self.last("IMSC")
-            shown = {"DR": guest_time, "MR": self.last("MR"), "LR": self.last("LR"), "CR": 1, "IMSC": mask,
-                     "RIS": status, "MIS": status & mask}
+            state = self.state()
+            shown = {**state, "DR": guest_time, "CR": 1, "MIS": state["RIS"] & state["IMSC"]}
             return shown.get(name, IDENTIFICATION[offset - 0xFE0 >> 2] if 0xFE0 <= offset < 0x1000 else None)
         writes = {
             "MR": {"MR": value, "armed": int(value > guest_time)} | ({"RIS": 1} if value == guest_time else {}),
@@ -215,5 +215,6 @@ class Clock(Device):
             "CR": {"LR": 0, "offset": 0} if value == 1 else {},
             "IMSC": {"IMSC": value & 1},
             "ICR": {"cleared": value}}
-        self.past.append(Fact(found | writes.get(name, {})))
-        return 0 if name in writes else None
+        is_taken = name is not None and name not in READ_ONLY
+        self.past.append(Fact(found | writes.get(name, {name: value} if is_taken else {})))
+        return 0 if is_taken else None
