@@ -69,10 +69,7 @@ export interface RtcState {
 export class Serial {
   /** A new port: divisor 12, 8 bits a character, OUT2 set, and nothing enabled, pending or held. */
   constructor();
-  /**
-   * The guest reads at an offset, 0 to 255. If the offset is 2, IIR, and the byte has bit 0x01, call
-   * `characterTimeout` afterwards.
-   */
+  /** The guest reads at an offset, 0 to 255. If it reads IIR, see `characterTimeout`. */
   read(offset: number | string): ReadEffects;
   /** The guest writes a value, 0 to 255, at an offset, 0 to 255. */
   write(offset: number | string, value: number): WriteEffects;
@@ -81,7 +78,10 @@ export class Serial {
    * `inBufferEmpty`, or when the guest leaves loopback.
    */
   enqueue(bytes: Uint8Array): EnqueueEffects;
-  /** Raises RDA again if bytes wait without it. Returns how often to ask for the interrupt: 0 or 1 times. */
+  /**
+   * Raises RDA again if bytes wait without it. Returns how often to ask for the interrupt: 0 or 1 times. Make the call
+   * after each guest read of offset 2 whose byte has bit 0x01 (nothing pending), and in each turn of your event loop.
+   */
   characterTimeout(): number;
   /** How many bytes there is room for: 64 less those that are held. */
   fifoCapacity(): number;
@@ -150,6 +150,12 @@ export class RegisterError extends RangeError {}
 /** Bytes are not the saved state of this device. The message says why, in the same words as in every language. */
 export class SavedStateError extends Error {
   /** Why, in the words of a script. */
-  readonly reason: "too short" | "not a saved state" | "other device" | "unknown version" | "wrong length" |
-    "too many bytes" | "invalid armed";
+  readonly reason:
+    | "too short"
+    | "not a saved state"
+    | "other device"
+    | "unknown version"
+    | "wrong length"
+    | "too many bytes"
+    | "invalid armed";
 }

@@ -268,7 +268,7 @@ class RtcState(State):
     mr: int = _kept(c_uint32)     # the guest time that an alarm waits for
     imsc: int = _kept(c_uint32)   # the interrupt mask
     ris: int = _kept(c_uint32)    # the raw interrupt status
-    offset: int = _kept(c_int64)  # how far guest time is ahead of the host's, in seconds
+    offset: int = _kept(c_int64)  # how far guest time is ahead of the host's, in seconds: a signed number of 64 bits
     armed: bool = _kept(c_uint64, False)  # whether an alarm is set
 
     @classmethod
