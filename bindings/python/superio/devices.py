@@ -81,9 +81,8 @@ class Serial(Saved):
     _name, _saved_max = "serial", SERIAL_SAVED_MAX
 
     def read(self, offset: Union[int, str]) -> ReadEffects:
-        """The guest reads at an offset, 0 to 255, or a register by its name. A read asks for no interrupt.
-
-        If the offset is 2, IIR, and the byte has bit 0x01, call `character_timeout` afterwards.
+        """The guest reads at an offset, 0 to 255, or a register by its name. A read asks for no interrupt. After one of
+        IIR see `character_timeout`.
 
         Raises `RegisterError` if no register has the name, or if the read would reach another one.
         """

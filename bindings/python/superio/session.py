@@ -45,8 +45,8 @@ _GROUPS: Dict[str, Tuple[Help, ...]] = {
         Help('type "TEXT"', "bytes arrive for the guest",
              r"""1 to 128 bytes. In quotes \n, \r, \t, \0, \e, \\, \" and \x41 are single bytes.""", (), "type"),
         Help("timeout", "raises RDA again if bytes wait without it",
-             "Bytes wait if IER enables RDA, and a read of IIR or RBR has ended it and left them. A monitor makes this "
-             "call after each guest read of IIR that answers none, and once in each turn of its event loop.", (), "si"),
+             "Bytes wait if IER enables RDA, and a read of IIR or RBR has ended it and left them. "
+             "Serial.character_timeout has the moments at which a monitor makes this call.", (), "si"),
         Help("drain", "the guest's driver reads what is held", means="sd"),
         Help("output", "what the guest sent", means="so"),
         Help("restore", "saves the port and restores it",
