@@ -4,12 +4,13 @@
 Its port and its clock have the calls of those in oracle.py, which search the past instead, and the map of registers
 that is there. It is written from the page, and not from the code.
 """
-from oracle import (BY_OFFSET, CLOCK_AT, CLOCK_FIELDS, DLAB, FIFO_BITS, FIFO_SIZE, FRESH, IDENTIFICATION, LOOPBACK,
-                    LOOPED, READ_ONLY)
+import oracle
+from oracle import (BITS, BY_OFFSET, CLOCK_AT, CLOCK_FIELDS, DLAB, FIFO_BITS, FIFO_SIZE, FRESH, IDENTIFICATION, IER_MASK,
+                    LOOPBACK, LOOPED, READ_ONLY)
 
-RDA, THRE, NONE = 0x04, 0x02, 0x01     # of IIR
-ENABLED_BY = {RDA: 0x01, THRE: 0x02}   # in IER
-READY = 0x01                           # of LSR
+RDA, THRE, NONE = BITS["IIR"].values()
+READY = BITS["LSR"]["READY"]
+ENABLED_BY = {BITS["IIR"][name]: bit for name, bit in oracle.ENABLED_BY.items()}
 
 
 class Port:
@@ -65,7 +66,7 @@ class Port:
         if name in ("DLL", "DLM", "LCR", "MCR", "SCR"):
             self.registers[name] = value
         if name == "IER":
-            self.registers["IER"] = value & 0x0F
+            self.registers["IER"] = value & IER_MASK
             return "ok" if self.raises(*[RDA] * bool(self.bytes), THRE) else "trigger"
         return "ok"
 

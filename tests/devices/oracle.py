@@ -16,6 +16,7 @@ BY_OFFSET = ["RBR", "IER", "IIR", "LCR", "MCR", "LSR", "MSR", "SCR"]
 # The bits of registers that are facts of their own: the two conditions, that none is pending, and data ready.
 BITS = {"IIR": {"RDA": 0x04, "THRE": 0x02, "NONE": 0x01}, "LSR": {"READY": 0x01}}
 ENABLED_BY = {"RDA": 0x01, "THRE": 0x02}
+IER_MASK = 0x0F   # the bits that IER keeps
 # The outputs of MCR, DTR, RTS, OUT1 and OUT2, each with the input of MSR that shows it in loopback.
 LOOPED = {0x01: 0x20, 0x02: 0x10, 0x04: 0x40, 0x08: 0x80}
 
@@ -133,7 +134,7 @@ class Port(Device):
             return self.receive(bytes([value])[:self.room()], "ok") if self.is_looped() else self.send(value)
         if name == "IER":
             raised, is_taken = self.raised(["RDA", "THRE"] if self.held() else ["THRE"], value)
-            return self.done("ok", {"IER": value & 0x0F} | raised, is_taken)
+            return self.done("ok", {"IER": value & IER_MASK} | raised, is_taken)
         return self.done("ok", {name: value} if name in ("DLL", "DLM", "LCR", "MCR", "SCR") else {})
 
     def send(self, value):
