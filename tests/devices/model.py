@@ -5,8 +5,8 @@ Its port and its clock have the calls of those in oracle.py, which search the pa
 that is there. It is written from the page, and not from the code.
 """
 import oracle
-from oracle import (BITS, BY_OFFSET, CLOCK_AT, CLOCK_FIELDS, DLAB, FIFO_BITS, FIFO_SIZE, FRESH, IDENTIFICATION, IER_MASK,
-                    LOOPBACK, LOOPED, READ_ONLY)
+from oracle import (BITS, BY_OFFSET, CLOCK_AT, CLOCK_FIELDS, DLAB, FIFO_BITS, FIFO_SIZE, FRESH, IDENTIFICATION,
+                    IER_MASK, LOOPBACK, LOOPED, READ_ONLY)
 
 RDA, THRE, NONE = BITS["IIR"].values()
 READY = BITS["LSR"]["READY"]

@@ -4,9 +4,18 @@
 There are no registers, and no rule is shared with the definitions that the proofs use. Of each call a fact is kept:
 what it wrote, raised and acknowledged, and which bytes were accepted and read out. What a call shows is found by a
 search of the facts before it. A search ends at the latest at the newest start state, a fact of the past too.
-docs/DEVICES.md has the rules.
+docs/DEVICES.md has the rules, and the map of the clock's registers.
 """
+import re
 from typing import NamedTuple
+
+from harness import ROOT, at_least
+
+
+def section(page, heading):
+    """What a page of docs has below a heading."""
+    return (ROOT / "docs" / f"{page}.md").read_text(encoding="utf-8").split(f"\n## {heading}\n")[1].split("\n## ")[0]
+
 
 FIFO_SIZE = 64
 DLAB, LOOPBACK, FIFO_BITS = 0x80, 0x10, 0xC0   # of LCR, of MCR, and of what a guest reads of IIR
@@ -20,10 +29,14 @@ IER_MASK = 0x0F   # the bits that IER keeps
 # The outputs of MCR, DTR, RTS, OUT1 and OUT2, each with the input of MSR that shows it in loopback.
 LOOPED = {0x01: 0x20, 0x02: 0x10, 0x04: 0x40, 0x08: 0x80}
 
-# The fields of a clock, in the order of a saved state, each with the format of its number there, as struct has it.
-CLOCK_FIELDS = {"LR": "I", "MR": "I", "IMSC": "I", "RIS": "I", "offset": "q", "armed": "b"}
-CLOCK_AT = {0x00: "DR", 0x04: "MR", 0x08: "LR", 0x0C: "CR", 0x10: "IMSC", 0x14: "RIS", 0x18: "MIS", 0x1C: "ICR"}
-READ_ONLY = "DR", "RIS", "MIS"
+# The clock's registers by docs/DEVICES.md: the offset, the name, and what a write does.
+CLOCK_ROWS = at_least(8, re.findall(r"^\| 0x(\w+) \| RTC(\w+), .* \| (.*) \|$", section("DEVICES", "The clock"), re.M))
+CLOCK_AT = {int(offset, 16): name for offset, name, _ in CLOCK_ROWS}
+READ_ONLY = {name for _, name, write in CLOCK_ROWS if write == "is invalid"}
+# The fields of a clock by docs/SAVED-STATES.md, in their order, each with the format of its number, as struct has it.
+FORMATS = {"1": "b", "4": "I", "8": "q"}
+CLOCK_FIELDS = {register or field: FORMATS[size] for size, field, register in at_least(6, re.findall(
+    r"^\| \d+ \| (\d) \| `(\w+)`(?:, RTC(\w+))?", section("SAVED-STATES", "A clock"), re.M))}
 IDENTIFICATION = bytes.fromhex("31 10 04 00 0d f0 05 b1")   # from 0xFE0 on, at four offsets each
 
 
