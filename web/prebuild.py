@@ -6,8 +6,9 @@
 
 Writes prebuilt/wasm32/superio.wasm, its lines in prebuilt/SHA256SUMS and prebuilt/SOURCES, and bindings/js/module.mjs,
 which has its bytes and the tables of the Python package. They are the same on every machine. It writes what these
-tables have into bindings/js/superio.d.ts: the fields of states, and why bytes are no saved state. Needs Debian 12's rustc,
-libstd-rust-dev-wasm32 and lld. Prints nothing if all is well. Otherwise it says why on standard error, and exits 1.
+tables have into bindings/js/superio.d.ts: the fields of states, and why bytes are no saved state. Needs Debian 12's
+rustc, libstd-rust-dev-wasm32 and lld. Prints nothing if all is well. Otherwise it says why on standard error, and exits
+1.
 """
 import base64
 import ctypes
