@@ -10,6 +10,7 @@ use std::io::{self, ErrorKind, Write};
 use std::time::{SystemTime, UNIX_EPOCH};
 
 use vm_superio::rtc_pl031::{RtcEvents, RtcSnapshot};
+use vm_superio::sansio::rtc_pl031::encoding::SAVED_SIZE;
 use vm_superio::sansio::{is_reset_command, Pl031, Uart};
 use vm_superio::serial::line::InterruptLine;
 use vm_superio::serial::timeout::CharacterTimeout;
@@ -81,7 +82,7 @@ impl Random {
             imsc: self.word() as u32,
             ris: self.word() as u32,
         };
-        RtcSnapshot { state, armed: self.is_one_of(2) }
+        RtcSnapshot { armed: self.is_one_of(2), ..RtcSnapshot::from_five(state) }
     }
 }
 
@@ -530,7 +531,7 @@ fn any_state_goes_there_and_back() {
     for _ in 0..ROUNDS {
         let (state, snapshot) = (random.port(), random.clock());
         let (bytes, of_clock) = (state.to_bytes().unwrap(), snapshot.to_bytes());
-        assert_eq!((bytes.len(), of_clock.len()), (17 + state.in_buffer.len(), 33));
+        assert_eq!((bytes.len(), of_clock.len()), (17 + state.in_buffer.len(), SAVED_SIZE));
         assert_eq!(SerialState::from_bytes(&bytes).as_ref(), Ok(&state));
         assert_eq!(RtcSnapshot::from_bytes(&of_clock), Ok(snapshot));
         assert_eq!(snapshot.to_five().ok(), if snapshot.armed { None } else { Some(snapshot.state) });
