@@ -54,6 +54,7 @@ from-source:
 check-library:
 	@$(find)
 	$(MAKE) -C tests/c LIBRARY="$$(realpath --relative-to=tests/c "$$1")"
+	echo "$$1: all tests passed"
 
 install:
 	$(find)
