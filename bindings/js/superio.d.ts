@@ -81,10 +81,7 @@ export interface RtcState {
 export class Serial {
   /** A new port: divisor 12, 8 bits a character, OUT2 set, and nothing enabled, pending or held. */
   constructor();
-  /**
-   * The guest reads at an offset, 0 to 255. If the offset is 2, IIR, and the byte has bit 0x01, call
-   * `characterTimeout` afterwards.
-   */
+  /** The guest reads at an offset, 0 to 255. If it reads IIR, see `characterTimeout`. */
   read(offset: number | string): ReadEffects;
   /** The guest writes a value, 0 to 255, at an offset, 0 to 255. */
   write(offset: number | string, value: number): WriteEffects;
@@ -175,7 +172,13 @@ export class RegisterError extends RangeError {}
 
 /** Bytes are not the saved state of this device. The message gives the reason, with the same text in every language. */
 export class SavedStateError extends Error {
-  /** The reason, as a script replies it. */
-  readonly reason: "too short" | "not a saved state" | "other device" | "unknown version" | "wrong length" |
-    "too many bytes" | "invalid armed";
+  /** Why, in the words of a script. */
+  readonly reason:
+    | "too short"
+    | "not a saved state"
+    | "other device"
+    | "unknown version"
+    | "wrong length"
+    | "too many bytes"
+    | "invalid armed";
 }

@@ -25,11 +25,12 @@ def test_c(tmp_path):
 
 
 @pytest.mark.needs("cargo")
-@pytest.mark.parametrize("document, printed", [("README.md", "!"), ("docs/RUST.md", "h")])
-def test_rust(document, printed, tmp_path):
+@pytest.mark.parametrize("document, of, printed", [
+    ("README.md", "fn main", "!"), ("docs/RUST.md", "Cell", "h"), ("docs/RUST.md", "from_snapshot", "h")])
+def test_rust(document, of, printed, tmp_path):
     """By the lines for Cargo.toml in README.md."""
     (tmp_path / "src").mkdir()
     manifest = PACKAGE + code("README.md", "toml").replace("CLONE", str(ROOT))
     (tmp_path / "Cargo.toml").write_text(manifest, encoding="utf-8")
-    (tmp_path / "src" / "main.rs").write_text(code(document, "rust", "fn main"), encoding="utf-8")
+    (tmp_path / "src" / "main.rs").write_text(code(document, "rust", of), encoding="utf-8")
     check(["cargo", "run", "--quiet", "--offline"], printed, cwd=tmp_path)

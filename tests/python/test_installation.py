@@ -14,6 +14,7 @@ from pathlib import Path
 import pytest
 from harness import ROOT, at_least
 from header import read_header
+from made import seeds
 from support import ENVIRONMENT, PACKAGE, TIMEOUT, ended
 
 import superio
@@ -162,7 +163,10 @@ def test_installed_by_pip(archives, what, tmp_path):
 
 @needs_python
 def test_the_sources_have_tests_that_pass(archives):
-    done = ended([sys.executable, "-m", "unittest", "discover", "tests"], cwd=archives.unpacked, env=CLEAN)
+    """With other random calls for each commit."""
+    [seed] = seeds("sources", 1)
+    done = ended([sys.executable, "-m", "unittest", "discover", "tests"], cwd=archives.unpacked,
+                 env={**CLEAN, "SEED": seed})
     assert re.search(r"\nRan [3-9]\d tests in .*\n\nOK \(skipped=2\)\n$", done[2]), done
 
 

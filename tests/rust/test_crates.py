@@ -11,6 +11,7 @@ from pathlib import Path
 import pytest
 from cargo import BINDINGS, DEVICES, ORIGINAL, Cargo, Comparison, add_crate, copied_crate, toolchain_for, toolchains
 from harness import ROOT, check
+from made import seeds
 from recorded import difference, random_recorded, recordings, rows_of
 
 pytestmark = pytest.mark.needs("cargo")
@@ -68,7 +69,9 @@ def test_formatted(crate, tmp_path):
 
 
 def test_as_released(tmp_path):
-    assert copied_crate(tmp_path).test("--release", "--lib", "--tests") == number_of_tests(BINDINGS) >= 14
+    """With other random numbers for each commit."""
+    [seed] = seeds("released", 1)
+    assert copied_crate(tmp_path).test("--release", "--lib", "--tests", SEED=seed) == number_of_tests(BINDINGS) >= 14
 
 
 @pytest.mark.needs("debian-rust")

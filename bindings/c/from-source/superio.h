@@ -612,7 +612,7 @@ enum superio_saved_state_error {
     SUPERIO_LOAD_TOO_SHORT = 1,         /* fewer bytes than a header */
     SUPERIO_LOAD_NOT_A_SAVED_STATE = 2, /* they begin with another magic */
     SUPERIO_LOAD_OTHER_DEVICE = 3,      /* the state of another device */
-    SUPERIO_LOAD_UNKNOWN_VERSION = 4,   /* the version, at bytes[5], is not 1 */
+    SUPERIO_LOAD_UNKNOWN_VERSION = 4,   /* bytes[5] is another version */
     SUPERIO_LOAD_WRONG_LENGTH = 5,      /* the length is not that of the rest,
                                            or no state of the device has it */
     SUPERIO_LOAD_TOO_MANY_BYTES = 6,    /* a port that holds more than 64 */

@@ -1,12 +1,13 @@
 # SPDX-License-Identifier: Apache-2.0 OR BSD-3-Clause
 """What holds of every call, whatever it is for, by random ones: it passes C as much memory as superio.abi says, changes
 nothing that it is passed, and what it gives stays. Devices that take turns do what each does alone, states go there and
-back by every way, and a session's trace makes it again."""
+back by every way, and a session's trace makes it again. The variable SEED of the environment makes the calls others."""
 import copy
 import ctypes
 import dataclasses
 import io
 import json
+import os
 import pickle
 import random
 import unittest
@@ -26,7 +27,10 @@ PORT_FIELDS = [name for name in SerialState.kinds()]
 
 
 class Drawn(random.Random):
-    """Arguments that are drawn."""
+    """Arguments that are drawn, by the name of a test and SEED."""
+
+    def __init__(self, name):
+        super().__init__(f"{name} {os.environ.get('SEED', '')}")
 
     def moment(self):
         return self.choice([self.randrange(2_000), self.getrandbits(64)])

@@ -178,7 +178,8 @@ impl<T: Trigger, EV: SerialEvents, W: Write> Serial<T, EV, W> {
     /// [`Error::Trigger`] if the trigger refused a call, even if the writer failed too; otherwise [`Error::IOError`] if
     /// the writer failed to take the byte or to flush. The write has taken effect all the same, so do not repeat it. A
     /// refused condition stays pending: the trigger is not called for it again until the guest has acknowledged it, or
-    /// you call [`retry_interrupts`](Serial::retry_interrupts).
+    /// you call [`retry_interrupts`](Serial::retry_interrupts). But if a write at 1, IER, raises both conditions and
+    /// the trigger refuses the call for RDA, THRE is not raised, and no retry brings it.
     pub fn write(&mut self, offset: u8, value: u8) -> Result<(), Error<T::E>> {
         let pending = self.port.registers.interrupt_identification;
         let effects = self.port.write(offset, value);

@@ -10,6 +10,7 @@ use std::io::{self, ErrorKind, Write};
 use std::time::{SystemTime, UNIX_EPOCH};
 
 use vm_superio::rtc_pl031::{RtcEvents, RtcSnapshot};
+use vm_superio::sansio::rtc_pl031::encoding::SAVED_SIZE;
 use vm_superio::sansio::{is_reset_command, Pl031, Uart};
 use vm_superio::serial::line::InterruptLine;
 use vm_superio::serial::timeout::CharacterTimeout;
@@ -24,6 +25,13 @@ const OFFSETS: u64 = 9; // one more than there are registers
 struct Random(u64);
 
 impl Random {
+    /// The numbers of a test. The variable SEED of the environment makes them others.
+    fn of(test: u64) -> Random {
+        let seed = std::env::var("SEED").unwrap_or_default();
+        println!("SEED={seed}");
+        Random(seed.bytes().fold(test, |seed, byte| seed.wrapping_mul(31).wrapping_add(byte.into())))
+    }
+
     fn word(&mut self) -> u64 {
         self.0 = self.0.wrapping_add(0x9E37_79B9_7F4A_7C15);
         let mixed = (self.0 ^ (self.0 >> 30)).wrapping_mul(0xBF58_476D_1CE4_E5B9);
@@ -74,12 +82,12 @@ impl Random {
             imsc: self.word() as u32,
             ris: self.word() as u32,
         };
-        RtcSnapshot { state, armed: self.is_one_of(2) }
+        RtcSnapshot { armed: self.is_one_of(2), ..RtcSnapshot::from_five(state) }
     }
 }
 
 /// The kinds of errors that std makes of the system's, and those that code makes by itself.
-const KINDS: [ErrorKind; 18] = [
+const KINDS: [ErrorKind; 20] = [
     ErrorKind::Interrupted, // which a write repeats, and a flush does not
     ErrorKind::NotFound,
     ErrorKind::PermissionDenied,
@@ -98,6 +106,8 @@ const KINDS: [ErrorKind; 18] = [
     ErrorKind::UnexpectedEof,
     ErrorKind::Unsupported,
     ErrorKind::Other,
+    ErrorKind::WriteZero,
+    ErrorKind::OutOfMemory,
 ];
 
 /// An error of a writer's own, which has another one as its source.
@@ -116,12 +126,20 @@ impl StdError for Own {
     }
 }
 
+/// A number of the system's errors, or any other one, but 4, which is an interrupted call.
+fn random_code(random: &mut Random) -> i32 {
+    match random.is_one_of(3) {
+        true => random.word() as i32 | 1 << 8,
+        false => 5 + random.below(200) as i32,
+    }
+}
+
 /// An error by its kind alone, by a number of the system's, or with an error of the writer's own.
 fn random_fault(random: &mut Random, kinds: &[ErrorKind]) -> io::Error {
     let kind = kinds[random.below(kinds.len() as u64) as usize];
     match random.below(4) {
         0 => kind.into(),
-        1 => io::Error::from_raw_os_error(5 + random.below(200) as i32), // 4 is an interrupted call
+        1 => io::Error::from_raw_os_error(random_code(random)),
         2 => io::Error::new(kind, random.word().to_string()),
         _ => io::Error::new(kind, Own(random.word(), Some(Box::new(Own(random.word(), None))))),
     }
@@ -384,9 +402,9 @@ fn call(random: &mut Random, port: &mut Port, model: &mut Model) -> (String, Str
 
 #[test]
 fn a_port_calls_its_objects_as_the_device_without_io_says_and_returns_their_errors() {
-    let mut random = Random(1);
+    let mut random = Random::of(1);
     let world = World { name: "a line that is borrowed".into(), ..World::default() };
-    for _ in 0..ROUNDS / 10 {
+    for _ in 0..ROUNDS / 5 {
         let state = random.port();
         world.begin(&mut random);
         let mut model = Model::of(&state, &world);
@@ -426,7 +444,7 @@ fn a_port_calls_its_objects_as_the_device_without_io_says_and_returns_their_erro
 
 #[test]
 fn a_clock_reports_invalid_accesses_and_nothing_else() {
-    let mut random = Random(2);
+    let mut random = Random::of(2);
     let world = World::default();
     for _ in 0..ROUNDS {
         let snapshot = random.clock();
@@ -459,7 +477,7 @@ fn moment() -> u64 {
 
 #[test]
 fn a_clock_takes_the_hosts_time_in_each_call_that_needs_it() {
-    let mut random = Random(3);
+    let mut random = Random::of(3);
     let world = World::default();
     for _ in 0..ROUNDS / 4 {
         let mut snapshot = random.clock();
@@ -490,7 +508,7 @@ fn a_clock_takes_the_hosts_time_in_each_call_that_needs_it() {
 
 #[test]
 fn a_controller_resets_once_for_the_reset_command_and_returns_a_refusal() {
-    let mut random = Random(4);
+    let mut random = Random::of(4);
     let world = World { name: "reset".into(), ..World::default() };
     for _ in 0..ROUNDS {
         world.begin(&mut random);
@@ -509,11 +527,11 @@ fn a_controller_resets_once_for_the_reset_command_and_returns_a_refusal() {
 
 #[test]
 fn any_state_goes_there_and_back() {
-    let mut random = Random(5);
+    let mut random = Random::of(5);
     for _ in 0..ROUNDS {
         let (state, snapshot) = (random.port(), random.clock());
         let (bytes, of_clock) = (state.to_bytes().unwrap(), snapshot.to_bytes());
-        assert_eq!((bytes.len(), of_clock.len()), (17 + state.in_buffer.len(), 33));
+        assert_eq!((bytes.len(), of_clock.len()), (17 + state.in_buffer.len(), SAVED_SIZE));
         assert_eq!(SerialState::from_bytes(&bytes).as_ref(), Ok(&state));
         assert_eq!(RtcSnapshot::from_bytes(&of_clock), Ok(snapshot));
         assert_eq!(snapshot.to_five().ok(), if snapshot.armed { None } else { Some(snapshot.state) });
@@ -531,7 +549,7 @@ fn any_state_goes_there_and_back() {
 
 #[test]
 fn damaged_bytes_are_refused_or_are_another_state() {
-    let mut random = Random(6);
+    let mut random = Random::of(6);
     for _ in 0..50 {
         let saved = [random.port().to_bytes().unwrap(), random.clock().to_bytes()];
         for bytes in saved {

@@ -8,10 +8,11 @@ pub use i8042::I8042Device;
 pub use rtc_pl031::{Rtc, RtcState};
 pub use serial::{Serial, SerialState};
 use std::fmt::Debug;
+pub use superio_laws as laws;
 
 mod fifo;
 pub mod i8042;
-pub mod laws;
+pub mod object_laws;
 pub mod rtc_pl031;
 pub mod run;
 pub mod saved;

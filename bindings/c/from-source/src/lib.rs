@@ -128,7 +128,7 @@ pub unsafe extern "C" fn superio_serial_load(port: *mut Uart, bytes: *const u8, 
 
 /// # Safety
 ///
-/// 33 bytes outside the clock can be written at `bytes`. They need not be set.
+/// `SAVED_SIZE` bytes outside the clock can be written at `bytes`. They need not be set.
 #[no_mangle]
 pub unsafe extern "C" fn superio_rtc_save(clock: &Pl031, bytes: *mut u8) {
     let saved = clock.state().to_bytes();
