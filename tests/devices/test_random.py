@@ -12,9 +12,10 @@ import oracle
 import pytest
 from board import Board
 from harness import at_least
-from made import SAVED, SHOWN, broken_lines, fewest, random_calls, random_script, seeds, shown
+from made import SAVED, SHOWN, broken_lines, fewest, random_calls, random_script, shown
 from script import FURTHER_LINES, LINES, PROGRAM_LINES, replies_of, run_script, script_of
 from script_tests import Script
+from seeds import seeds
 from sides import CBoard, PythonBoard, run
 
 FOR_PROGRAM, FOR_BOARD, AS_TEXT = 8_000, 4_000, 800

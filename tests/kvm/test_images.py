@@ -9,6 +9,7 @@ from typing import NamedTuple
 import pytest
 from harness import run
 from monitors import build_monitor
+from seeds import random_source
 
 pytestmark = [pytest.mark.needs("cc", "make"), pytest.mark.where("Linux on x86-64")]
 
@@ -77,8 +78,9 @@ def outcome(image):
 
 
 def test_images(monitor):
-    source, outcomes = random.Random("images"), Counter()
-    for _ in range(50):
+    """The same in each commit, and some of its own."""
+    fixed, own, outcomes = random.Random("images"), random_source("images"), Counter()
+    for source in 45 * [fixed] + 15 * [own]:
         image = random_image(source)
         (monitor / "kernel").write_bytes(image.content())
         status, seen = booted(monitor, "kernel")

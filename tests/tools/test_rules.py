@@ -65,6 +65,11 @@ def test_what_was_not_tried_is_named(tmp_path):
     assert "NOT TRIED: 1 tests, since --without names node\n" in run_pytest(tmp_path, text, "--without=node").stdout
 
 
+def test_a_failure_names_the_seed(tmp_path):
+    said = [run_pytest(tmp_path / end, RUN + end).stdout for end in ("pass", "assert 0")]
+    assert ["TEST_SEED=0, " in it for it in said] == [False, True], said
+
+
 def test_an_unknown_tool_is_refused(tmp_path):
     ran = run_pytest(tmp_path, RUN + "pass", "--without=nod")
     assert ran.returncode != 0 and "there is no tool nod" in ran.stdout

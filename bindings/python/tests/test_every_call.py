@@ -7,6 +7,7 @@ import ctypes
 import dataclasses
 import io
 import json
+import os
 import pickle
 import random
 import unittest
@@ -26,7 +27,10 @@ PORT_FIELDS = [name for name in SerialState.kinds()]
 
 
 class Drawn(random.Random):
-    """Arguments that are drawn."""
+    """Arguments that are drawn. TEST_SEED gives others, as each commit does."""
+
+    def __init__(self, what):
+        super().__init__(f"{what} of {os.environ.get('TEST_SEED', 0)}")
 
     def moment(self):
         return self.choice([self.randrange(2_000), self.getrandbits(64)])

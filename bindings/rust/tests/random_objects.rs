@@ -24,6 +24,12 @@ const OFFSETS: u64 = 9; // one more than there are registers
 struct Random(u64);
 
 impl Random {
+    /// Those of a test. `TEST_SEED` gives others, as each commit does.
+    fn of(test: u64) -> Random {
+        let seed: u64 = std::env::var("TEST_SEED").map_or(0, |it| it.parse().unwrap());
+        Random(seed << 8 | test)
+    }
+
     fn word(&mut self) -> u64 {
         self.0 = self.0.wrapping_add(0x9E37_79B9_7F4A_7C15);
         let mixed = (self.0 ^ (self.0 >> 30)).wrapping_mul(0xBF58_476D_1CE4_E5B9);
@@ -384,7 +390,7 @@ fn call(random: &mut Random, port: &mut Port, model: &mut Model) -> (String, Str
 
 #[test]
 fn a_port_calls_its_objects_as_the_device_without_io_says_and_returns_their_errors() {
-    let mut random = Random(1);
+    let mut random = Random::of(1);
     let world = World { name: "a line that is borrowed".into(), ..World::default() };
     for _ in 0..ROUNDS / 10 {
         let state = random.port();
@@ -426,7 +432,7 @@ fn a_port_calls_its_objects_as_the_device_without_io_says_and_returns_their_erro
 
 #[test]
 fn a_clock_reports_invalid_accesses_and_nothing_else() {
-    let mut random = Random(2);
+    let mut random = Random::of(2);
     let world = World::default();
     for _ in 0..ROUNDS {
         let snapshot = random.clock();
@@ -459,7 +465,7 @@ fn moment() -> u64 {
 
 #[test]
 fn a_clock_takes_the_hosts_time_in_each_call_that_needs_it() {
-    let mut random = Random(3);
+    let mut random = Random::of(3);
     let world = World::default();
     for _ in 0..ROUNDS / 4 {
         let mut snapshot = random.clock();
@@ -490,7 +496,7 @@ fn a_clock_takes_the_hosts_time_in_each_call_that_needs_it() {
 
 #[test]
 fn a_controller_resets_once_for_the_reset_command_and_returns_a_refusal() {
-    let mut random = Random(4);
+    let mut random = Random::of(4);
     let world = World { name: "reset".into(), ..World::default() };
     for _ in 0..ROUNDS {
         world.begin(&mut random);
@@ -509,7 +515,7 @@ fn a_controller_resets_once_for_the_reset_command_and_returns_a_refusal() {
 
 #[test]
 fn any_state_goes_there_and_back() {
-    let mut random = Random(5);
+    let mut random = Random::of(5);
     for _ in 0..ROUNDS {
         let (state, snapshot) = (random.port(), random.clock());
         let (bytes, of_clock) = (state.to_bytes().unwrap(), snapshot.to_bytes());
@@ -531,7 +537,7 @@ fn any_state_goes_there_and_back() {
 
 #[test]
 fn damaged_bytes_are_refused_or_are_another_state() {
-    let mut random = Random(6);
+    let mut random = Random::of(6);
     for _ in 0..50 {
         let saved = [random.port().to_bytes().unwrap(), random.clock().to_bytes()];
         for bytes in saved {
