@@ -8,6 +8,7 @@ last lines name all that was not tried, and why.
 """
 import os
 import platform
+import random
 from collections import Counter
 from pathlib import Path
 
@@ -42,8 +43,16 @@ def needed(item):
     return {tool for mark in item.iter_markers("needs") for tool in mark.args}
 
 
+@pytest.hookimpl(optionalhook=True)
+def pytest_xdist_setupnodes():
+    """Workers have to find the same names of tests. Some are of a set, whose order is a process's own."""
+    os.environ["PYTHONHASHSEED"] = str(random.randrange(2 ** 32))
+
+
 @pytest.hookimpl(tryfirst=True)
 def pytest_configure(config):
+    if hasattr(config, "workerinput"):   # what a worker runs has an order of its own again
+        del os.environ["PYTHONHASHSEED"]
     if config.getoption("--hypothesis-seed") is None:   # which hypothesis reads after this
         config.option.hypothesis_seed = seed()
     if unknown := left_out(config) - set(TOOLS):

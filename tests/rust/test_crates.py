@@ -90,7 +90,8 @@ def test_on(target, tmp_path):
     """The tests pass in qemu's user mode."""
     _, compiler, emulator = TARGETS[target]
     name = f"CARGO_TARGET_{target.upper().replace('-', '_')}"
-    settings = {f"{name}_LINKER": compiler, f"{name}_RUNNER": f"{emulator} -L /usr/{compiler[:-len('-gcc')]}"}
+    settings = {f"{name}_LINKER": compiler, f"{name}_RUNNER": f"{emulator} -L /usr/{compiler[:-len('-gcc')]}",
+                "CARGO_PROFILE_DEV_OPT_LEVEL": "1"}   # else the emulator takes long
     cargo = copied_crate(tmp_path, toolchain_for(target))
     assert cargo.test("--lib", "--tests", "--target", target, **settings) == number_of_tests(BINDINGS)
 
