@@ -190,7 +190,11 @@ def test_linux_begins(monitor, words):
     assert regions == [(0, LOW_END, 1), (HIGH_START, MEMORY_SIZE - HIGH_START, 1), (0, 0, 0)]
     at = state.number(parameters + 0x228)
     assert state.memory[at:at + WORDS_SIZE + 1].split(b"\0")[0] == words[:WORDS_SIZE - 1].encode()
-    kernel = state.memory[image.pref_address:]
-    assert kernel == b"\xCC" * 5000 + bytes(len(kernel) - 5000)
-    used = sorted([base, state.cr3, first[0] & ~0xFFF, second[0] & ~0xFFF, parameters, at])
-    assert used[-1] + WORDS_SIZE <= LOW_END and len(set(used)) == 6
+    assert state.memory[image.pref_address:image.pref_address + image.size] == b"\xCC" * image.size
+    tables = state.cr3, first[0] & ~0xFFF, second[0] & ~0xFFF
+    rest, used = bytearray(state.memory), [(base, limit + 1), *((it, 4096) for it in tables), (parameters, 4096),
+                                           (at, WORDS_SIZE), (image.pref_address, image.size)]
+    for start, size in used:
+        assert start + size <= LOW_END or start >= HIGH_START
+        rest[start:start + size] = bytes(size)
+    assert not any(rest) and len({start for start, _ in used}) == len(used)
