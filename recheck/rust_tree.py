@@ -202,6 +202,8 @@ class Parser:
             self.eat("{")
             methods = self.items(name)
             self.eat("}")
+            for method in methods if of else ():
+                method.public = True   # as the trait
             return Node("impl", line, owner=name, trait=of, methods=methods)
         elif self.has("const"):
             name = self.name()

@@ -6,17 +6,19 @@ from pathlib import Path
 from rust_tree import BINARY, BUILTIN, INTEGERS, UNIT, WIDTHS, List, Node, Parser, Refused
 
 
+MORE = "from-source/lib.rs"
 OF_COQ = {"Bytes", "FitsSigned", "Forall", "Prop", "Type", "Set", "Bool", "Nat", "List"}
 
 
 # ---- the items of all files
 
 class Crate:
-    """The items of the files of a folder, by their names."""
-    def __init__(self, folder):
+    """The items of the files of a folder, and of one more that uses them, by their names."""
+    def __init__(self, folder, more=None):
         self.consts, self.functions, self.types, self.traits, self.impls, self.variants = {}, {}, {}, {}, {}, set()
         self.scopes, folder = {}, Path(folder)
         parsers = [Parser(file.read_text(), file.relative_to(folder)) for file in sorted(folder.rglob("*.rs"))]
+        parsers += [Parser(more, Path(MORE))] if more else []
         for parser in parsers:
             items = parser.items()
             if parser.next:
@@ -30,7 +32,7 @@ class Crate:
 
     def check_modules(self, parsers):
         """Cargo compiles the files that `mod` names, and these are all that are here."""
-        named = {Path("mod.rs") if Path("mod.rs") in self.scopes else Path("lib.rs")}
+        named = {Path("mod.rs") if Path("mod.rs") in self.scopes else Path("lib.rs")} | {Path(MORE)} & set(self.scopes)
         for parser in parsers:
             folder = parser.file.parent if parser.file.name in ("mod.rs", "lib.rs") else parser.file.with_suffix("")
             named |= {folder / f"{name}.rs" for name in parser.modules}
@@ -520,6 +522,9 @@ class Checker:
 
     def _assign(self, node, want):
         """The value is evaluated before the place, as Rust does for assignments of numbers"""
+        inner = node.place.value if node.place.kind == "deref" else None
+        if inner and inner.kind == "name" and getattr(self.find(inner.name), "mode", None) == "mut":
+            node.place = inner   # all that a parameter refers to
         at_index = node.place.kind == "index"
         if at_index:
             type_ = actual(self.place(node.place.value))

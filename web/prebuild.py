@@ -5,11 +5,14 @@
     web/prebuild.py
 
 Writes prebuilt/wasm32/superio.wasm, its lines in prebuilt/SHA256SUMS and prebuilt/SOURCES, and bindings/js/module.mjs,
-which has its bytes and the tables of the Python package. They are the same on every machine. Needs Debian 12's rustc,
-libstd-rust-dev-wasm32 and lld. Prints nothing if all is well. Otherwise it says why on standard error, and exits 1.
+which has its bytes and the tables of the Python package. They are the same on every machine. It writes what these
+tables have into bindings/js/superio.d.ts: the fields of states, and why bytes are no saved state. Needs Debian 12's
+rustc, libstd-rust-dev-wasm32 and lld. Prints nothing if all is well. Otherwise it says why on standard error, and exits
+1.
 """
 import base64
 import ctypes
+import inspect
 import json
 import re
 import shutil
@@ -30,6 +33,7 @@ TARGET, MODULE = "wasm32-unknown-unknown", "wasm32/superio.wasm"
 # The functions of the module, and the crate of the devices.
 SOURCES, DEVICES = "bindings/c/from-source/src", "bindings/superio/src"
 EMBEDDED = ROOT / "bindings" / "js" / "module.mjs"
+DECLARED = ROOT / "bindings" / "js" / "superio.d.ts"
 # The compiler whose bytes the repository holds, the library of its target, and Debian's packages that have them.
 VERSION, LIBRARY = "rustc 1.63.0\n", DEBIAN_RUSTC.parents[1] / "lib" / "rustlib" / TARGET
 PACKAGES = "Debian 12's rustc, libstd-rust-dev-wasm32 and lld"
@@ -39,8 +43,11 @@ OPTIONS = [*f"--target {TARGET} --edition 2021 -C opt-level=z -C panic=abort -C 
            f"--remap-path-prefix={ROOT}=."]
 MODULE_OPTIONS = """--crate-name superio_c --crate-type cdylib -C lto=fat -C strip=symbols
     -C link-arg=-zstack-size=16384 -C link-arg=--initial-memory=131072""".split()
-# Kinds of numbers, as DataView names them.
+# Kinds of numbers, as DataView names them, and types of fields, as TypeScript does.
 KINDS = {ctypes.c_uint32: "Uint32", ctypes.c_int64: "BigInt64", ctypes.c_uint64: "BigUint64"}
+TYPES = {"int": "number", "bool": "boolean", "bytes": "Uint8Array"}
+# A field of a state in registers.py: its name, type and default, and the comment.
+FIELD = re.compile(r"^    (\w+): (\w+) = ([^#\n]*)(?:# (.*))?$", re.M)
 
 
 def has_compiler():
@@ -60,6 +67,11 @@ def build(place):
              f"{SOURCES}/lib.rs"], cwd=ROOT)
 
 
+def camel(name):
+    """A name of Python as JavaScript has it."""
+    return re.sub("_(.)", lambda found: found[1].upper(), name)
+
+
 def tables():
     """The tables of the Python package, by their names in module.mjs: a register without its text, and with its bits
     from the lowest on; the registers of the port's struct, in their order; of a field of the clock's struct the name,
@@ -70,7 +82,7 @@ def tables():
         del row["about"]
     fields = [(name, getattr(RtcStruct, name).offset, KINDS[kind], isinstance(getattr(RtcState, name), bool))
               for name, kind in RtcStruct._fields_]
-    port = [re.sub("_(.)", lambda found: found[1].upper(), name) for name in SerialState.kinds()]
+    port = [camel(name) for name in SerialState.kinds()]
     return {"ABI": ABI, "CLOCK_SIZE": ctypes.sizeof(RtcStruct), "CLOCK_SAVED_SIZE": RTC_SAVED_SIZE,
             "SAVED_STATE_ERRORS": SAVED_STATE_ERRORS, "PORT_FIELDS": port, "CLOCK_STRUCT": fields,
             "SERIAL_ROWS": serial, "CLOCK_ROWS": clock}
@@ -89,6 +101,19 @@ def embedded():
     return "\n".join([*lines, ""])
 
 
+def declared():
+    """The text of superio.d.ts, with the fields of states and the reasons by the Python package."""
+    text = DECLARED.read_text(encoding="utf-8")
+    for state in (SerialState, RtcState):
+        lines = []
+        for name, kind, default, comment in FIELD.findall(inspect.getsource(state)):
+            lines += [f"  /** {comment[0].upper()}{comment[1:]}. */"] if comment else []
+            lines.append(f"  {camel(name)}: {'bigint' if 'c_int64' in default else TYPES[kind]};")
+        text = re.sub(rf"(?<=interface {state.__name__} {{\n)[^}}]*", "\n".join([*lines, ""]), text)
+    reasons = "".join(f'\n    | "{reason}"' for reason in SAVED_STATE_ERRORS)
+    return re.sub(r"(?<=readonly reason:)[^;]*", reasons, text)
+
+
 def listed():
     """The module's lines of prebuilt/SHA256SUMS and prebuilt/SOURCES, by the name of the file."""
     return {"SHA256SUMS": sums_of(PREBUILT, [MODULE])[0],
@@ -102,6 +127,7 @@ def main():
         sys.exit(f"web/prebuild.py: {built.stdout if built else ''}the module needs {PACKAGES}")
     (PREBUILT / MODULE).chmod(0o644)
     EMBEDDED.write_text(embedded(), encoding="ascii")
+    DECLARED.write_text(declared(), encoding="utf-8")
     for name, line in listed().items():
         replace_lines(PREBUILT / name, [line])
 

@@ -4,7 +4,7 @@
  *
  * A 16550 serial port, a PL031 real-time clock, and an i8042 controller that
  * resets the machine. What a call does to a device is proved, for every
- * argument and every content of its struct.
+ * argument and whatever its struct holds.
  *
  * How it works
  * ------------
@@ -13,8 +13,8 @@
  * pointer, changes it, and returns its effects: what is left for you to do.
  * There are no callbacks and no handles. The library allocates no memory,
  * keeps no state, makes no system calls, and needs no initialisation. Of other
- * libraries it needs only memcpy and memmove. No call fails, except that a
- * load refuses bytes that are not a saved state.
+ * libraries it needs at most memcpy, memmove and memset. No call fails, except
+ * that a load refuses bytes that are not a saved state.
  *
  *     superio_serial port = superio_serial_new();
  *
@@ -63,7 +63,7 @@
  *     for (int i = 0; i < times; i++) {
  *         if (!ask_for_interrupt()) {
  *             is_refused = true;
- *             wake_event_loop(); // in some milliseconds
+ *             retry_in(5); // milliseconds: sets a timer of the event loop
  *             break;
  *         }
  *     }
@@ -73,9 +73,9 @@
  * Rules
  * -----
  *
- * - A device pointer is not NULL. All bytes of its struct are set, by the
- *   device's `new`, by a load or by a copy. A load alone takes one that is not
- *   set; if the load fails, it is still not set.
+ * - A device pointer is not NULL. Set its struct first, by the device's `new`,
+ *   by a load or by a copy. Only a load accepts a struct that is not set. If it
+ *   fails, it leaves the struct as it was.
  * - Any bytes are a valid device. Whatever the struct holds, no call reads or
  *   writes outside it and the bytes that are passed.
  * - The library takes no locks. Calls on one device must not overlap in time:
@@ -92,24 +92,26 @@
  *
  * Lock. Hold the port's lock over each call and what it leaves to you, in the
  * guest's accesses and in turns of the event loop. Otherwise two changes of the
- * interrupt line may change places.
+ * interrupt line may reach your interrupt controller in the wrong order.
  *
  * Accesses. A serial port takes one byte: split a wider access into bytes, the
  * lowest port first. The clock takes four bytes at a multiple of four: answer a
  * narrower read from the four bytes around it, and ignore a narrower write.
  *
- * Input. A driver tests the port before it uses it, and throws away what it
- * finds in the FIFO. So keep input in a queue of your own until the guest is
- * ready: until IER enables RDA and not THRE, as no driver's test of a port
- * does. From then on it stays ready, whatever it enables, until the machine is
- * reset. A guest that polls, such as a boot loader, or that enables RDA only
- * together with THRE, never gets ready in this way: have an option with which
- * it is ready from the start, also after a reset. Bound the queue. While it is
- * full, do not read from its source. Wake the event loop once it has room.
+ * Input. A driver tests the port before it uses it, and throws away some or
+ * all of what it finds in the FIFO. So keep input in a queue of your own until
+ * the guest is ready: until IER enables RDA and not THRE. No driver's test of a
+ * port leaves IER like this. From then on the guest stays ready, whatever it enables, until
+ * the machine is reset. A guest that polls, such as a boot loader, never gets
+ * ready in this way, nor does one that enables RDA only together with THRE:
+ * have an option with which a guest is ready from the start, also after a
+ * reset. Bound the queue. While it is full, do not read from its source. Wake
+ * the event loop once it has room.
  *
  * Offer input at the moments that the sketch shows and at no others: once when
- * it arrives, once when the guest becomes ready, has read the last byte or may
- * have left loopback. Do not offer in a loop, since the guest need not read.
+ * it arrives, and once when the guest becomes ready, has read the last byte or
+ * may have left loopback. Do not offer in a loop, since the guest need not
+ * read.
  *
  * Output. Sending a byte must not wait for its reader, neither in the event
  * loop nor under the lock that input needs. Otherwise two monitors that are
@@ -118,17 +120,19 @@
  * writes to a file that does not block: it polls for room while bytes wait, and
  * has to be woken when the first one is queued. LSR always shows an empty
  * transmitter, so no guest waits by itself until there is room. When the queue
- * is full, either drop the byte and count it, or hold the guest in its access:
- * without the lock, and for a limited time. After that time drop bytes at once,
- * until the reader takes some.
+ * is full, either drop the byte and count it, or hold the guest in its access
+ * for a limited time. To hold it, first ask for the interrupts of the write,
+ * then release the lock, wait for room, and take the lock again. After that
+ * time drop bytes at once, until the reader takes some.
  *
  * Turns. A turn of the event loop comes after each return of its poll. Bound
  * the poll to some milliseconds while an interrupt is refused and, for a guest
  * whose handler does not read IIR until nothing is pending, while bytes are
- * held; and wake the loop when one of the two begins in a guest's access. Such
- * a guest gets one run in each turn. If the guest's handler runs meanwhile, the
- * turn's character timeout may interrupt it once more than there is work for.
- * Linux counts such an interrupt as unhandled, and goes on.
+ * held; and wake the loop when one of the two begins in a guest's access. A
+ * refusal in a turn must not end the next poll at once, or the loop spins. The
+ * handler of such a guest runs about once for each turn. If it runs meanwhile,
+ * the turn's character timeout may interrupt it once more than there is work
+ * for. Linux counts such an interrupt as unhandled, and goes on.
  *
  * A line that takes levels. Set it after every call on the port, also after
  * `new` and a load: the port before it may have left the line up. Call your
@@ -151,9 +155,10 @@
  * firmware as if there were none.
  *
  * A snapshot. A saved port has neither the input and the output that wait, nor
- * whether the guest is ready, nor whether an interrupt was refused: save these
- * beside it. After a load, ask for the interrupt as often as
- * superio_serial_interrupts_due says, or set the level.
+ * whether the guest is ready: save these beside it. For a clock, save `now` too
+ * if it is not the host's time. After a load, ask for the interrupt as often as
+ * superio_serial_interrupts_due says, or set the level. This covers an interrupt
+ * that was refused before the snapshot.
  *
  * Break. The port has none. A guest that sends a break, by bit 0x40 of LCR,
  * sends nothing, and no call gives it one: ignore a break of your terminal, and
@@ -275,9 +280,9 @@ uint32_t superio_abi(void);
  * offset 2 has no effect. The registers are at offsets 0 to 7 from the port's
  * base. Any other offset reads as 0, and a write there has no effect.
  *
- * IIR has a bit for each condition, so 0xC6 is RDA and THRE, where a 16550
- * shows an error of the line. One read of it ends both. A driver that compares
- * IIR with one value may miss THRE.
+ * IIR has a bit for each condition, so 0xC6 means RDA and THRE. On a 16550 it
+ * means an error of the line. One read of IIR ends both conditions. A driver
+ * that compares IIR with one value may miss THRE.
  *
  * The received bytes form a ring: the oldest is at bytes[head % 64], the
  * others follow it, and bytes[0] follows bytes[63]. At most 64 are held: a
@@ -346,7 +351,7 @@ superio_serial_read_effects superio_serial_read(superio_serial *port,
 
 /*
  * The guest writes `value` at `offset`. Afterwards do two things, in this
- * order:
+ * order unless you hold the guest until there is room:
  *
  * 1. If `sends` is true, send the value, without waiting for its reader. If
  *    you report events, report that of the byte: out_byte if it is sent, and
@@ -359,9 +364,12 @@ superio_serial_read_effects superio_serial_read(superio_serial *port,
  * The condition of a refused interrupt stays pending, so no later access asks
  * for it until the guest has acknowledged it. A guest that waits for the
  * interrupt may never do so. If your interrupt can be refused, ask again
- * later, as often as superio_serial_interrupts_due says. Nor does a write to
- * IER ask for a condition that was pending before it. If you raise edges and
- * your controller may lose one, ask that often after a write at offset 1 too.
+ * later, as often as superio_serial_interrupts_due says.
+ *
+ * A write to IER does not ask for a condition that was pending before it. If
+ * you raise edges and your controller may lose one, such as at a masked input,
+ * then after a write at offset 1 ask as often as superio_serial_interrupts_due
+ * says, in place of `interrupts`.
  *
  * `interrupts` is 2 only if a write to IER raises both conditions. If the first
  * of the two is refused, both conditions are pending, and
@@ -454,9 +462,9 @@ bool superio_serial_interrupt_line(const superio_serial *port)
  * load keeps a port coherent.
  *
  * If you restore a port from an untrusted source, you may refuse one that is
- * not coherent. You need not: every call is safe and does its step from any
- * bytes. To refuse only too many bytes, as the Rust crate vm-superio does,
- * compare `len` with 64.
+ * not coherent. This is optional: every call is memory-safe and well defined,
+ * whatever the struct holds. To refuse only too many bytes, as the Rust crate
+ * vm-superio does, compare `len` with 64.
  */
 bool superio_serial_is_coherent(const superio_serial *port)
     SUPERIO_MUST_USE SUPERIO_NONNULL SUPERIO_ACCESS(read_only, 1);
@@ -468,7 +476,7 @@ bool superio_serial_is_coherent(const superio_serial *port)
 /* How many bytes of guest memory a clock occupies, from its base on. */
 #define SUPERIO_RTC_WINDOW 0x1000
 
-/* What superio_rtc_alarm_due returns if the alarm never comes by itself. */
+/* What superio_rtc_alarm_due returns if no access ever finds an alarm due. */
 #define SUPERIO_RTC_NEVER UINT64_MAX
 
 /*
@@ -520,15 +528,16 @@ superio_rtc superio_rtc_new(void) SUPERIO_MUST_USE;
 
 /*
  * The guest reads four bytes at `offset` from the clock's base, at the moment
- * `now`.
+ * `now`. If there is nothing to read at this offset, `invalid_read` is true.
  */
 superio_rtc_read_effects superio_rtc_read(superio_rtc *clock, uint16_t offset,
                                           uint64_t now)
     SUPERIO_NONNULL SUPERIO_ACCESS(read_write, 1);
 
 /*
- * The guest writes `value`, as four bytes, lowest first, at `offset`, at the
- * moment `now`.
+ * The guest writes `value`, as four bytes, lowest first, at `offset` from the
+ * clock's base, at the moment `now`. If this offset takes no write, nothing is
+ * stored, and `invalid_write` is true.
  *
  * A write of 1 at 0x00C (RTCCR) sets guest time to the host's. Linux and U-Boot
  * make it whenever they start, and a PL031 that runs ignores it: to keep a time
@@ -606,7 +615,7 @@ enum superio_saved_state_error {
     SUPERIO_LOAD_TOO_SHORT = 1,         /* fewer bytes than a header */
     SUPERIO_LOAD_NOT_A_SAVED_STATE = 2, /* they begin with another magic */
     SUPERIO_LOAD_OTHER_DEVICE = 3,      /* the state of another device */
-    SUPERIO_LOAD_UNKNOWN_VERSION = 4,   /* the version, at bytes[5], is not 1 */
+    SUPERIO_LOAD_UNKNOWN_VERSION = 4,   /* bytes[5] is another version */
     SUPERIO_LOAD_WRONG_LENGTH = 5,      /* the length is not that of the rest,
                                            or no state of the device has it */
     SUPERIO_LOAD_TOO_MANY_BYTES = 6,    /* a port that holds more than 64 */
@@ -628,16 +637,16 @@ size_t superio_serial_save(
  * changes only if the result is SUPERIO_LOAD_OK. Then ask for the interrupt as
  * often as superio_serial_interrupts_due says.
  *
- * A loaded port holds at most 64 bytes. It need not be coherent:
- * superio_serial_is_coherent tells. `bytes` points to `count` bytes outside the
- * port. If `count` is 0 it may be NULL.
+ * A loaded port holds at most 64 bytes. It need not be coherent: ask
+ * superio_serial_is_coherent. `bytes` points to `count` bytes outside the port.
+ * If `count` is 0 it may be NULL.
  */
 uint32_t superio_serial_load(superio_serial *port, const uint8_t *bytes,
                              size_t count)
     SUPERIO_MUST_USE SUPERIO_NONNULL SUPERIO_COUNTED
     SUPERIO_ACCESS(write_only, 1) SUPERIO_ACCESS(read_only, 2, 3);
 
-/* Saves a clock to all of the bytes. */
+/* Saves a clock: writes all SUPERIO_RTC_SAVED_SIZE bytes. */
 void superio_rtc_save(const superio_rtc *clock,
                       uint8_t bytes[SUPERIO_AT_LEAST(SUPERIO_RTC_SAVED_SIZE)])
     SUPERIO_NONNULL SUPERIO_ACCESS(read_only, 1) SUPERIO_ACCESS(write_only, 2);

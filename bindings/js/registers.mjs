@@ -13,8 +13,8 @@ export class RegisterError extends RangeError {
 const byName = (registers) => Object.fromEntries(registers.map((one) => [one.name, one]));
 
 /**
- * The registers of the serial port by name. `latched` says whether a register is reached while DLAB is set (true),
- * while it is clear (false), or always (null); `access` has r if a read reaches it, and w if a write does.
+ * The registers of the serial port by name. If `latched` is true, an access reaches the register while DLAB is set; if
+ * it is false, while DLAB is clear; if it is null, always. `access` has r if a read reaches it, and w if a write does.
  */
 export const SERIAL = byName(SERIAL_ROWS);
 

@@ -20,7 +20,10 @@ export interface ReadEffects {
 export interface WriteEffects {
   /** The written value goes out. */
   sends: boolean;
-  /** How often to ask for the interrupt, up to the first refusal: 0 to 2 times. What is refused stays pending. */
+  /**
+   * How often to ask for the interrupt, up to the first refusal: 0 to 2 times. A refused interrupt stays pending: ask
+   * again later, as often as `interruptsDue` says.
+   */
   interrupts: number;
 }
 
@@ -36,28 +39,37 @@ export interface EnqueueEffects {
 
 /** The state of a serial port: its registers, of one byte each, and what it holds. */
 export interface SerialState {
+  /** DLL, the low byte of the divisor latch. */
   baudDivisorLow: number;
+  /** DLM, its high byte. */
   baudDivisorHigh: number;
+  /** IER. 0x01 enables RDA, received data available, and 0x02 THRE, transmitter holding register empty. */
   interruptEnable: number;
+  /** IIR without 0xC0. 0x04: RDA is pending, 0x02: THRE is, 0x01: neither is. */
   interruptIdentification: number;
+  /** LCR. 0x80 is DLAB. */
   lineControl: number;
+  /** LSR. 0x01 is data ready. */
   lineStatus: number;
+  /** MCR. 0x10 is loopback. */
   modemControl: number;
+  /** MSR. */
   modemStatus: number;
+  /** SCR. */
   scratch: number;
-  /** The received bytes, oldest first: at most 64. */
+  /** The received bytes that the guest has not read, oldest first: at most 64. */
   inBuffer: Uint8Array;
 }
 
 /** The state of a clock. */
 export interface RtcState {
-  /** The value that was loaded last, or 0. */
+  /** RTCLR: the value that was loaded last, or 0. */
   lr: number;
-  /** The guest time that an alarm waits for. */
+  /** RTCMR: the guest time that an alarm waits for. */
   mr: number;
-  /** The interrupt mask. */
+  /** RTCIMSC, the interrupt mask. */
   imsc: number;
-  /** The raw interrupt status. */
+  /** RTCRIS, the raw interrupt status. */
   ris: number;
   /** How far guest time is ahead of the host's, in seconds: a signed number of 64 bits. */
   offset: bigint;
@@ -69,19 +81,20 @@ export interface RtcState {
 export class Serial {
   /** A new port: divisor 12, 8 bits a character, OUT2 set, and nothing enabled, pending or held. */
   constructor();
-  /**
-   * The guest reads at an offset, 0 to 255. If the offset is 2, IIR, and the byte has bit 0x01, call
-   * `characterTimeout` afterwards.
-   */
+  /** The guest reads at an offset, 0 to 255. If it reads IIR, see `characterTimeout`. */
   read(offset: number | string): ReadEffects;
   /** The guest writes a value, 0 to 255, at an offset, 0 to 255. */
   write(offset: number | string, value: number): WriteEffects;
   /**
-   * Bytes arrive for the guest. Keep those that are not accepted, and offer them again when a read tells
+   * Bytes arrive for the guest. Keep those that are not accepted, and offer them again when a read reports
    * `inBufferEmpty`, or when the guest leaves loopback.
    */
   enqueue(bytes: Uint8Array): EnqueueEffects;
-  /** Raises RDA again if bytes wait without it. Returns how often to ask for the interrupt: 0 or 1 times. */
+  /**
+   * Raises RDA again if bytes are held, IER enables RDA and RDA is not pending. Otherwise nothing changes. Returns how
+   * often to ask for the interrupt: 0 or 1 times. Make the call after each guest read of offset 2 whose byte has bit
+   * 0x01, and in each turn of your event loop.
+   */
   characterTimeout(): number;
   /** How many bytes there is room for: 64 less those that are held. */
   fifoCapacity(): number;
@@ -92,13 +105,17 @@ export class Serial {
    * takes levels, set your line to it after every call, reads among them.
    */
   interruptLine(): boolean;
-  /** Whether the port is coherent, as a new one is and stays. A restored one need not be, and is safe anyway. */
+  /**
+   * Whether the port is coherent: LSR shows data ready exactly while bytes are held, IIR is 1, 2, 4 or 6, and RDA is
+   * pending only while bytes are held. A new port is coherent, and stays so. A restored one need not be, and is safe
+   * all the same.
+   */
   isCoherent(): boolean;
   /** The port as a saved state, which `fromBytes` and the other languages read on any machine. */
   toBytes(): Uint8Array;
   /**
    * The port of a saved state. Afterwards ask for the interrupt as often as `interruptsDue` says. Throws a
-   * SavedStateError if the bytes are none.
+   * SavedStateError if the bytes are not the saved state of a serial port.
    */
   static fromBytes(bytes: Uint8Array): Serial;
   /** The registers and the held bytes, as a plain object. */
@@ -110,23 +127,29 @@ export class Serial {
 }
 
 /**
- * A PL031 real-time clock, which counts seconds. It reads no clock of the host: each access is given its moment `now`,
- * in seconds since 1970, of 64 bits.
+ * A PL031 real-time clock, which counts seconds. It reads no clock of the host: you pass each access its moment `now`,
+ * in seconds since 1970, from 0 to 2 ** 64 - 1.
  */
 export class Rtc {
   /** A new clock: guest time is the host's, and no alarm is set. */
   constructor();
-  /** The guest reads four bytes at an offset, 0 to 0xFFFF. */
+  /**
+   * The guest reads four bytes at an offset, 0 to 0xFFFF. `value` is their number, lowest byte first. If there is
+   * nothing to read at this offset, `invalidRead` is true and `value` is 0.
+   */
   read(offset: number | string, now: number | bigint): { value: number; invalidRead: boolean };
-  /** The guest writes a value of 32 bits at an offset, 0 to 0xFFFF. */
+  /** The guest writes a value of 32 bits at an offset, 0 to 0xFFFF. `invalidWrite`: this offset takes no write. */
   write(offset: number | string, value: number, now: number | bigint): { invalidWrite: boolean };
-  /** Whether the clock's interrupt line is up. Look after each access, and when the alarm is due. */
+  /** Whether the clock's interrupt line is up: bit 0 of `ris & imsc`. Set your line to it after each access. */
   interruptLine(): boolean;
-  /** In how many seconds the alarm is due if the guest does nothing, or null if it never is. */
+  /**
+   * In how many seconds an access finds the alarm reached, if the guest makes none before: less than 2 ** 32. Null if
+   * no alarm is set, or if guest time never reaches the match. Set a timer, and make an access when it goes off.
+   */
   alarmDue(now: number | bigint): number | null;
   /** The clock as a saved state, which `fromBytes` and the other languages read on any machine. */
   toBytes(): Uint8Array;
-  /** The clock of a saved state. Throws a SavedStateError if the bytes are none. */
+  /** The clock of a saved state. Throws a SavedStateError if the bytes are not the saved state of a clock. */
   static fromBytes(bytes: Uint8Array): Rtc;
   /** The registers, the offset and the alarm, as a plain object. */
   readonly state: RtcState;
@@ -147,9 +170,15 @@ export class I8042 {
 /** No register has this name, or an access would reach another one. */
 export class RegisterError extends RangeError {}
 
-/** Bytes are not the saved state of this device. The message says why, in the same words as in every language. */
+/** Bytes are not the saved state of this device. The message gives the reason, with the same text in every language. */
 export class SavedStateError extends Error {
   /** Why, in the words of a script. */
-  readonly reason: "too short" | "not a saved state" | "other device" | "unknown version" | "wrong length" |
-    "too many bytes" | "invalid armed";
+  readonly reason:
+    | "too short"
+    | "not a saved state"
+    | "other device"
+    | "unknown version"
+    | "wrong length"
+    | "too many bytes"
+    | "invalid armed";
 }

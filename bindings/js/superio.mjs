@@ -3,8 +3,8 @@
  * Emulated legacy devices for virtual machine monitors, over proved code: a 16550 serial port (`Serial`), a PL031
  * real-time clock (`Rtc`) and an i8042 reset controller (`I8042`).
  *
- * superio.d.ts says what each call does, takes and returns. Each makes the call of that name of superio.h, compiled to
- * WebAssembly, on a copy of the device's struct. A wrong argument throws an error that names it, and changes nothing.
+ * superio.d.ts documents each call. A call runs the function of superio.h with its name, compiled to WebAssembly, on a
+ * copy of the device's struct. A wrong argument throws an error that names it, and changes nothing.
  */
 import text, { ABI, CLOCK_SAVED_SIZE, CLOCK_SIZE, CLOCK_STRUCT, PORT_FIELDS, SAVED_STATE_ERRORS } from "./module.mjs";
 import { RegisterError, clockOffset, serialOffset } from "./registers.mjs";
@@ -75,14 +75,14 @@ function checkState(value) {
   if (typeof value !== "object" || value === null) refuse(TypeError, "state", value, "an object is wanted");
 }
 
-/** Puts bytes where a call reads them. Returns how many it is told of. */
+/** Puts bytes where a call reads them. Returns the count to pass with them. */
 function pass(bytes) {
   const some = byteArray("bytes", bytes).subarray(0, LONGEST);
   memory.set(some, PASSED);
   return some.length;
 }
 
-/** Bytes are not the saved state of this device. `reason` says why, in the words of a script. */
+/** Bytes are not the saved state of this device. `reason` is the reason, as a script replies it. */
 export class SavedStateError extends Error {
   name = "SavedStateError";
 
@@ -199,7 +199,7 @@ const OF_KIND = {
 const offsetOfClock = (offset) =>
   typeof offset === "string" ? clockOffset(offset) : whole("offset", offset, 0, 0xffff);
 
-/** A PL031 real-time clock, which counts seconds. It reads no clock of the host: each access is given its moment. */
+/** A PL031 real-time clock, which counts seconds. It reads no clock of the host: you pass each access its moment. */
 export class Rtc {
   #bytes = new Uint8Array(CLOCK_SIZE);
   #view = new DataView(this.#bytes.buffer);

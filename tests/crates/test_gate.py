@@ -16,7 +16,7 @@ def test_crates():
 
 def test_numbers():
     assert number_of_edits() >= 91
-    assert number_of_tests() >= 162
+    assert number_of_tests() >= 169
 
 
 def test_stored_output():

@@ -1,15 +1,16 @@
 # SPDX-License-Identifier: Apache-2.0 OR BSD-3-Clause
 """What a script is made on, by docs/SCRIPT.md: the devices of a model, an interrupt line, an output, and saved
 states."""
+from functools import partial
 from struct import Struct
 
 import oracle
+from oracle import CLOCK_FIELDS, FIFO_SIZE, FRESH
 
 ROOM = 256                           # bytes that the output takes
 SERIAL, CLOCK = 1, 2                 # the kinds of saved states
-REGISTERS, FIFO_SIZE = 9, 64
-CLOCK_CONTENTS = Struct("<IIIIqb")   # LR, MR, IMSC, RIS, offset, armed
-CLOCK_FIELDS = "LR", "MR", "IMSC", "RIS", "offset", "armed"
+REGISTERS = len(FRESH)
+CLOCK_CONTENTS = Struct("<" + "".join(CLOCK_FIELDS.values()))
 
 
 def saved(kind, contents):
@@ -33,9 +34,25 @@ def fault(kind, data):
     return next((words for words, is_so in checks if is_so), "ok")
 
 
+BYTES = "1 to 128 bytes, which may be left out"
+# The lines by their names: the call, and how many digits each of its numbers has, or that it has bytes.
+PROGRAM_LINES, FURTHER_LINES = {}, {}
+
+
+def script_line(name, *digits, lines=PROGRAM_LINES):
+    """Makes a method the call of a line of the program."""
+    def known(method):
+        lines[name] = (method.__name__, *digits)
+        return method
+    return known
+
+
+further_line = partial(script_line, lines=FURTHER_LINES)   # of a line that the program refuses, and other boards have
+
+
 class Board:
     """The devices of a model, `oracle` or `model`. The interrupt line refuses the calls of a mask, and the output takes
-    256 bytes. Each call of a script is a method, which returns its reply."""
+    256 bytes. Each line of a script is a method, which returns its reply."""
 
     def __init__(self, devices=oracle):
         self.devices, self.mask, self.output, self.did = devices, 0, b"", []
@@ -64,67 +81,86 @@ class Board:
 
     # The calls of a script
 
+    @script_line("refuse", 16)
     def refuse(self, mask):
         self.mask = mask
 
+    @script_line("sr", 2)
     def serial_read(self, offset):
         return self.port.read(offset)
 
+    @script_line("sw", 2, 2)
     def serial_write(self, offset, value):
         return self.port.write(offset, value)
 
+    @script_line("sq", BYTES)
     def enqueue(self, data=b""):
         return self.port.enqueue(data)
 
+    @further_line("si")
     def timeout(self):
         return self.port.character_timeout()
 
+    @script_line("sc")
     def capacity(self):
         return f"{self.port.room():02x}"
 
+    @script_line("sd")
     def drain(self):
         return self.port.drain()
 
+    @script_line("ss")
     def restore(self, *start):
         before, reply = len(self.did), self.port.restore(*start)
         if reply == "trigger":
             del self.did[before:]   # the calls of a restore that was refused do not count
         return reply
 
+    @further_line("sb")
     def save(self):
         return saved(SERIAL, self.port.state() + self.port.held()).hex()
 
+    @further_line("sl", BYTES)
     def load(self, data=b""):
         words = fault(SERIAL, data)
         return self.restore(data[8:17], data[17:]) if words == "ok" else words
 
+    @script_line("so")
     def sent(self):
         return self.output.hex()
 
+    @script_line("st")
     def interrupts(self):
         return f"{self.count('TR'):016x}"
 
+    @script_line("se")
     def events(self):
         return " ".join(f"{self.count(event):016x}" for event in "bole")
 
+    @script_line("cr", 16, 4)
     def clock_read(self, now, offset):
         value = self.clock.access(now, offset)
         return "invalid" if value is None else f"{value:08x}"
 
+    @script_line("cw", 16, 4, 8)
     def clock_write(self, now, offset, value):
         return "invalid" if self.clock.access(now, offset, value) is None else "ok"
 
+    @further_line("cb")
     def clock_save(self):
         return saved(CLOCK, CLOCK_CONTENTS.pack(*self.clock.state().values())).hex()
 
+    @further_line("cl", BYTES)
     def clock_load(self, data=b""):
         words = fault(CLOCK, data)
         if words == "ok":
             self.clock = self.devices.Clock(**dict(zip(CLOCK_FIELDS, CLOCK_CONTENTS.unpack(data[8:]))))
         return words
 
+    @script_line("kr", 2)
     def controller_read(self, offset):
         return "00"
 
+    @script_line("kw", 2, 2)
     def controller_write(self, offset, value):
         return "reset" if (offset, value) == (4, 0xFE) else "ok"

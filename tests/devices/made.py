@@ -1,17 +1,19 @@
 # SPDX-License-Identifier: Apache-2.0 OR BSD-3-Clause
 """Random calls and scripts from a seed, broken lines, damaged saved states, and the fewest of some calls that still
 differ. A call is a name of board.Board and its arguments."""
+import random
+from functools import partial
 
-from board import CLOCK, CLOCK_CONTENTS, FIFO_SIZE, REGISTERS, SERIAL, saved
-from oracle import CLOCK_AT
-from script import LINES, line_of, script_of, syntax_of
+from board import BYTES, CLOCK, CLOCK_CONTENTS, FIFO_SIZE, REGISTERS, SERIAL, saved
+from oracle import CLOCK_AT, CLOCK_FIELDS
+from script import LINES, PROGRAM_LINES, line_of, script_of, syntax_of
 from seeds import random_source
 
 MOST_CALLS = 36
 # What a script shows of its devices at its end, by the program's lines: all that reads show, before and after the
 # pending interrupts are asked for again, with the divisor, and then the bytes.
 ENDS = [("sent",), ("interrupts",), ("events",), ("capacity",)]
-CLOCK_SHOWN = [("clock_read", 5, offset) for offset in (0x04, 0x08, 0x10, 0x14, 0x18)]
+CLOCK_SHOWN = [("clock_read", 5, offset) for offset in CLOCK_AT]
 SHOWN = [*ENDS, ("serial_read", 3), ("serial_write", 3, 0x03), *(("serial_read", it) for it in (1, 4, 5, 6, 7)),
          ("restore",), ("interrupts",), ("serial_read", 2), ("serial_write", 3, 0x83), ("serial_read", 0),
          ("serial_read", 1), ("serial_write", 3, 0x03), ("drain",), ("events",), *CLOCK_SHOWN,
@@ -52,10 +54,11 @@ def port_state(source):
 
 
 def clock_state(source):
-    """Any LR, MR, IMSC, RIS, offset and armed."""
+    """Any state of a clock, by the formats of its fields."""
     offset = source.choice([number(source) - number(source), source.getrandbits(64) - 2**63,
                             2**63 - 1 - number(source)])
-    return *(number(source) for _ in range(4)), offset, source.randrange(2)
+    return {name: {"I": number(source), "q": offset, "b": source.randrange(2)}[kind]
+            for name, kind in CLOCK_FIELDS.items()}
 
 
 def saved_port(source):
@@ -63,7 +66,7 @@ def saved_port(source):
 
 
 def saved_clock(source):
-    return saved(CLOCK, CLOCK_CONTENTS.pack(*clock_state(source)))
+    return saved(CLOCK, CLOCK_CONTENTS.pack(*clock_state(source).values()))
 
 
 def spoilt(source):
@@ -93,18 +96,11 @@ PORT_CALLS = [
     (2, lambda source: ("serial_write", source.randrange(10), byte(source))),
     (3, lambda source: ("enqueue", data(source))),
 ]
-# What the program's scripts have besides, and what those of a board have.
-PORT_SCRIPT_CALLS = [*PORT_CALLS, *((1, lambda source, it=it: it) for it in (
-    ("capacity",), ("drain",), ("restore",), ("sent",), ("interrupts",), ("events",)))]
-PORT_BOARD_CALLS = [*PORT_SCRIPT_CALLS, (2, lambda source: ("timeout",)), (1, lambda source: ("save",)),
-                    (1, lambda source: ("load", saved_port(source)))]
 CLOCK_CALLS = [
     (3, lambda source: ("clock_read", moment(source), 0x00)),
     (6, lambda source: ("clock_read", moment(source), clock_offset(source))),
     (8, lambda source: ("clock_write", moment(source), clock_offset(source), number(source))),
 ]
-CLOCK_BOARD_CALLS = [*CLOCK_CALLS, (1, lambda source: ("clock_save",)),
-                     (1, lambda source: ("clock_load", saved_clock(source)))]
 CONTROLLER_CALLS = [
     (1, lambda source: ("controller_read", byte(source))),
     (4, lambda source: ("controller_write", source.choice([4, 4, byte(source)]), source.choice([0xFE, byte(source)]))),
@@ -113,6 +109,23 @@ CONTROLLER_CALLS = [
 
 def clock_offset(source):
     return source.choice([*CLOCK_AT, 0xFE3, 0x21, source.getrandbits(16)])
+
+
+def any_call(call, kinds, source):
+    """A call with random numbers, and bytes that may be a saved state."""
+    makes = {"load": saved_port, "clock_load": saved_clock}.get(call, data)
+    return call, *(makes(source) if it == BYTES else source.getrandbits(4 * it) for it in kinds)
+
+
+def with_each_line(table, device, lines):
+    """A table of calls, with each other line of a device, which is the letter that its name begins with."""
+    own = {make(random.Random(0))[0] for _, make in table}
+    return [*table, *((1, partial(any_call, call, kinds)) for name, (call, *kinds) in lines.items()
+                      if name[0] == device and call not in own)]
+
+
+PORT_SCRIPT_CALLS, PORT_BOARD_CALLS = (with_each_line(PORT_CALLS, "s", it) for it in (PROGRAM_LINES, LINES))
+CLOCK_BOARD_CALLS = with_each_line(CLOCK_CALLS, "c", LINES)
 
 
 def drawn(source, table, count):
@@ -129,7 +142,7 @@ def port_used(source):
 
 
 def clock_used(source):
-    return [("clock_write", moment(source), offset, number(source)) for offset in (0x08, 0x10, 0x04)]
+    return [("clock_write", moment(source), offset, number(source)) for offset in reversed(CLOCK_AT)]
 
 
 def random_calls(source, is_for_program=False):

@@ -1,20 +1,16 @@
 # SPDX-License-Identifier: Apache-2.0 OR BSD-3-Clause
 """The devices in plain Python, step by step, as docs/DEVICES.md has them: fast, and easy to read.
 
-Its port and its clock have the calls of those in oracle.py, which search the past instead. It is written from the page,
-and not from the code.
+Its port and its clock have the calls of those in oracle.py, which search the past instead, and the map of registers
+that is there. It is written from the page, and not from the code.
 """
-FIFO_SIZE = 64
-RDA, THRE, NONE = 0x04, 0x02, 0x01             # of IIR
-ENABLED_BY = {RDA: 0x01, THRE: 0x02}           # in IER
-DLAB, LOOPBACK, READY, FIFO_BITS = 0x80, 0x10, 0x01, 0xC0   # of LCR, of MCR, of LSR, and of what a guest reads of IIR
-FRESH = {"DLL": 0x0C, "DLM": 0, "IER": 0, "IIR": NONE, "LCR": 0x03, "LSR": 0x60, "MCR": 0x08, "MSR": 0xB0, "SCR": 0}
-BY_OFFSET = ["RBR", "IER", "IIR", "LCR", "MCR", "LSR", "MSR", "SCR"]
-LOOPED = {0x01: 0x20, 0x02: 0x10, 0x04: 0x40, 0x08: 0x80}   # DTR as DSR, RTS as CTS, OUT1 as RI, OUT2 as DCD
+import oracle
+from oracle import (BITS, BY_OFFSET, CLOCK_AT, CLOCK_FIELDS, DLAB, FIFO_BITS, FIFO_SIZE, FRESH, IDENTIFICATION,
+                    IER_MASK, LOOPBACK, LOOPED, READ_ONLY)
 
-CLOCK_FIELDS = ["LR", "MR", "IMSC", "RIS", "offset", "armed"]
-CLOCK_AT = {0x00: "DR", 0x04: "MR", 0x08: "LR", 0x0C: "CR", 0x10: "IMSC", 0x14: "RIS", 0x18: "MIS", 0x1C: "ICR"}
-IDENTIFICATION = bytes.fromhex("31 10 04 00 0d f0 05 b1")
+RDA, THRE, NONE = BITS["IIR"].values()
+READY = BITS["LSR"]["READY"]
+ENABLED_BY = {BITS["IIR"][name]: bit for name, bit in oracle.ENABLED_BY.items()}
 
 
 class Port:
@@ -70,7 +66,7 @@ class Port:
         if name in ("DLL", "DLM", "LCR", "MCR", "SCR"):
             self.registers[name] = value
         if name == "IER":
-            self.registers["IER"] = value & 0x0F
+            self.registers["IER"] = value & IER_MASK
             return "ok" if self.raises(*[RDA] * bool(self.bytes), THRE) else "trigger"
         return "ok"
 
@@ -144,14 +140,18 @@ class Clock:
             if 0xFE0 <= offset < 0x1000:
                 return IDENTIFICATION[(offset - 0xFE0) // 4]
             return {**fields, "DR": time, "CR": 1, "MIS": fields["RIS"] & fields["IMSC"]}.get(name)
+        if name is None or name in READ_ONLY:
+            return None
         if name == "MR":
             fields.update(MR=value, armed=int(value > time), RIS=fields["RIS"] | (value == time))
         elif name == "LR":
             fields.update(LR=value, offset=value - host)
-        elif name == "CR" and value == 1:
-            fields.update(LR=0, offset=0)
+        elif name == "CR":
+            fields.update({"LR": 0, "offset": 0} if value == 1 else {})
         elif name == "IMSC":
             fields["IMSC"] = value & 1
         elif name == "ICR":
             fields["RIS"] &= ~value
-        return 0 if name in ("MR", "LR", "CR", "IMSC", "ICR") else None
+        else:
+            fields[name] = value
+        return 0

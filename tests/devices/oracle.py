@@ -4,9 +4,18 @@
 There are no registers, and no rule is shared with the definitions that the proofs use. Of each call a fact is kept:
 what it wrote, raised and acknowledged, and which bytes were accepted and read out. What a call shows is found by a
 search of the facts before it. A search ends at the latest at the newest start state, a fact of the past too.
-docs/DEVICES.md has the rules.
+docs/DEVICES.md has the rules, and the map of the clock's registers.
 """
+import re
 from typing import NamedTuple
+
+from harness import ROOT, at_least
+
+
+def section(page, heading):
+    """What a page of docs has below a heading."""
+    return (ROOT / "docs" / f"{page}.md").read_text(encoding="utf-8").split(f"\n## {heading}\n")[1].split("\n## ")[0]
+
 
 FIFO_SIZE = 64
 DLAB, LOOPBACK, FIFO_BITS = 0x80, 0x10, 0xC0   # of LCR, of MCR, and of what a guest reads of IIR
@@ -16,12 +25,18 @@ BY_OFFSET = ["RBR", "IER", "IIR", "LCR", "MCR", "LSR", "MSR", "SCR"]
 # The bits of registers that are facts of their own: the two conditions, that none is pending, and data ready.
 BITS = {"IIR": {"RDA": 0x04, "THRE": 0x02, "NONE": 0x01}, "LSR": {"READY": 0x01}}
 ENABLED_BY = {"RDA": 0x01, "THRE": 0x02}
+IER_MASK = 0x0F   # the bits that IER keeps
 # The outputs of MCR, DTR, RTS, OUT1 and OUT2, each with the input of MSR that shows it in loopback.
-LOOPED = [(0x01, 0x20), (0x02, 0x10), (0x04, 0x40), (0x08, 0x80)]
+LOOPED = {0x01: 0x20, 0x02: 0x10, 0x04: 0x40, 0x08: 0x80}
 
-# The fields of a clock, in the order of a saved state, each with the format of its number there, as struct has it.
-CLOCK_FIELDS = {"LR": "I", "MR": "I", "IMSC": "I", "RIS": "I", "offset": "q", "armed": "b"}
-CLOCK_AT = {0x00: "DR", 0x04: "MR", 0x08: "LR", 0x0C: "CR", 0x10: "IMSC", 0x14: "RIS", 0x18: "MIS", 0x1C: "ICR"}
+# The clock's registers by docs/DEVICES.md: the offset, the name, and what a write does.
+CLOCK_ROWS = at_least(8, re.findall(r"^\| 0x(\w+) \| RTC(\w+), .* \| (.*) \|$", section("DEVICES", "The clock"), re.M))
+CLOCK_AT = {int(offset, 16): name for offset, name, _ in CLOCK_ROWS}
+READ_ONLY = {name for _, name, write in CLOCK_ROWS if write == "is invalid"}
+# The fields of a clock by docs/SAVED-STATES.md, in their order, each with the format of its number, as struct has it.
+FORMATS = {"1": "b", "4": "I", "8": "q"}
+CLOCK_FIELDS = {register or field: FORMATS[size] for size, field, register in at_least(6, re.findall(
+    r"^\| \d+ \| (\d) \| `(\w+)`(?:, RTC(\w+))?", section("SAVED-STATES", "A clock"), re.M))}
 IDENTIFICATION = bytes.fromhex("31 10 04 00 0d f0 05 b1")   # from 0xFE0 on, at four offsets each
 
 
@@ -115,7 +130,7 @@ class Port(Device):
             shown |= FIFO_BITS
         if name == "MSR" and self.is_looped():
             outputs = self.last("MCR")
-            shown = shown & 0x0F | sum(seen for bit, seen in LOOPED if outputs & bit)
+            shown = shown & 0x0F | sum(seen for bit, seen in LOOPED.items() if outputs & bit)
         return f"{shown:02x}"
 
     def read_out(self):
@@ -132,7 +147,7 @@ class Port(Device):
             return self.receive(bytes([value])[:self.room()], "ok") if self.is_looped() else self.send(value)
         if name == "IER":
             raised, is_taken = self.raised(["RDA", "THRE"] if self.held() else ["THRE"], value)
-            return self.done("ok", {"IER": value & 0x0F} | raised, is_taken)
+            return self.done("ok", {"IER": value & IER_MASK} | raised, is_taken)
         return self.done("ok", {name: value} if name in ("DLL", "DLM", "LCR", "MCR", "SCR") else {})
 
     def send(self, value):
@@ -205,9 +220,8 @@ class Clock(Device):
         name, found = CLOCK_AT.get(offset), {"RIS": 1, "armed": 0} if is_reached else {}
         if value is None:
             self.past.append(Fact(found))
-            status, mask = self.raw_status(), self.last("IMSC")
-            shown = {"DR": guest_time, "MR": self.last("MR"), "LR": self.last("LR"), "CR": 1, "IMSC": mask,
-                     "RIS": status, "MIS": status & mask}
+            state = self.state()
+            shown = {**state, "DR": guest_time, "CR": 1, "MIS": state["RIS"] & state["IMSC"]}
             return shown.get(name, IDENTIFICATION[offset - 0xFE0 >> 2] if 0xFE0 <= offset < 0x1000 else None)
         writes = {
             "MR": {"MR": value, "armed": int(value > guest_time)} | ({"RIS": 1} if value == guest_time else {}),
@@ -215,5 +229,6 @@ class Clock(Device):
             "CR": {"LR": 0, "offset": 0} if value == 1 else {},
             "IMSC": {"IMSC": value & 1},
             "ICR": {"cleared": value}}
-        self.past.append(Fact(found | writes.get(name, {})))
-        return 0 if name in writes else None
+        is_taken = name is not None and name not in READ_ONLY
+        self.past.append(Fact(found | writes.get(name, {name: value} if is_taken else {})))
+        return 0 if is_taken else None

@@ -6,7 +6,7 @@ import random
 import re
 from itertools import product
 
-from board import CLOCK_FIELDS, FIFO_SIZE, Board
+from board import FIFO_SIZE, Board
 from harness import ROOT
 from made import CLOCK_CALLS, CONTROLLER_CALLS, PORT_CALLS, clock_state, drawn, port_state
 from script import call_of, line_of
@@ -23,8 +23,10 @@ def port_text(registers, held):
     return f"{registers.hex()} {held.hex() or '-'}"
 
 
-def clock_text(lr, mr, imsc, ris, offset, armed):
-    return f"{lr:08x} {offset} {mr:08x} {imsc:08x} {ris:08x}{' armed' * armed}"
+def clock_text(state):
+    """The five fields of vm-superio's clocks, and the alarm."""
+    numbers = (f"{state[name]:08x}" for name in ("MR", "IMSC", "RIS"))
+    return " ".join([f"{state['LR']:08x}", str(state["offset"]), *numbers, *["armed"] * state["armed"]])
 
 
 class Recorder(Board):
@@ -71,11 +73,11 @@ class Recorder(Board):
         return f"{port_text(port.state(), port.held())} {port.room():02x}" if reply == "ok" else reply
 
     def call_cs(self):
-        return clock_text(*self.clock.state().values())
+        return clock_text(self.clock.state())
 
     def call_cl(self, lr, offset, mr, imsc, ris, *armed):
-        values = *(int(digits, 16) for digits in (lr, mr, imsc, ris)), int(offset), len(armed)
-        self.clock = self.devices.Clock(**dict(zip(CLOCK_FIELDS, values)))
+        numbers = {name: int(digits, 16) for name, digits in (("LR", lr), ("MR", mr), ("IMSC", imsc), ("RIS", ris))}
+        self.clock = self.devices.Clock(**numbers, offset=int(offset), armed=len(armed))
         return self.call_cs()
 
 
@@ -115,7 +117,7 @@ def random_run(source):
     table = {"s": [*PORT_CALLS, *own], "c": CLOCK_CALLS, "k": CONTROLLER_CALLS}[kind]
     calls = ["sq -" if line == "sq" else line for line in (line_of(*call) for call in drawn(source, table, RUN))]
     if kind == "c":
-        return [f"cl {clock_text(*clock_state(source))}",
+        return [f"cl {clock_text(clock_state(source))}",
                 *(source.choice(["cs", *[call] * 17]) for call in calls)]
     start = [f"sl {port_text(*port_state(source))}"] if kind == "s" else []
     if kind == "s":

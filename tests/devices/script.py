@@ -1,20 +1,9 @@
 # SPDX-License-Identifier: Apache-2.0 OR BSD-3-Clause
-"""The lines of scripts, by docs/SCRIPT.md, and the calls of a board that they stand for: a name and its arguments."""
+"""Scripts as text, by docs/SCRIPT.md, and as calls of a board, each a name and its arguments."""
 import re
 
-from board import Board
+from board import BYTES, FURTHER_LINES, PROGRAM_LINES, Board
 
-BYTES = "1 to 128 bytes, which may be left out"
-# Beside each line the call, and how many digits its numbers have, or that it has bytes.
-PROGRAM_LINES = {
-    "sr": ("serial_read", 2), "sw": ("serial_write", 2, 2), "sq": ("enqueue", BYTES), "sc": ("capacity",),
-    "sd": ("drain",), "ss": ("restore",), "so": ("sent",), "st": ("interrupts",), "se": ("events",),
-    "cr": ("clock_read", 16, 4), "cw": ("clock_write", 16, 4, 8), "kr": ("controller_read", 2),
-    "kw": ("controller_write", 2, 2), "refuse": ("refuse", 16),
-}
-# Those that the program refuses, and boards of the Python package and of the page have.
-FURTHER_LINES = {"si": ("timeout",), "sb": ("save",), "sl": ("load", BYTES), "cb": ("clock_save",),
-                 "cl": ("clock_load", BYTES)}
 LINES = {**PROGRAM_LINES, **FURTHER_LINES}
 NAMES = {call: name for name, (call, *_) in LINES.items()}
 

@@ -14,7 +14,7 @@ import subprocess
 import tempfile
 
 import pytest
-from harness import at_least
+from harness import at_least, check
 from script_tests import TESTS, Script, scripts_of
 
 pytestmark = pytest.mark.needs("kit")
@@ -24,6 +24,21 @@ FORM = next(scripts_of(TESTS / "scripts.txt"))   # of every form of line
 LONGEST_BAD = Script("longest", b"kr 04\n" * 10_922 + b"kr 0", b"00\n" * 10_922, "bad line 10923")
 BAD_LATER = Script("bad later", b"kr 04\nkr 5\n", b"00\n", "bad line 2")
 TOO_LONG = Script("too long", b"kr 04\n" * 12_000, b"", "script too long")
+# Loaded before the C library, it fails the first write to standard output.
+FAILS_ONCE = """
+#include <errno.h>
+#include <sys/syscall.h>
+#include <unistd.h>
+
+ssize_t write(int file, const void *bytes, size_t count)
+{
+    static int outputs;
+    if (file != STDOUT_FILENO || outputs++ > 0)
+        return syscall(SYS_write, file, bytes, count);
+    errno = EAGAIN;
+    return -1;
+}
+"""
 
 
 def ended(command, **options):
@@ -103,6 +118,16 @@ def test_output_has_room(program, script, room):
 @pytest.mark.parametrize("script", [FORM, BAD_LATER, LONGEST_BAD], ids=lambda it: getattr(it, "place", it))
 def test_no_output(program, script, output):
     assert not fault(script).difference(redirected(program, script.script, output))
+
+
+@pytest.mark.needs("cc")
+@pytest.mark.parametrize("script", [FORM, BAD_LATER], ids=lambda it: it.place)
+def test_a_write_fails_once(program, script, tmp_path):
+    """A fault is reported, although what was to be written goes out as the program ends."""
+    library = tmp_path / "fails_once.so"
+    check(["cc", "-shared", "-fPIC", "-D_GNU_SOURCE", "-x", "c", "-", "-o", library], "", input=FAILS_ONCE)
+    got = ended([program], input=script.script, env={"LD_PRELOAD": str(library)})
+    assert not fault(script, len(script.replies)).difference(got)
 
 
 @pytest.mark.parametrize("wrong", ["true", "cat"])

@@ -1,5 +1,5 @@
 # SPDX-License-Identifier: Apache-2.0 OR BSD-3-Clause
-"""Random calls from seeds, by the program, the C library and the Python package, and by both models: the search of the
+"""Random calls from seeds, by the program, the Python package over both C libraries, and both models: the search of the
 past in oracle.py, and the steps of model.py. Each commit has other seeds. A failure shows the fewest calls that differ,
 as a script to paste into the program, an issue or a file of tests/data.
 """
@@ -16,7 +16,9 @@ from made import SAVED, SHOWN, broken_lines, fewest, random_calls, random_script
 from script import FURTHER_LINES, LINES, PROGRAM_LINES, replies_of, run_script, script_of
 from script_tests import Script
 from seeds import seeds
-from sides import CBoard, PythonBoard, run
+from sides import PythonBoard, run
+
+from superio.library import VARIABLE, open_library
 
 FOR_PROGRAM, FOR_BOARD, AS_TEXT = 8_000, 4_000, 800
 BROKEN = at_least(1_206, dict.fromkeys(broken_lines()))
@@ -51,13 +53,12 @@ def test_program(program):
 
 
 @pytest.mark.parametrize("library", ["prebuilt", pytest.param("source", marks=pytest.mark.needs("cargo", "cc"))])
-def test_c(library, request):
-    library = request.getfixturevalue(f"{library}_library")
-    for seed in seeds("board", FOR_BOARD):
-        compare(seed, calls_of(seed, False), SAVED, lambda calls: replies_of(CBoard(library), calls), by_steps)
-
-
-def test_python():
+def test_python(library, request, monkeypatch):
+    """The Python package's board, over each C library."""
+    monkeypatch.setenv(VARIABLE, request.getfixturevalue(f"{library}_library")._name)
+    opened = open_library()
+    monkeypatch.setattr("superio.saved.load", lambda: opened)
+    monkeypatch.setattr("superio.devices.load", lambda: opened)
     for seed in seeds("board", FOR_BOARD):
         compare(seed, calls_of(seed, False), SAVED, lambda calls: replies_of(PythonBoard(), calls), by_steps)
 

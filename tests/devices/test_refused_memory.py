@@ -45,7 +45,7 @@ SCRIPTS = [
     (["kr 5", "bad line 1"], [0, 0, 0]),
 ]
 SOURCE = (ROOT / "crates/superio_tests/src/refused_memory.rt").read_text(encoding="utf-8")
-NAMES = at_least(8, re.findall(r"^#\[test\]\n(?:#\[.*\n)*(?:pub )?fn (\w+)", SOURCE, re.M))
+NAMES = at_least(14, re.findall(r"^#\[test\]\n(?:#\[.*\n)*(?:pub )?fn (\w+)", SOURCE, re.M))
 
 
 @pytest.fixture(scope="module")
@@ -101,5 +101,5 @@ def test_each_is_named(tests):
 
 
 def test_number_of_allocations(refusing, tests):
-    """31 runs in all, of which each test has one with all its allocations."""
-    assert sum(len(list(runs(refusing, [tests, f"refused_memory::{name}"]))) for name in NAMES) >= 31
+    """74 runs in all, of which each test has one with all its allocations."""
+    assert sum(len(list(runs(refusing, [tests, f"refused_memory::{name}"]))) for name in NAMES) >= 74

@@ -90,7 +90,7 @@ def test_first_crate(tmp_path):
     steps = [*(commands for _, commands, *_ in commands_of(rattle)), "cp ../../own.rt src", last]
     own = tmp_path / "own"
     own.mkdir()
-    (own / "fimolavand").symlink_to(ROOT)
+    (tmp_path / "fimolavand").symlink_to(ROOT)
     (own / "own.rt").write_text("\n".join([*claim, ""]), encoding="utf-8")
     with alone():
         paste(own, where, "\n".join(steps), typed, printed)

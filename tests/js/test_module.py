@@ -4,7 +4,7 @@ superio.cjs is what web/build.py makes of the modules."""
 import pytest
 from build import REQUIRED, required
 from harness import at_least
-from prebuild import EMBEDDED, MODULE, PREBUILT, build, embedded, listed
+from prebuild import DECLARED, EMBEDDED, MODULE, PREBUILT, build, declared, embedded, listed
 
 
 @pytest.mark.parametrize("name, line", at_least(2, listed().items()))
@@ -18,6 +18,10 @@ def test_required():
 
 def test_embedded():
     assert EMBEDDED.read_text("ascii") == embedded(), "run web/prebuild.py"
+
+
+def test_declared():
+    assert DECLARED.read_text("utf-8") == declared(), "run web/prebuild.py"
 
 
 @pytest.mark.needs("wasm")

@@ -162,6 +162,7 @@ def test_installed_by_pip(archives, what, tmp_path):
 
 @needs_python
 def test_the_sources_have_tests_that_pass(archives):
+    """With other random calls for each commit."""
     done = ended([sys.executable, "-m", "unittest", "discover", "tests"], cwd=archives.unpacked, env=CLEAN,
                  timeout=TIMEOUT * 5)
     assert re.search(r"\nRan [3-9]\d tests in .*\n\nOK \(skipped=2\)\n$", done[2]), done

@@ -56,8 +56,6 @@ REFUSED = {
         PAIR + "pub fn case() -> u32 { let mut q = Pair { a: 1, b: 2 }; let r = &mut q.a; *r = 5; q.a }"),
     "alias of all": ("a mutable reference outside an argument",
         PAIR + "pub fn case() -> u32 { let mut q = Pair { a: 1, b: 2 }; let r = &mut q; r.a = 5; q.a }"),
-    "assignment through a reference": ("a place that is changed",
-        "fn set(x: &mut u32) { *x = 5; } pub fn case() -> u32 { let mut n = 1; set(&mut n); n }"),
     "reference as a value": ("the reference q as a value",
         PAIR + """fn set(q: &mut Pair) { let r = q; r.a = 9; } pub fn case() -> u32 { let mut q = Pair { a: 1, b: 2 };
         set(&mut q); q.a }"""),
@@ -199,6 +197,13 @@ REFUSED = {
 }
 
 RIGHT = {
+    "assignment through a reference":
+        "fn set(x: &mut u32) { *x = 5; } pub fn case() -> u32 { let mut n = 1; set(&mut n); n }",
+    "sum through a reference":
+        "fn more(x: &mut u32) { *x += 5; *x = *x * 2; } pub fn case() -> u32 { let mut n = 1; more(&mut n); n }",
+    "struct through a reference":
+        PAIR + """fn swap(q: &mut Pair) -> u32 { let old = q.a; *q = Pair { a: q.b, b: old }; q.a } pub fn case() -> u32 {
+        let mut q = Pair { a: 1, b: 2 }; swap(&mut q) * 100 + q.a * 10 + q.b }""",
     "underscore in a number": "const X: u32 = 1_000; pub fn case() -> u32 { X + 16_0 }",
     "small hexadecimal": "pub fn case() -> u32 { let x: u8 = 0xff; u32::from(x) + 0xfF }",
     "octal and binary": "pub fn case() -> u32 { 0o17 + 0b1_01 }",

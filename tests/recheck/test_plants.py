@@ -1,13 +1,16 @@
 # SPDX-License-Identifier: Apache-2.0 OR BSD-3-Clause
-"""Wrong bodies and wrong definitions, one at a time: tools/recheck has to refuse each, in the proof about it. And
-harmless changes, which have to pass. They take half an hour, so they run at a release, with RECHECK_PLANTS set."""
-import re
+"""Wrong bodies and wrong definitions, one at a time: Coq has to refuse each, in the proof about it. And harmless
+changes, which have to pass. They take ten minutes of a processor, so they run at a release, with RECHECK_PLANTS set."""
+import os
 import shutil
 
 import pytest
-from harness import ROOT, run
+from harness import ROOT
 
-DEVICES, SPECS = "bindings/superio/src/devices/", "crates/"
+import rerun
+
+JOBS = len(os.sched_getaffinity(0))
+DEVICES, SPECS, C_FUNCTIONS = "bindings/superio/src/devices/", "crates/", "bindings/c/from-source/src/lib.rs"
 FIFO, CODE, SAVED, CLOCK = {"Fifo"}, {"PortCode"}, {"SavedPort", "SavedClock"}, {"ClockCode", "AlarmDue"}
 
 # A file, what stands there, what is planted, and the files of proofs of which one has to fail.
@@ -62,6 +65,14 @@ WRONG += [(SPECS + file, old, new, proofs) for file, old, new, proofs in [
     ("superio_laws/specs/Rtc/History.antt", "if at == offset then Some value else None", "None", {"ClockHistory"}),
     ("superio_laws/specs/Serial/Laws/Console.antt", "take (length runs) (held_bytes", "take (1 + length runs) (held_bytes", {"Console"}),
 ]]
+WRONG += [(C_FUNCTIONS, old, new, {"CFunctions", "Claims"}) for old, new in [
+    ("invalid_read: value.is_none()", "invalid_read: value.is_some()"),
+    ("invalid_write: !is_taken", "invalid_write: is_taken"),
+    ("SavedStateError::OtherDevice => 3", "SavedStateError::OtherDevice => 2"),
+    ("_ => port.read(offset)", "_ => port.read(1)"),
+    ("const LOADED: u32 = 0", "const LOADED: u32 = 1"),
+    ("const NEVER: u64 = u64::MAX", "const NEVER: u64 = 0"),
+]]
 HARMLESS = [(DEVICES + file, old, new) for file, old, new in [
     ("fifo.rs", "if held == 0 {", "if held < 1 {"),
     ("serial.rs", "Register::Ier => self.interrupt_enable,\n", "Register::Ier => {\n                let enable = self.interrupt_enable;\n                enable\n            }\n"),
@@ -72,28 +83,54 @@ HARMLESS = [(DEVICES + file, old, new) for file, old, new in [
 ]]
 
 
-def planted(folder, file, old, new):
-    """A copy of the sources with one change, and what tools/recheck says of it."""
+def planted(checked, folder, file, old, new):
+    """A copy of what is checked, with one change of a source, and the names of the files that are to be checked anew."""
     for source in (DEVICES, *(f"{SPECS}{crate}/specs" for crate in ("superio_core", "superio_laws"))):
         shutil.copytree(ROOT / source, folder / source)
+    (folder / C_FUNCTIONS).parent.mkdir(parents=True)
+    shutil.copy(ROOT / C_FUNCTIONS, folder / C_FUNCTIONS)
     text = (folder / file).read_text(encoding="utf-8")
     assert old in text, f"{file} has no {old!r}"
     (folder / file).write_text(text.replace(old, new, 1), encoding="utf-8")
-    return run([ROOT / "tools/recheck", folder])
+    proofs = folder / "proofs"
+    shutil.copytree(checked[0], proofs)
+    changed = set()
+    for name, translation in rerun.translated(folder)[0].items():
+        if (proofs / f"{name}.v").read_text() != translation:
+            (proofs / f"{name}.v").write_text(translation)
+            changed.add(name)
+    needs = rerun.requirements(proofs)
+    while more := {name for name, required in needs.items() if required & changed} - changed:
+        changed |= more
+    return proofs, changed - {"Audit"}
+
+
+def with_required(folder, names):
+    """These files, and all that they require."""
+    needs = rerun.requirements(folder)
+    while more := set().union(*(needs[name] for name in names)) - names:
+        names = names | more
+    return names
+
+
+def short(value):
+    return value[:30] if isinstance(value, str) else ",".join(sorted(value))
 
 
 @pytest.mark.where("variable RECHECK_PLANTS")
 @pytest.mark.needs("coq")
-@pytest.mark.parametrize("file, old, new, proofs", WRONG, ids=lambda value: str(value)[:30])
-def test_wrong(file, old, new, proofs, tmp_path):
-    ran = planted(tmp_path, file, old, new)
-    found = set(re.findall(r"^recheck: (\w+)\.v is not proved", ran.stdout, re.M))
-    assert ran.returncode == 1 and found & proofs, ran.stdout[-2000:]
+@pytest.mark.parametrize("file, old, new, proofs", WRONG, ids=short)
+def test_wrong(file, old, new, proofs, checked, tmp_path):
+    folder, changed = planted(checked, tmp_path, file, old, new)
+    with pytest.raises(rerun.Failed) as failed:
+        rerun.check(folder, JOBS, changed & with_required(folder, proofs))
+    assert str(failed.value).partition(".v is not proved")[0] in proofs, failed.value
 
 
 @pytest.mark.where("variable RECHECK_PLANTS")
 @pytest.mark.needs("coq")
-@pytest.mark.parametrize("file, old, new", HARMLESS, ids=lambda value: str(value)[:30])
-def test_harmless(file, old, new, tmp_path):
-    ran = planted(tmp_path, file, old, new)
-    assert ran.returncode == 0, ran.stdout[-2000:]
+@pytest.mark.parametrize("file, old, new", HARMLESS, ids=short)
+def test_harmless(file, old, new, checked, tmp_path):
+    folder, changed = planted(checked, tmp_path, file, old, new)
+    assert "Claims" in changed
+    rerun.check(folder, JOBS, changed)

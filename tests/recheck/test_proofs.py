@@ -11,15 +11,8 @@ import rerun
 pytestmark = pytest.mark.needs("coq", "cargo")
 
 
-@pytest.fixture(scope="module")
-def checked(tmp_path_factory):
-    """The folder with all files, after tools/recheck has passed, and what it printed."""
-    folder = tmp_path_factory.mktemp("recheck")
-    return folder, check([ROOT / "tools/recheck", "--keep", folder])
-
-
 def test_every_claim_is_proved(checked):
-    assert int(re.fullmatch(r"proved again: (\d+) theorems\n", checked[1])[1]) >= 68
+    assert int(re.fullmatch(r"proved again: (\d+) theorems\n", checked[1])[1]) >= 73
 
 
 def test_code_does_what_coq_computes(checked, tmp_path):
@@ -28,34 +21,55 @@ def test_code_does_what_coq_computes(checked, tmp_path):
     check(["rustc", "-O", "--edition", "2021", "-o", tmp_path / "calls", ROOT / "tests/recheck/differential/main.rs"])
     calls, total = map(int, check([tmp_path / "calls", turns, seed]).split())
     assert calls >= 100_000
-    shutil.copy(ROOT / "tests/recheck/differential/Differential.v", folder)
-    (folder / "Same.v").write_text("Require Import Recheck.Prelude Recheck.Differential.\n"
-                                   f"Goal found {turns} {seed} = Some ({calls}, {total}).\nProof. vm_compute. reflexivity. Qed.\n")
-    for name in ("Differential", "Same"):
-        check(["coqc", "-w", "none", "-Q", ".", "Recheck", f"{name}.v"], cwd=folder)
+    expected = f"Some ({calls}, {total}%uint63)"
+    same = f"Goal found {turns} {seed} = {expected}.\nProof. vm_cast_no_check (eq_refl ({expected})). Qed.\n"
+    (folder / "Differential.v").write_text((ROOT / "tests/recheck/differential/Differential.v").read_text() + same)
+    rerun.coqc(folder, "Differential")
 
 
 # What is done to Claims.v, and what the run says then.
-FAULTS = {
-    "a law without a theorem": (r"Theorem (?=waiting_bytes :)", "Lemma ", "no theorem is WaitingBytesLaw"),
-    "a function without a theorem": (r"Theorem reset_command offset value : rs_is_reset_command offset value = .*",
-                                     "Theorem reset_command (offset value : N) : Some true = Some true.", "names is_reset_command"),
-    "an axiom": (r"Theorem waiting_bytes : WaitingBytesLaw\.", "Axiom all : forall T : Type, T.\nTheorem waiting_bytes : WaitingBytesLaw.",
-                 "theorems rest on something"),
-    "a proof that is left out": (r"(?<=Theorem retries : RetryLaw\. ).*", "Admitted.", "theorems rest on something"),
-    "a law of the same name": (r"Theorem retries : RetryLaw\.", "Definition RetryLaw := True.\nTheorem retries : RetryLaw.", "is not proved"),
+GAPS = {
+    "a law without a theorem": (r"Theorem (?=waiting_bytes :)", "Lemma ", r"^no theorem is WaitingBytesLaw$"),
+    "a function without a theorem": (
+        r"Theorem superio_abi : .*", "Theorem superio_abi : Some true = Some true.", r"^no theorem names superio_abi$"),
+    "an axiom": (r"Theorem no_byte_waits : NoByteWaitsLaw\. .*",
+                 "Axiom all : forall T : Type, T.\nTheorem no_byte_waits : NoByteWaitsLaw. Proof. apply all. Qed.",
+                 r"^theorems rest on something:\n(?s:.*)^Claims\.all : forall T : Type, T$"),
+    "a proof that is left out": (r"(?<=Theorem retries : RetryLaw\. ).*", "Admitted.",
+                                 r"^theorems rest on something:\n(?s:.*)^Claims\.retries : Definitions\.RetryLaw$"),
 }
 
 
-@pytest.mark.parametrize("name", FAULTS)
-def test_a_gap_fails(name, checked, tmp_path):
-    old, new, said = FAULTS[name]
-    folder = tmp_path / "changed"
+@pytest.fixture(scope="module")
+def functions():
+    return rerun.translated(ROOT)[1]
+
+
+def changed(checked, functions, folder, changes):
+    """What the run says after changes of Claims.v."""
     shutil.copytree(checked[0], folder)
-    text, count = re.subn(old, new, (folder / "Claims.v").read_text(), count=1)
-    assert count == 1
-    (folder / "Claims.v").write_text(text.replace("exact PortLaws.waiting_bytes", "apply all") if "axiom" in name else text)
-    _, functions = rerun.translated(ROOT)
-    with pytest.raises(rerun.Failed, match=said):
-        rerun.coqc(folder, "Claims")
+    text = (folder / "Claims.v").read_text()
+    for old, new in changes:
+        text, count = re.subn(old, new, text, count=1)
+        assert count == 1, old
+    (folder / "Claims.v").write_text(text)
+    rerun.coqc(folder, "Claims")
+    with pytest.raises(rerun.Failed) as failed:
         rerun.audit(folder, functions)
+    return str(failed.value)
+
+
+@pytest.fixture(scope="module")
+def said_of_gaps(checked, functions, tmp_path_factory):
+    return changed(checked, functions, tmp_path_factory.mktemp("gaps") / "all", [(old, new) for old, new, _ in GAPS.values()])
+
+
+@pytest.mark.parametrize("name", GAPS)
+def test_a_gap_fails(name, said_of_gaps):
+    assert re.search(GAPS[name][2], said_of_gaps, re.M), said_of_gaps
+
+
+def test_a_law_of_the_same_name_fails(checked, functions, tmp_path):
+    said = changed(checked, functions, tmp_path / "changed", [(
+        r"Theorem retries : RetryLaw\. .*", "Definition RetryLaw := True.\nTheorem retries : RetryLaw. Proof. exact I. Qed.")])
+    assert said.startswith("Audit.v is not proved")

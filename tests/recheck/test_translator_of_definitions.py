@@ -1,10 +1,8 @@
 # SPDX-License-Identifier: Apache-2.0 OR BSD-3-Clause
 """The translator of definitions refuses what it does not know, and is right about what it knows."""
 import re
-import subprocess
 
 import pytest
-from harness import ROOT
 
 import antt2coq
 import rust2coq
@@ -104,16 +102,12 @@ def test_refused(name, tmp_path):
 
 
 @pytest.mark.needs("coq")
-def test_right(tmp_path):
+def test_right(computed, tmp_path):
     """What Coq computes from each is what it stands for."""
-    text = "Require Import Recheck.Prelude.\n"
+    text = ""
     for at, (name, (source, value, expected)) in enumerate(RIGHT.items()):
         last = re.findall(r"^(\w+) :", source, re.M)[-1] if "used" in source or "mutual" in source else "value"
         found = translated(tmp_path / str(at), source, last)
         body = "\n".join(line for line in found.splitlines() if not line.startswith("Require"))
         text += f"(* {name} *)\nModule Case{at}.\n{body}\nGoal {value} = {expected}. Proof. vm_compute. reflexivity. Qed.\nEnd Case{at}.\n"
-    (tmp_path / "Prelude.v").write_text((ROOT / "recheck/Prelude.v").read_text())
-    (tmp_path / "Cases.v").write_text(text)
-    for name in ("Prelude", "Cases"):
-        run = subprocess.run(["coqc", "-w", "none", "-Q", ".", "Recheck", f"{name}.v"], cwd=tmp_path, capture_output=True, text=True)
-        assert run.returncode == 0, run.stdout + run.stderr
+    computed(text)

@@ -4,7 +4,6 @@ import re
 import subprocess
 
 import pytest
-from harness import ROOT
 from rust_cases import REFUSED, RIGHT
 
 import rust2coq
@@ -37,20 +36,14 @@ fn main() {
     return subprocess.run([folder / "main"], capture_output=True, text=True, check=True).stdout.split("\n")[:-1]
 
 
-def computed(folder, cases):
-    """What Coq computes from the translations."""
-    text = "Require Import Recheck.Prelude Recheck.Machine.\n"
+def translations(folder, cases):
+    """What Coq is to compute."""
+    text = ""
     for i, source in enumerate(cases):
         types, code = rust2coq.translate(crate_of(folder, source), ["case"])
         body = "\n".join(line for line in (types + code).splitlines() if not line.startswith("Require"))
         text += f"Module Case{i}.\n{body}\nEnd Case{i}.\nCompute Case{i}.rs_case.\n"
-    for name in ("Prelude", "Machine"):
-        (folder / f"{name}.v").write_text((ROOT / f"recheck/{name}.v").read_text())
-    (folder / "Cases.v").write_text(text)
-    for name in ("Prelude", "Machine", "Cases"):
-        run = subprocess.run(["coqc", "-w", "none", "-Q", ".", "Recheck", f"{name}.v"], cwd=folder, capture_output=True, text=True)
-        assert run.returncode == 0, run.stdout + run.stderr
-    return re.findall(r"^ +=\s+(Some \d+|None)$", run.stdout, re.M)
+    return text
 
 
 @pytest.mark.parametrize("name", REFUSED)
@@ -92,7 +85,7 @@ def test_refused_are_rust(tmp_path):
 
 
 @pytest.mark.needs("coq", "cargo")
-def test_right(tmp_path):
+def test_right(computed, tmp_path):
     expected = compiled(tmp_path, RIGHT.values())
-    found = computed(tmp_path, RIGHT.values())
+    found = re.findall(r"^ +=\s+(Some \d+|None)$", computed(translations(tmp_path, RIGHT.values())), re.M)
     assert dict(zip(RIGHT, found)) == dict(zip(RIGHT, expected))

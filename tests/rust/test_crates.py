@@ -68,6 +68,7 @@ def test_formatted(crate, tmp_path):
 
 
 def test_as_released(tmp_path):
+    """With other random numbers for each commit."""
     assert copied_crate(tmp_path).test("--release", "--lib", "--tests") == number_of_tests(BINDINGS) >= 14
 
 

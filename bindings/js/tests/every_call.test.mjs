@@ -34,8 +34,9 @@ function anyPort(below) {
 }
 
 function anyClock(below) {
-  const [lr, mr, imsc, ris] = Array.from({ length: 4 }, () => anyWord(below));
-  return { lr, mr, imsc, ris, offset: BigInt.asIntN(64, BigInt(anyMoment(below))), armed: below(2) === 1 };
+  const any = { number: () => anyWord(below), bigint: () => BigInt.asIntN(64, BigInt(anyMoment(below))),
+    boolean: () => below(2) === 1 };
+  return Object.fromEntries(Object.entries(new Rtc().state).map(([name, value]) => [name, any[typeof value]()]));
 }
 
 // The members of each class, with arguments for each. Those that a port or a clock stays the same in come last.

@@ -37,7 +37,7 @@ CLOCK_VALUE = Field("value of the clock", "VVVVVVVV", 8, "bits")
 BYTES = Field("bytes", "HH..", 0)
 
 MASK = "refuse"
-"""The name of the line that a script can only begin with."""
+"""The name of the line that has to be a script's first."""
 
 
 class Command(NamedTuple):
@@ -130,7 +130,7 @@ class Board:
         self._answers: List[bool] = []
 
     def reply(self, command: Command) -> Optional[str]:
-        """Carries out a command. Returns the line that a script prints for it, without the LF, or `None` if none."""
+        """Carries out a command. Returns the reply of a script, without the LF, or `None` if the line has no reply."""
         check_kind("command", command, Command)
         self._answers = []
         reply = LINES[command.name].reply(self, *command.values)
@@ -138,7 +138,7 @@ class Board:
         return reply
 
     def run(self, command: Command) -> Call:
-        """Carries out a command. Returns what it did."""
+        """Carries out a command. Returns what it did, with the board before and after."""
         before = self.snapshot()
         reply = self.reply(command)
         return Call(self.number, command, reply, before, self.snapshot(), tuple(self._answers))
@@ -221,7 +221,7 @@ class Board:
 
 
 def _loaded(data: bytes, kind: Any, replace_device: Callable[[Any], str]) -> str:
-    """Puts the device of a saved state in the place of another. Replies why not if the bytes are none."""
+    """Puts the device of a saved state in the place of another. If the bytes are no saved state, replies the reason."""
     try:
         return replace_device(kind.from_bytes(data))
     except SavedStateError as error:

@@ -1,9 +1,8 @@
 # SPDX-License-Identifier: Apache-2.0 OR BSD-3-Clause
 """The devices as Python objects, over the functions of superio.h.
 
-A call returns its effects: what is left for the caller to do. There are no callbacks. An offset is a number, or the
-name of a register. A number out of range raises `ValueError`, and an argument of another type `TypeError`. Then nothing
-changes.
+A call returns its effects: what is left for you to do. There are no callbacks. An offset is a number, or the name of a
+register. A number out of range raises `ValueError`, and an argument of another type `TypeError`. Then nothing changes.
 """
 from functools import lru_cache
 from typing import NamedTuple, Optional, Union
@@ -30,14 +29,14 @@ class ReadEffects(NamedTuple):
 
 
 class WriteEffects(NamedTuple):
-    """What a write to the serial port leaves to the caller."""
+    """What a write to the serial port leaves to you."""
 
     sends: bool      # the written value goes out
     interrupts: int  # how often to ask for the interrupt: 0 to 2 times
 
 
 class EnqueueEffects(NamedTuple):
-    """What an enqueue did, and leaves to the caller."""
+    """What an enqueue did, and leaves to you."""
 
     accepted: int    # how many of the bytes, first ones first
     fifo_full: bool  # there were bytes, but room for none
@@ -58,13 +57,13 @@ class RtcWriteEffects(NamedTuple):
 
 
 class I8042WriteEffects(NamedTuple):
-    """What a write to the reset controller leaves to the caller."""
+    """What a write to the reset controller leaves to you."""
 
     resets: bool  # the guest asks to reset the machine
 
 
 class Serial(Saved):
-    """A 16550 serial port with a receive FIFO of 64 bytes. `copy` and `pickle` take its saved state.
+    """A 16550 serial port with a receive FIFO of 64 bytes. `copy` and `pickle` use its saved state.
 
     A new port has divisor 12, 8 bits a character, OUT2 set, and nothing enabled, pending or held.
 
@@ -94,7 +93,7 @@ class Serial(Saved):
         """The guest writes a value, 0 to 255, at an offset, 0 to 255, or to a register by its name.
 
         Afterwards send the value if `sends` is true, and then ask for the interrupt as often as `interrupts` says, up
-        to the first refusal. What is refused stays pending: ask again later, as often as `interrupts_due` says.
+        to the first refusal. A refused interrupt stays pending: ask again later, as often as `interrupts_due` says.
 
         Raises `RegisterError` if no register has the name, or if the write would reach another one.
         """
@@ -102,23 +101,22 @@ class Serial(Saved):
         return WriteEffects(done.sends, done.interrupts)
 
     def enqueue(self, data: bytes) -> EnqueueEffects:
-        """Bytes arrive for the guest. The port accepts as many of the first as there is room for, and in loopback none.
+        """Bytes arrive for the guest. The port accepts as many as fit, from the first on, and none in loopback.
 
         Afterwards ask for the interrupt as often as `interrupts` says. Keep the bytes that were not accepted, and offer
-        them again when a read tells `in_buffer_empty`, or when the guest leaves loopback.
+        them again when a read reports `in_buffer_empty`, or when the guest leaves loopback.
         """
         data = byte_string("data", data)
         done = self._library.superio_serial_enqueue(self._pointer, data, len(data))
         return EnqueueEffects(done.accepted, done.fifo_full, done.interrupts)
 
     def character_timeout(self) -> int:
-        """Raises RDA again if bytes wait without it. Returns how often to ask for the interrupt: 0 or 1 times.
+        """Raises RDA again if bytes are held, IER enables RDA and RDA is not pending. Otherwise nothing changes.
 
-        Bytes wait if at least one is held, IER enables RDA, and RDA is not pending. A read of IIR or RBR ends RDA even
-        if it leaves bytes. If none wait, nothing happens.
+        Returns how often to ask for the interrupt: 0 or 1 times.
 
-        Make the call after each guest read of offset 2 whose answer has bit 0x01 (none pending), and once in each turn
-        of your event loop. Where DLAB is set or loopback is on, the same call does no harm.
+        A read of IIR or RBR ends RDA even if bytes are left. So make the call after each guest read of offset 2 whose
+        byte has bit 0x01 (nothing is pending), and once in each turn of your event loop.
         """
         return self._library.superio_serial_character_timeout(self._pointer)
 
@@ -129,20 +127,24 @@ class Serial(Saved):
     def interrupts_due(self) -> int:
         """How often to ask for the interrupt now: once for each condition that is pending and enabled, 0 to 2 times.
 
-        Ask that often after a restore, and again some time after a refusal. The port does not change.
+        Ask that often after a restore, and again some milliseconds after a refusal. The port does not change.
         """
         return self._library.superio_serial_interrupts_due(self._pointer)
 
     def interrupt_line(self) -> bool:
         """Whether the interrupt line is up: while a condition is pending that IER enables. The port does not change.
 
-        If your interrupt controller takes levels, set your line to it after every call, reads among them, in place of
-        asking for the interrupt.
+        If your interrupt controller takes levels, set your line to it after every call, reads among them, and do not
+        ask for the interrupt.
         """
         return self._library.superio_serial_interrupt_line(self._pointer)
 
     def is_coherent(self) -> bool:
-        """Whether the port is coherent, as a new one is and stays. A restored one need not be, and is safe anyway."""
+        """Whether the port is coherent. A new one is, and stays so. A restored one need not be, and is still safe.
+
+        In a coherent port LSR shows data ready exactly while bytes are held, IIR is 1, 2, 4 or 6, and RDA is pending
+        only while bytes are held.
+        """
         return self._library.superio_serial_is_coherent(self._pointer)
 
     @property
@@ -172,10 +174,10 @@ class Serial(Saved):
 
 
 class Rtc(Saved):
-    """A PL031 real-time clock, which counts seconds. `copy` and `pickle` take its saved state.
+    """A PL031 real-time clock, which counts seconds. `copy` and `pickle` use its saved state.
 
-    Guest time of a new clock is the host's, and no alarm is set. It reads no clock of the host: each access is given
-    its moment `now`, in whole seconds since 1970, as `int(time.time())`. Only the low 32 bits of a moment count.
+    In a new clock guest time is the host's, and no alarm is set. It reads no clock of the host: you pass each access
+    its moment `now`, in whole seconds since 1970, such as `int(time.time())`. Only the low 32 bits of a moment count.
 
     >>> clock = Rtc()
     >>> clock.write("LR", 100, now=1000)
@@ -188,7 +190,9 @@ class Rtc(Saved):
     _name, _saved_max = "rtc", RTC_SAVED_SIZE
 
     def read(self, offset: Union[int, str], now: int) -> RtcReadEffects:
-        """The guest reads four bytes at an offset, 0 to 0xFFFF, or a register by its name, at a moment.
+        """The guest reads four bytes at an offset, 0 to 0xFFFF, or a register by its name.
+
+        `now` is the moment. If there is nothing to read at the offset, `invalid_read` is true.
 
         Raises `RegisterError` if no register has the name.
         """
@@ -196,7 +200,9 @@ class Rtc(Saved):
         return RtcReadEffects(done.value, done.invalid_read)
 
     def write(self, offset: Union[int, str], value: int, now: int) -> RtcWriteEffects:
-        """The guest writes a value of 32 bits at an offset, 0 to 0xFFFF, or to a register by its name, at a moment.
+        """The guest writes a value of 32 bits at an offset, 0 to 0xFFFF, or to a register by its name.
+
+        `now` is the moment. If the offset takes no write, nothing is stored, and `invalid_write` is true.
 
         Raises `RegisterError` if no register has the name.
         """
@@ -205,11 +211,15 @@ class Rtc(Saved):
         return RtcWriteEffects(done.invalid_write)
 
     def interrupt_line(self) -> bool:
-        """Whether the clock's interrupt line is up. Look after each access, and when the alarm is due."""
+        """Whether the clock's interrupt line is up: bit 0 of `ris & imsc`. Set your line to it after each access."""
         return self._library.superio_rtc_interrupt_line(self._pointer)
 
     def alarm_due(self, now: int) -> Optional[int]:
-        """In how many seconds from a moment the alarm is due if the guest does nothing, `None` if it never is."""
+        """In how many seconds after the moment `now` an access finds the alarm reached, if the guest makes none before.
+
+        Less than 2^32; `None` if no alarm is set, or if guest time never reaches the match. Set a timer, and make an
+        access when it goes off.
+        """
         seconds = self._library.superio_rtc_alarm_due(self._pointer, number("now", now, 64))
         return None if seconds == _NEVER else seconds
 

@@ -57,7 +57,7 @@ PROTOTYPES = {name: (_type(result), [_type(kind) for kind in parameters.split(",
 
 
 class LibraryError(Exception):
-    """The shared library of the devices cannot be found or loaded, or is another one than this package needs."""
+    """The shared library of the devices cannot be found or loaded, or has another interface than this package needs."""
 
 
 def _loaded(path: str) -> ctypes.PyDLL:

@@ -178,7 +178,7 @@ def bit_names(register: Register, value: int) -> List[str]:
 
 
 class AlarmIsSetError(ValueError):
-    """vm-superio's state of a clock was asked of one with an alarm set, which its five fields cannot hold."""
+    """An alarm is set, which the five fields of vm-superio's state of a clock cannot hold."""
 
 
 def _kept(kind: Any, default: Any = 0) -> Any:
@@ -190,7 +190,7 @@ _State = TypeVar("_State", bound="State")
 
 
 class State:
-    """The state of a device, whose fields are checked, and its fields in vm-superio."""
+    """The state of a device. Its fields are checked, and convert to and from those of vm-superio."""
 
     def __post_init__(self) -> None:
         for name, kind in self.kinds().items():
@@ -210,9 +210,9 @@ class State:
         return [one.name for one in fields(cls)]
 
     def to_vm_superio(self) -> Dict[str, Any]:
-        """The fields as serde's JSON has them. `json.dumps` makes the text.
+        """The fields as a dictionary, with the names of serde's JSON. `json.dumps` makes the text.
 
-        Raises `AlarmIsSetError` of a clock with an alarm set. `dataclasses.replace(state, armed=False)` gives it up.
+        Raises `AlarmIsSetError` if a clock has an alarm set. `dataclasses.replace(state, armed=False)` gives it up.
         """
         if getattr(self, "armed", False):
             raise AlarmIsSetError("an alarm is set, and the five fields of vm-superio's RtcState cannot hold it")
@@ -221,9 +221,10 @@ class State:
 
     @classmethod
     def from_vm_superio(cls: Type[_State], named: Mapping[str, Any]) -> _State:
-        """The state of these fields, as `json.loads` reads them. A clock has no alarm set then.
+        """The state with these fields, as `json.loads` returns them. In a clock no alarm is then set.
 
-        Raises `ValueError` if the names are others or a value is out of range, and `TypeError` if one is no number.
+        Raises `ValueError` if a name is missing or unknown or a value is out of range, and `TypeError` if one is no
+        number.
         """
         wanted = cls._moved()
         if set(named) != set(wanted):
@@ -235,18 +236,18 @@ class State:
 class SerialState(State):
     """The state of a serial port: nine registers, and the bytes that it received and the guest has not read.
 
-    The defaults are those of a new port. `dataclasses.replace` makes another state of one.
+    The defaults are those of a new port. `dataclasses.replace` makes a changed copy.
     """
 
-    baud_divisor_low: int = _kept(c_uint8, 0x0C)
-    baud_divisor_high: int = _kept(c_uint8, 0x00)
-    interrupt_enable: int = _kept(c_uint8, 0x00)
-    interrupt_identification: int = _kept(c_uint8, 0x01)
-    line_control: int = _kept(c_uint8, 0x03)
-    line_status: int = _kept(c_uint8, 0x60)
-    modem_control: int = _kept(c_uint8, 0x08)
-    modem_status: int = _kept(c_uint8, 0xB0)
-    scratch: int = _kept(c_uint8, 0x00)
+    baud_divisor_low: int = _kept(c_uint8, 0x0C)          # DLL
+    baud_divisor_high: int = _kept(c_uint8, 0x00)         # DLM
+    interrupt_enable: int = _kept(c_uint8, 0x00)          # IER: 0x01 enables RDA, 0x02 THRE
+    interrupt_identification: int = _kept(c_uint8, 0x01)  # IIR without 0xC0: 0x04 RDA, 0x02 THRE, 0x01 nothing pending
+    line_control: int = _kept(c_uint8, 0x03)              # LCR: 0x80 is DLAB
+    line_status: int = _kept(c_uint8, 0x60)               # LSR: 0x01 is data ready
+    modem_control: int = _kept(c_uint8, 0x08)             # MCR: 0x10 is loopback
+    modem_status: int = _kept(c_uint8, 0xB0)              # MSR
+    scratch: int = _kept(c_uint8, 0x00)                   # SCR
     in_buffer: bytes = b""  # the received bytes, oldest first: at most 64
 
     def __post_init__(self) -> None:
@@ -264,10 +265,10 @@ FIELDS = dict(zip(("DLL", "DLM", "IER", "IIR", "LCR", "LSR", "MCR", "MSR", "SCR"
 class RtcState(State):
     """The state of a clock. The defaults are those of a new one."""
 
-    lr: int = _kept(c_uint32)     # the value that was loaded last, or 0
-    mr: int = _kept(c_uint32)     # the guest time that an alarm waits for
-    imsc: int = _kept(c_uint32)   # the interrupt mask
-    ris: int = _kept(c_uint32)    # the raw interrupt status
+    lr: int = _kept(c_uint32)     # RTCLR: the value that was loaded last, or 0
+    mr: int = _kept(c_uint32)     # RTCMR: the guest time that an alarm waits for
+    imsc: int = _kept(c_uint32)   # RTCIMSC, the interrupt mask
+    ris: int = _kept(c_uint32)    # RTCRIS, the raw interrupt status
     offset: int = _kept(c_int64)  # how far guest time is ahead of the host's, in seconds
     armed: bool = _kept(c_uint64, False)  # whether an alarm is set
 

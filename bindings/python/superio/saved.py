@@ -23,7 +23,7 @@ the checks, and so of `enum superio_saved_state_error`, which begins with 1."""
 
 
 class SavedStateError(ValueError):
-    """Bytes are not the saved state of this device. `reason` says why, in the words of a script: "too short",
+    """Bytes are not the saved state of this device. `reason` is the reason, as a script replies it: "too short",
     "not a saved state", "other device", "unknown version", "wrong length", "too many bytes" or "invalid armed".
     """
 
@@ -36,9 +36,9 @@ class SavedStateError(ValueError):
 
 
 class Saved:
-    """A device that `copy` and `pickle` take as its saved state, so that equal states make the same pickle everywhere.
+    """A device whose `copy` and `pickle` use its saved state, so that equal states make the same pickle everywhere.
 
-    Where the ring of a port begins, and the bytes in it that the guest has read, are no part of its state.
+    The state has neither the place where a port's ring begins nor bytes that the guest has read.
     """
 
     __slots__ = ("_library", "_struct", "_pointer")
@@ -61,7 +61,7 @@ class Saved:
 
     @classmethod
     def from_bytes(cls: Type[_Device], data: bytes) -> _Device:
-        """The device of a saved state. Afterwards ask for a port's interrupt as often as `interrupts_due` says.
+        """The device of a saved state. For a port, then ask for the interrupt as often as `interrupts_due` says.
 
         Raises `SavedStateError` if the bytes are no saved state of this device.
         """

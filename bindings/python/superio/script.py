@@ -16,7 +16,7 @@ _CACHED = 4096  # lines
 
 
 class ScriptError(ValueError):
-    """A line is not understood. The message says why."""
+    """A line cannot be parsed. The message gives the reason."""
 
 
 def shown(text: str, most: int = 24) -> str:
@@ -60,10 +60,10 @@ _PATTERNS = {name: _pattern(name) for name in LINE_FIELDS}
 
 
 def parse(line: bytes, is_first: bool = False, is_for_program: bool = False) -> Command:
-    """The command of a line, without its LF. `is_first` says whether it is the script's first, and `is_for_program`
-    whether it has to be a line that the program `superio` takes, as the further lines are not.
+    """The command of a line, given without its LF. Set `is_first` for a script's first line, which may be `refuse`. Set
+    `is_for_program` to reject the further lines, which the program `superio` does not take.
 
-    Raises `ScriptError`, which says why, if the line is not understood.
+    Raises `ScriptError`, with the reason, if the line cannot be parsed.
     """
     command = _parse(byte_string("line", line), bool(is_first))
     if is_for_program and command.name in FURTHER_LINES:

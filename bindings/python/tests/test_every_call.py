@@ -1,7 +1,7 @@
 # SPDX-License-Identifier: Apache-2.0 OR BSD-3-Clause
 """What holds of every call, whatever it is for, by random ones: it passes C as much memory as superio.abi says, changes
 nothing that it is passed, and what it gives stays. Devices that take turns do what each does alone, states go there and
-back by every way, and a session's trace makes it again."""
+back by every way, and a session's trace makes it again. The variable TEST_SEED makes the calls others."""
 import copy
 import ctypes
 import dataclasses
@@ -27,7 +27,7 @@ PORT_FIELDS = [name for name in SerialState.kinds()]
 
 
 class Drawn(random.Random):
-    """Arguments that are drawn. TEST_SEED gives others, as each commit does."""
+    """Arguments that are drawn, by the name of a test and TEST_SEED."""
 
     def __init__(self, what):
         super().__init__(f"{what} of {os.environ.get('TEST_SEED', 0)}")

@@ -5,8 +5,8 @@
 //!
 //! In vm-superio 0.8.2 the match register RTCMR (0x004) only reads back what was written. Here it is an alarm. The
 //! first access that finds guest time at or past the match raises bit 0 of the raw interrupt status, unless the match
-//! was past when it was written. The clock has no trigger. If your monitor has an interrupt line for it, set the line
-//! to [`Rtc::interrupt_line`] after each access, and make an access when [`Rtc::alarm_due`] says so.
+//! was past when it was written. The clock has no trigger. If its guest expects an interrupt line, set the line to
+//! [`Rtc::interrupt_line`] after each access, set a timer to [`Rtc::alarm_due`], and make an access when it goes off.
 use std::error::Error as StdError;
 use std::fmt;
 use std::sync::Arc;
@@ -22,7 +22,8 @@ const RTCMR: u16 = 0x004;
 /// The offset of RTCLR, which sets guest time.
 const RTCLR: u16 = 0x008;
 
-/// Receives a clock's invalid accesses. The clock calls it for nothing else. An `Arc` of an events object is one too.
+/// Receives a clock's invalid accesses. The clock calls it for nothing else. An `Arc` of an events object is an events
+/// object too.
 pub trait RtcEvents {
     /// The guest read an unreadable offset.
     fn invalid_read(&self);
@@ -140,7 +141,7 @@ impl RtcSnapshot {
     }
 }
 
-/// The five fields were asked of a clock with an alarm set, which they cannot hold.
+/// An alarm is set, which vm-superio's five fields cannot hold.
 #[derive(Clone, Copy, Debug, Eq, PartialEq)]
 pub struct AlarmIsSet;
 
@@ -277,13 +278,14 @@ impl<EV: RtcEvents> Rtc<EV> {
         self.clock.armed != 0
     }
 
-    /// Whether the interrupt line is up: an interrupt is raised and the mask lets it pass.
+    /// Whether the interrupt line is up: bit 0 of RTCMIS, set if both RTCRIS and RTCIMSC have it.
     pub fn interrupt_line(&self) -> bool {
         self.clock.interrupt_line()
     }
 
-    /// The seconds from the moment `now`, in seconds since 1970, until the alarm is due if the guest makes no access.
-    /// `None` if it never is. An access at that moment raises the interrupt, and no earlier one does.
+    /// The seconds from the moment `now`, in seconds since 1970, until an access finds the alarm reached, if the guest
+    /// makes none before: less than 2^32. `None` if no alarm is set, or if guest time never reaches the match. The mask
+    /// plays no part.
     pub fn alarm_due(&self, now: u64) -> Option<u64> {
         self.clock.alarm_due(now)
     }
@@ -315,7 +317,8 @@ impl<EV: RtcEvents> Rtc<EV> {
         self.report_write(is_valid);
     }
 
-    /// Writes as [`write`](Rtc::write) does, at the moment `now`, in seconds since 1970, and asks nobody for the time.
+    /// Writes as [`write`](Rtc::write) does, at the moment `now`, in seconds since 1970. Does not ask for the host's
+    /// time.
     pub fn write_at(&mut self, offset: u16, data: &[u8; 4], now: u64) {
         let is_valid = self.clock.write(offset, u32::from_le_bytes(*data), now);
         self.report_write(is_valid);
@@ -344,7 +347,7 @@ impl<EV: RtcEvents> Rtc<EV> {
         self.show(value, data);
     }
 
-    /// Reads as [`read`](Rtc::read) does, at the moment `now`, in seconds since 1970, and asks nobody for the time.
+    /// Reads as [`read`](Rtc::read) does, at the moment `now`, in seconds since 1970. Does not ask for the host's time.
     pub fn read_at(&mut self, offset: u16, data: &mut [u8; 4], now: u64) {
         let value = self.clock.read(offset, now);
         self.show(value, data);

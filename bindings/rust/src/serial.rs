@@ -15,15 +15,15 @@ pub mod timeout;
 pub use events::{NoEvents, SerialEvents};
 pub use state::SerialState;
 
-/// The bit of `interrupt_identification` that is set while the interrupt of an empty transmitter is pending.
+/// The bit of `interrupt_identification` that shows THRE pending, transmitter holding register empty.
 const THRE: u8 = 0x02;
 
 /// A 16550 serial port: its registers, a receive FIFO of 64 bytes that is always on, and two interrupt conditions.
 ///
 /// It owns the trigger of its interrupt, an events object, and the writer that the guest's output goes to. If one of
-/// them panics and the monitor catches the panic, the port is left in the state in which vm-superio 0.8.2 leaves it.
+/// them panics and you catch the panic, the port is in the same state as vm-superio 0.8.2's would be.
 ///
-/// A port is `Send` and `Sync` if these objects are. Threads share it behind a lock.
+/// A port is `Send` and `Sync` if these objects are. If threads share it, put a lock around it.
 ///
 /// # Example
 ///
@@ -126,8 +126,8 @@ impl<T: Trigger, EV: SerialEvents, W: Write> Serial<T, EV, W> {
     ///
     /// # Errors
     ///
-    /// [`Error::FullFifo`] if the state holds more than 64 bytes, without a trigger call.
-    /// [`Error::Trigger`] at the first call that the trigger refused. The objects are dropped.
+    /// [`Error::FullFifo`] if the state holds more than 64 bytes: the trigger is not called.
+    /// [`Error::Trigger`] at the first call that the trigger refuses. An error drops the objects.
     pub fn from_state(state: &SerialState, trigger: T, serial_evts: EV, out: W) -> Result<Self, Error<T::E>> {
         let port = state.port().ok_or(Error::FullFifo)?;
         let serial = Serial { port, interrupt_evt: trigger, events: serial_evts, out };
@@ -170,14 +170,16 @@ impl<T: Trigger, EV: SerialEvents, W: Write> Serial<T, EV, W> {
         &self.events
     }
 
-    /// The guest writes `value` at `offset` from the port's base.
+    /// The guest writes `value` at `offset` from the port's base. At 2, 5 and 6 (IIR, LSR and MSR), and from 8 on, a
+    /// write has no effect.
     ///
     /// # Errors
     ///
     /// [`Error::Trigger`] if the trigger refused a call, even if the writer failed too; otherwise [`Error::IOError`] if
-    /// the writer failed to take the byte or to flush. A failure of the writer leaves the same registers as a success.
-    /// A refused condition stays pending: the trigger is not called for it again until the guest has acknowledged it,
-    /// or [`retry_interrupts`](Serial::retry_interrupts) is called.
+    /// the writer failed to take the byte or to flush. The write has taken effect all the same, so do not repeat it. A
+    /// refused condition stays pending: the trigger is not called for it again until the guest has acknowledged it, or
+    /// you call [`retry_interrupts`](Serial::retry_interrupts). But if a write at 1, IER, raises both conditions and
+    /// the trigger refuses the call for RDA, THRE is not raised, and no retry brings it.
     pub fn write(&mut self, offset: u8, value: u8) -> Result<(), Error<T::E>> {
         let pending = self.port.registers.interrupt_identification;
         let effects = self.port.write(offset, value);
@@ -190,8 +192,8 @@ impl<T: Trigger, EV: SerialEvents, W: Write> Serial<T, EV, W> {
         sent
     }
 
-    /// Sends a byte. The interrupt that its write raises is raised after that: a writer or an events object that panics
-    /// leaves the conditions that were pending before.
+    /// Sends a byte. Only afterwards does IIR show the interrupt that the write raises: if the writer or the events
+    /// object panics, the conditions that were pending before still are.
     fn send(&mut self, value: u8, pending_before: u8) -> Result<(), Error<T::E>> {
         let pending = std::mem::replace(&mut self.port.registers.interrupt_identification, pending_before);
         let sent = self.out.write_all(&[value]).and_then(|()| self.out.flush());
@@ -215,7 +217,7 @@ impl<T: Trigger, EV: SerialEvents, W: Write> Serial<T, EV, W> {
         self.interrupt_evt.trigger()
     }
 
-    /// The guest reads the byte at `offset` from the port's base. The trigger is not called.
+    /// The guest reads the byte at `offset` from the port's base; from 8 on it is 0. The trigger is not called.
     ///
     /// If `offset` is 2 and the answer has bit 0x01 (none pending), make a [character timeout](timeout) afterwards.
     pub fn read(&mut self, offset: u8) -> u8 {
@@ -229,12 +231,12 @@ impl<T: Trigger, EV: SerialEvents, W: Write> Serial<T, EV, W> {
         effects.byte
     }
 
-    /// Calls the trigger once for each condition that is both pending and enabled, up to the first refusal. The port is
-    /// unchanged.
+    /// Calls the trigger once for each condition that is both pending and enabled, up to the first refusal. The port
+    /// does not change.
     ///
-    /// vm-superio 0.8.2 has no such call. If your trigger can refuse, repeat it after a refusal until it returns `Ok`.
-    /// Otherwise a refused interrupt may never reach the guest. The guest may be interrupted again for a condition that
-    /// it already knows of.
+    /// vm-superio 0.8.2 has no such call. If your trigger can refuse, make the call some milliseconds after a refusal,
+    /// and repeat it until it returns `Ok`. Otherwise a refused interrupt may never reach the guest. The guest may be
+    /// interrupted again for a condition that it already knows of.
     ///
     /// # Errors
     ///
@@ -249,14 +251,14 @@ impl<T: Trigger, EV: SerialEvents, W: Write> Serial<T, EV, W> {
         self.port.fifo_capacity()
     }
 
-    /// Receives as many bytes for the guest as fit, first ones first. Returns how many.
-    ///
-    /// In loopback it accepts no bytes and returns 0.
+    /// Input arrives for the guest. The port accepts as many bytes as fit, from the first on, and none in loopback.
+    /// Returns how many. Keep the others, and offer them again later.
     ///
     /// # Errors
     ///
     /// [`Error::FullFifo`] if there are bytes and 64 are held already, outside loopback: nothing changes then.
-    /// [`Error::Trigger`] if the trigger refused: the bytes are kept, and must not be enqueued again.
+    /// [`Error::Trigger`] if the trigger refused: the bytes that fit are kept, so do not enqueue them again. To find
+    /// out how many, compare `fifo_capacity` before and after.
     pub fn enqueue_raw_bytes(&mut self, input: &[u8]) -> Result<usize, Error<T::E>> {
         let effects = self.port.enqueue_raw_bytes(input);
         if effects.fifo_full {

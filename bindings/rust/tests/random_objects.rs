@@ -10,6 +10,7 @@ use std::io::{self, ErrorKind, Write};
 use std::time::{SystemTime, UNIX_EPOCH};
 
 use vm_superio::rtc_pl031::{RtcEvents, RtcSnapshot};
+use vm_superio::sansio::rtc_pl031::encoding::SAVED_SIZE;
 use vm_superio::sansio::{is_reset_command, Pl031, Uart};
 use vm_superio::serial::line::InterruptLine;
 use vm_superio::serial::timeout::CharacterTimeout;
@@ -80,12 +81,12 @@ impl Random {
             imsc: self.word() as u32,
             ris: self.word() as u32,
         };
-        RtcSnapshot { state, armed: self.is_one_of(2) }
+        RtcSnapshot { armed: self.is_one_of(2), ..RtcSnapshot::from_five(state) }
     }
 }
 
 /// The kinds of errors that std makes of the system's, and those that code makes by itself.
-const KINDS: [ErrorKind; 18] = [
+const KINDS: [ErrorKind; 20] = [
     ErrorKind::Interrupted, // which a write repeats, and a flush does not
     ErrorKind::NotFound,
     ErrorKind::PermissionDenied,
@@ -104,6 +105,8 @@ const KINDS: [ErrorKind; 18] = [
     ErrorKind::UnexpectedEof,
     ErrorKind::Unsupported,
     ErrorKind::Other,
+    ErrorKind::WriteZero,
+    ErrorKind::OutOfMemory,
 ];
 
 /// An error of a writer's own, which has another one as its source.
@@ -122,12 +125,20 @@ impl StdError for Own {
     }
 }
 
+/// A number of the system's errors, or any other one, but 4, which is an interrupted call.
+fn random_code(random: &mut Random) -> i32 {
+    match random.is_one_of(3) {
+        true => random.word() as i32 | 1 << 8,
+        false => 5 + random.below(200) as i32,
+    }
+}
+
 /// An error by its kind alone, by a number of the system's, or with an error of the writer's own.
 fn random_fault(random: &mut Random, kinds: &[ErrorKind]) -> io::Error {
     let kind = kinds[random.below(kinds.len() as u64) as usize];
     match random.below(4) {
         0 => kind.into(),
-        1 => io::Error::from_raw_os_error(5 + random.below(200) as i32), // 4 is an interrupted call
+        1 => io::Error::from_raw_os_error(random_code(random)),
         2 => io::Error::new(kind, random.word().to_string()),
         _ => io::Error::new(kind, Own(random.word(), Some(Box::new(Own(random.word(), None))))),
     }
@@ -392,7 +403,7 @@ fn call(random: &mut Random, port: &mut Port, model: &mut Model) -> (String, Str
 fn a_port_calls_its_objects_as_the_device_without_io_says_and_returns_their_errors() {
     let mut random = Random::of(1);
     let world = World { name: "a line that is borrowed".into(), ..World::default() };
-    for _ in 0..ROUNDS / 10 {
+    for _ in 0..ROUNDS / 5 {
         let state = random.port();
         world.begin(&mut random);
         let mut model = Model::of(&state, &world);
@@ -519,7 +530,7 @@ fn any_state_goes_there_and_back() {
     for _ in 0..ROUNDS {
         let (state, snapshot) = (random.port(), random.clock());
         let (bytes, of_clock) = (state.to_bytes().unwrap(), snapshot.to_bytes());
-        assert_eq!((bytes.len(), of_clock.len()), (17 + state.in_buffer.len(), 33));
+        assert_eq!((bytes.len(), of_clock.len()), (17 + state.in_buffer.len(), SAVED_SIZE));
         assert_eq!(SerialState::from_bytes(&bytes).as_ref(), Ok(&state));
         assert_eq!(RtcSnapshot::from_bytes(&of_clock), Ok(snapshot));
         assert_eq!(snapshot.to_five().ok(), if snapshot.armed { None } else { Some(snapshot.state) });

@@ -8,8 +8,8 @@
 #[cfg(feature = "std")]
 extern crate std;
 
-// These lines are those of the proved source, in the layout and style of its language. A name in a pattern that is no
-// constant, or a result that is not used, would mean another thing here than there.
+// These lines are those of the proved source, in the layout and style of its language. A pattern that names no constant,
+// and a result that is not used, would not mean the same in Rust: the lints below deny them.
 #[rustfmt::skip]
 #[allow(clippy::style)]
 #[allow(missing_copy_implementations)] // of a saved port's bytes, which are only read

@@ -6,7 +6,7 @@ ghost use Rattle.superio_core.specs.Serial.{not_empty, ring_contents, ring_from}
 /// The capacity of the FIFO, as in a 16750.
 pub const FIFO_SIZE: usize = 64;
 
-/// From so many bytes on a copy is cheaper than a loop.
+/// The fewest bytes for which a copy is cheaper than a loop.
 const COPY_MIN: usize = 8;
 
 /// What a port needs from its receive FIFO: a list of at most 64 bytes, oldest first.
@@ -14,7 +14,7 @@ pub trait RxFifo {
     /// The held bytes.
     ghost held: { Self → List ℕ };
 
-    /// The stored count, if any, is at most 64.
+    /// The length is at most 64, if the FIFO stores one.
     ghost len_in_range: { Self → Type 0 };
 
     /// How many bytes are held.
@@ -22,11 +22,11 @@ pub trait RxFifo {
         ensures value { result ≡ length (held self.now) }
         ensures bound { length (held self.now) ≤ 64 };
 
-    /// Whether it is empty.
+    /// Whether no byte is held.
     fn is_empty(&self) -> bool
         ensures { result ≡ not (not_empty (held self.now)) };
 
-    /// Takes the oldest byte.
+    /// Removes the oldest byte and returns it, or `None` if no byte is held.
     fn take_first(&mut self) -> Option<u8>
         ensures byte { result ≡ slice_get (held self.old) 0 }
         ensures rest { held self.new ≡ drop 1 (held self.old) }
@@ -45,8 +45,8 @@ pub trait RxFifo {
         ensures len_in_range { len_in_range self.old → len_in_range self.new };
 }
 
-/// Received bytes in a ring of 64 places. Any values are valid: `head` counts modulo 64, and `len` above 64 counts as
-/// 64.
+/// Received bytes in a ring of 64 places. Any values are valid: `head` is taken modulo 64, and a `len` above 64 counts
+/// as 64.
 #[repr(C)]
 #[derive(Clone, Copy)]
 pub struct ArrayFifo {

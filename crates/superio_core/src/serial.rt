@@ -4,8 +4,8 @@
 //! A call changes the port and returns what is left to do: a byte to send, interrupts to raise, or events to report.
 //! The port owns no objects and allocates no memory, so a monitor keeps it where it likes, in any language.
 //!
-//! The steps of its calls are methods of the registers, at the end. They take the received bytes if they use them, and
-//! work with every receive FIFO.
+//! At the end are the steps of its calls, as methods of the registers. A step that uses the received bytes takes the
+//! FIFO as an argument, so the same code serves every receive FIFO.
 ghost use Rattle.std.specs.Prelude.{◌≡◌, ◌↔◌, ◌≤◌, ◌-◌, ◌==◌, not, length, IsTrue, if◌then◌else◌, [], slice_index};
 ghost use Rattle.superio_core.specs.Serial.{fresh_state, state_of_uart, CoherentUart, RdaCoversHeldBytes, irq_level, conditions_due, not_empty, state_with, register_read, is_asserted};
 ghost use Rattle.superio_core.specs.Serial.Step.{IsUartRead, IsUartWrite, IsUartEnqueue, IsUartTimeout, iir_none_bit, becomes_pending, iir_after_raise, iir_after_lower, bytes_that_fit, receive_bytes, rbr_read, ier_write, read_step, write_step, character_timeout, read_events, ier_write_calls, arrival_calls, timeout_calls, decoded_calls};
@@ -24,13 +24,13 @@ use registers::{
     has_bits, only_bits, with_bits, without_bits,
 };
 
-/// A serial port without objects: its registers and received bytes. Any bytes are valid.
+/// A 16550 serial port without I/O: its registers and received bytes. Any contents are a valid port.
 #[repr(C)]
 #[derive(Clone, Copy)]
 pub struct Uart {
     /// The registers.
     pub registers: Registers,
-    /// The received bytes that no guest has read.
+    /// The received bytes that the guest has not read.
     pub in_buffer: ArrayFifo,
 }
 
@@ -47,7 +47,10 @@ impl Uart {
         }
     }
 
-    /// Reads at `offset`, as a guest does. Asks for no interrupt.
+    /// The guest reads the byte at `offset` from the port's base. A read asks for no interrupt. From 8 on there is no
+    /// register, and the byte is 0.
+    ///
+    /// If `offset` is 2 (IIR) and the byte has bit 0x01, nothing is pending: make a `character_timeout` afterwards.
     #[inline(always)]
     pub fn read(&mut self, offset: u8) -> ReadEffects
         ensures step { IsUartRead offset result (state_of_uart self.old) (state_of_uart self.new) }
@@ -57,8 +60,12 @@ impl Uart {
         self.registers.read(&mut self.in_buffer, register)
     }
 
-    /// Writes `value` at `offset`, as a guest does. Then send the byte if it goes out, and ask for the interrupts.
-    /// Neither a lost byte nor a refusal changes the port.
+    /// The guest writes `value` at `offset` from the port's base. At 2, 5 and 6 (IIR, LSR and MSR), and from 8 on, a
+    /// write has no effect.
+    ///
+    /// Afterwards send the byte if `sends` is true, and then ask for the interrupt `interrupts` times. If one of these
+    /// fails, the port need not know. A refused interrupt stays pending: ask again later, as often as `interrupts_due`
+    /// says.
     #[tactic(auto, using(crate::proofs::Lemmas::Serial::Coherence::write_coherent))]
     #[inline(always)]
     pub fn write(&mut self, offset: u8, value: u8) -> WriteEffects
@@ -79,8 +86,11 @@ impl Uart {
         FIFO_SIZE - self.in_buffer.len()
     }
 
-    /// Receives as many bytes for the guest as fit, first ones first. In loopback it accepts no bytes. The port keeps
-    /// the bytes even if the interrupt is then refused.
+    /// Input arrives for the guest. The port accepts as many bytes as fit, from the first on, and none in loopback.
+    /// Offer the others again when a read reports `in_buffer_empty`, or when the guest leaves loopback.
+    ///
+    /// Then ask for the interrupt as often as `interrupts` says. Even if it is refused, the port keeps what it
+    /// accepted.
     #[tactic(auto, using(crate::proofs::Lemmas::Serial::Coherence::enqueue_coherent))]
     #[inline(always)]
     pub fn enqueue_raw_bytes(&mut self, input: &[u8]) -> EnqueueEffects
@@ -91,8 +101,11 @@ impl Uart {
         self.registers.enqueue(&mut self.in_buffer, input)
     }
 
-    /// Tells the port that the time of a few characters has passed without a read or a new byte: it raises RDA again if
-    /// bytes are held. Returns how often to ask for the interrupt: 0 or 1 times. A refusal does not change the port.
+    /// Raises RDA again if bytes are held, IER enables RDA and RDA is not pending. Otherwise nothing changes. Returns
+    /// how often to ask for the interrupt: 0 or 1 times.
+    ///
+    /// A read of RBR or IIR ends RDA even if bytes are left, which then wait without an interrupt. So make this call
+    /// after each guest read of offset 2 whose byte has bit 0x01, and in each turn of your event loop.
     #[inline(always)]
     pub fn character_timeout(&mut self) -> u8
         ensures step { IsUartTimeout result (state_of_uart self.old) (state_of_uart self.new) }
@@ -104,7 +117,7 @@ impl Uart {
     }
 
     /// How often to ask for the interrupt after a restore or a refusal: once for each condition that is pending and
-    /// enabled.
+    /// enabled, 0 to 2 times.
     pub fn interrupts_due(&self) -> u8
         ensures calls { result ≡ length (conditions_due (state_of_uart self.now)) }
         ensures at_most_2 { result ≤ 2 }
@@ -112,8 +125,8 @@ impl Uart {
         self.registers.interrupts_due()
     }
 
-    /// Whether the interrupt line is up: while a condition is pending and enabled. For a controller that takes levels,
-    /// set your line to it after every call.
+    /// Whether the interrupt line is up: while a condition is pending and enabled. If your interrupt controller takes
+    /// levels, set your line to it after every call, reads among them, and ask for no interrupt.
     #[inline(always)]
     pub fn interrupt_line(&self) -> bool
         ensures line { result ≡ irq_level (state_of_uart self.now) }
@@ -122,8 +135,8 @@ impl Uart {
         self.registers.interrupt_line()
     }
 
-    /// Whether the port is coherent, as `new` makes it: `len` is at most 64, data ready shows whether bytes are held,
-    /// and IIR is 1, 2, 4 or 6, with RDA pending only while bytes are held.
+    /// Whether the port is coherent: `len` is at most 64, LSR shows data ready exactly while bytes are held, IIR is 1,
+    /// 2, 4 or 6, and RDA is pending only while bytes are held. A new port is coherent, and every call keeps it so.
     pub fn is_coherent(&self) -> bool
         ensures { IsTrue result ↔ CoherentUart self.now }
     {
@@ -132,9 +145,7 @@ impl Uart {
     }
 }
 
-/// The byte of a read, and the events to report.
-///
-/// `in_buffer_empty` is reported before `buffer_read`.
+/// The byte of a read, and the events to report. If there are both, report `in_buffer_empty` first.
 #[repr(C)]
 #[derive(Clone, Copy)]
 pub struct ReadEffects {
@@ -146,17 +157,17 @@ pub struct ReadEffects {
     pub in_buffer_empty: bool,
 }
 
-/// What a write leaves to the caller.
+/// What a write leaves for you to do.
 #[repr(C)]
 #[derive(Clone, Copy)]
 pub struct WriteEffects {
-    /// The byte goes out.
+    /// The written byte goes out: send it.
     pub sends: bool,
     /// How often to ask for the interrupt: 0, 1 or 2 times.
     pub interrupts: u8,
 }
 
-/// What an enqueue did, and leaves to the caller.
+/// What an enqueue did, and leaves for you to do.
 #[repr(C)]
 #[derive(Clone, Copy)]
 pub struct EnqueueEffects {
@@ -168,18 +179,18 @@ pub struct EnqueueEffects {
     pub interrupts: u8,
 }
 
-/// The trigger's answers to the port's own calls in one call, in order.
+/// What the trigger answered, in order, when one call of the port called it.
 #[derive(Clone, Copy, Debug, PartialEq, Eq)]
 pub enum Asked {
     /// The trigger was not called.
     Nothing,
-    /// One call, taken.
+    /// It was called once, and took the call.
     Took,
-    /// One call, refused.
+    /// It was called once, and refused the call.
     Refused,
-    /// Two calls, both taken.
+    /// It was called twice, and took both calls.
     TookTook,
-    /// Two calls: the first taken, the second refused.
+    /// It was called twice, and took the first call and refused the second.
     TookRefused,
 }
 
@@ -250,8 +261,8 @@ impl Registers {
         self.interrupt_identification = if others == 0 { IIR_NONE_BIT } else { others };
     }
 
-    /// An IER write: stores the bits that it keeps, raises RDA if bytes are held, then raises THRE. Returns how often to
-    /// call the trigger.
+    /// An IER write: stores the bits that it keeps, raises RDA if bytes are held, then raises THRE. Returns how often
+    /// to call the trigger.
     #[tactic(auto, using(crate::proofs::Lemmas::Serial::Step::thre_beside_rda))]
     #[inline(always)]
     fn write_ier<F: RxFifo>(&mut self, fifo: &F, value: u8) -> u8
@@ -286,7 +297,8 @@ impl Registers {
         }
     }
 
-    /// Lowers THRE if the first of two trigger calls was refused: a refusal ends an IER write before it raises THRE.
+    /// Call this if two trigger calls were due and the trigger refused the first: it lowers THRE, since a refusal ends
+    /// an IER write before THRE is raised. Otherwise it changes nothing.
     pub fn cancel_thre(&mut self, due: u8, asked: Asked)
         ensures registers { self.new ≡ record self.old {
           interrupt_identification =
@@ -427,8 +439,8 @@ impl Registers {
         }
     }
 
-    /// Writes a register. In loopback a THR write is received. Otherwise its byte goes out, and THRE is raised whatever
-    /// happens to the byte. The due trigger calls count as taken: `cancel_thre` applies a refusal.
+    /// Writes a register. In loopback a THR write is received. Otherwise its byte goes out, and THRE is raised even if
+    /// the byte is lost. The step assumes that the trigger takes its calls: `cancel_thre` corrects a refusal.
     #[inline(always)]
     pub fn write<F: RxFifo>(&mut self, fifo: &mut F, register: Register, value: u8) -> WriteEffects
         ensures sends { let kind = decode_write register (is_loopback self.old.modem_control) value in
@@ -469,7 +481,7 @@ impl Registers {
             && has_bits(self.interrupt_enable, condition.ier_bit())
     }
 
-    /// How often a restore calls the trigger: once for each condition that is pending and enabled.
+    /// How often a restore calls the trigger: once for each condition that is pending and enabled, 0 to 2 times.
     pub fn interrupts_due(&self) -> u8
         ensures calls { result ≡ length (conditions_due (state_with self.now [])) }
         ensures at_most_2 { result ≤ 2 }

@@ -18,8 +18,8 @@ const NO_REGISTER: u16 = 0x021;
 /// bytes gives that part of the register around it, as EDK II reads the identification. Any other access in the window
 /// is invalid, a narrow write too, and the clock reports it as such.
 ///
-/// Each access takes its moment, in seconds since 1970, from the host's clock. If a guest moves, both hosts must tell
-/// the same time.
+/// You pass each access its moment, in seconds since 1970, by the host's clock. If a guest migrates, the clocks of both
+/// hosts must agree.
 #[derive(Drop)]
 pub struct ClockWindow<EV: RtcEvents> {
     pub base: u64,

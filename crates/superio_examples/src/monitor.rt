@@ -2,7 +2,7 @@
 //! A whole monitor without its virtual processor: the devices of a machine, its input and its output, as one struct.
 //!
 //! A loop around it makes [`MachineEvent`]s of what its hypervisor, its terminal and its timers report, passes them to
-//! [`Monitor::run`], and carries out the replies. What `run` claims rests on no object: it calls none.
+//! [`Monitor::run`], and carries out the replies. `run` calls no object, so its claims depend on none.
 ghost use Rattle.std.specs.Prelude.{◌≡◌, ◌≤◌, map, OnOk, OnErr, IfOk};
 
 use crate::bus::{COM1, I8042_COMMAND, I8042_DATA, serial_offset};
@@ -81,7 +81,7 @@ pub struct Monitor {
     pub moment: u64,
     /// An interrupt was refused since the last timer.
     pub is_refused: bool,
-    /// InputQueue goes in although the guest is not ready, as one that polls needs it. False in a new monitor.
+    /// Input goes in even before the guest is ready, as a guest that polls needs it. False in a new monitor.
     pub is_early: bool,
     /// The guest has enabled RDA and not THRE since the last reset. No test of a port does so.
     pub is_ready: bool,
@@ -183,8 +183,8 @@ impl Monitor {
         }
     }
 
-    /// A guest's read of a port. One of IIR that shows nothing pending is followed by a character timeout, so that
-    /// bytes which the guest left in the FIFO interrupt it again.
+    /// A guest's read of a port. After a read of IIR that shows nothing pending it makes a character timeout, so that
+    /// bytes that the guest left in the FIFO interrupt it again.
     fn read_port(&mut self, port: u16) -> (Answer, u8)
         ensures acts { Acts (MachineEvent.PortRead port) result.0 result.1 (machine_of self.old) (machine_of self.new) }
     {
@@ -270,7 +270,7 @@ impl Monitor {
     }
 
     /// Gives the serial port input if it holds no byte and input may go in, and returns how often to raise the
-    /// interrupt. InputQueue may go in from the event on by which the guest is ready.
+    /// interrupt. Input may go in once the guest is ready.
     fn feed(&mut self) -> u8
         ensures interrupts { result ≡ feed_calls (machine_of self.old) }
         ensures at_most_1 { result ≤ 1 }

@@ -1,6 +1,6 @@
 // SPDX-License-Identifier: Apache-2.0 OR BSD-3-Clause
-//! What waits, up to a limit: input for a guest, until the serial port's FIFO has room, and no byte of it is lost; and
-//! output of a guest, until the monitor's sink takes it, and the guest never waits for the sink.
+//! Two bounded queues. Input for a guest waits until the serial port's FIFO has room, and no byte of it is lost. A
+//! guest's output waits until the monitor's sink takes it, and the guest never waits for the sink.
 ghost use Rattle.std.specs.Prelude.{◌≡◌, ◌≤◌, ◌-◌, ◌==◌, ℕ, [], ◌∷◌, ◌++◌, length, take, drop, max, min, Some, IfOk, OnErr};
 ghost use Rattle.std.specs.Io.{WritesAtMost};
 ghost use Rattle.std.specs.Io.KnownBytes.{WriteAppends, Keeps};
@@ -43,7 +43,7 @@ impl InputQueue {
         Ok(InputQueue { waiting })
     }
 
-    /// A queue where these bytes wait, and at most `limit`, or as many as wait now if these are more.
+    /// A queue in which these bytes wait. At most `limit` may wait, or as many as wait now if these are more.
     ///
     /// # Errors
     ///
@@ -107,7 +107,7 @@ impl InputQueue {
     }
 }
 
-/// Whether a guest that leaves IER so is ready for input: with RDA and without THRE.
+/// Whether a guest with this IER is ready for input: IER enables RDA and not THRE.
 pub(crate) fn shows_ready(enable: u8) -> bool
     ensures { result ≡ shows_ready enable }
 {
@@ -151,8 +151,8 @@ impl OutputQueue {
         Ok(OutputQueue { ring, dropped: 0 })
     }
 
-    /// An output where these bytes wait, and `dropped` were dropped. At most `limit` may wait, or as many as wait now
-    /// if these are more.
+    /// An output in which these bytes wait, and which has dropped `dropped`. At most `limit` may wait, or as many as
+    /// wait now if these are more.
     ///
     /// # Errors
     ///

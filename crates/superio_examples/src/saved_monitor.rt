@@ -1,7 +1,7 @@
 // SPDX-License-Identifier: Apache-2.0 OR BSD-3-Clause
 //! A monitor as plain data: it goes on from there on another machine, as if nothing had happened.
 //!
-//! Both hosts must tell the same time, since the clock keeps only the difference between guest time and host time.
+//! The clocks of both hosts must agree, since the clock keeps only the difference between guest time and host time.
 ghost use Rattle.std.specs.Prelude.{◌≡◌, IfOk};
 ghost use Rattle.superio_core.specs.Rtc.{state_of_clock};
 ghost use Rattle.superio_core.specs.Saved.{IsClock};
@@ -35,7 +35,7 @@ pub struct SavedMonitor {
     pub moment: u64,
     /// An interrupt was refused since the last timer.
     pub is_refused: bool,
-    /// InputQueue goes in although the guest is not ready.
+    /// Input goes in even before the guest is ready.
     pub is_early: bool,
     /// The guest has shown that it is ready since the last reset.
     pub is_ready: bool,

@@ -24,8 +24,8 @@ pub fn registers()
     ensures { RegisterLaw }
 {}
 
-/// The held-bytes law, from any start: the bytes in the FIFO are those of the history. LSR shows whether there are any
-/// if the start's LSR did.
+/// The held-bytes law, from any start: the bytes in the FIFO are those of the history. If the start's LSR shows whether
+/// bytes are held, so does LSR at every later point.
 #[tactic(auto, using(crate::proofs::Lemmas::Serial::Laws::held_bytes_laws))]
 pub fn held_bytes()
     ensures bytes { HeldBytesLaw }
@@ -47,8 +47,8 @@ pub fn coherence()
     ensures { CoherenceLaw }
 {}
 
-/// From a coherent start, the state after any trace is that of the history, and a call responds as the history says: a
-/// read with the guest read.
+/// From a coherent start, the state after any trace is that of the history, and a call responds as the history says. A
+/// read returns `guest_read`.
 #[tactic(auto, using(crate::proofs::Lemmas::Serial::Laws::StepsOfHistory::states_of_history_laws))]
 pub fn states_of_history()
     ensures state { StateLaw }
@@ -87,10 +87,10 @@ pub fn whole_runs()
     ensures { WholeRunLaw }
 {}
 
-/// Calls of a coherent `Uart` have the effects that the history says, by the start and the operations
-/// alone: the byte and events of each read, the bytes taken, and how often to ask for the interrupt. They end in the
-/// state of the history, which is coherent. The bytes that the caller is told to send are the output. It is told to ask
-/// for the interrupt at most twice, plus twice for each IIR read and once for each RBR read; restores do not count.
+/// From a coherent `Uart`, the history gives the effects of each call from the start and the operations alone: the byte
+/// and the events of a read, how many bytes an enqueue accepts, and how often to ask for the interrupt. The calls end
+/// in the state of the history, which is coherent. The bytes that you are told to send are the output. You are told to
+/// ask for the interrupt at most twice, plus twice for each IIR read and once for each RBR read; restores do not count.
 #[tactic(auto, using(crate::proofs::Lemmas::Serial::Laws::StepsOfHistory::uart_run_laws))]
 pub fn whole_runs_of_uarts()
     ensures run { UartRunLaw }
@@ -141,8 +141,8 @@ pub fn interrupt_driver()
 
 /// From any start, an IER write that enables THRE, and each THR write outside loopback while IER enables it, raise
 /// THRE, and call the trigger once if it was not pending. The exception is an IER write whose call for RDA is refused.
-/// Then RDA is pending, and a retry calls the trigger for it, as for each condition that is pending and enabled. What
-/// is pending after a read of IIR has had its trigger call since.
+/// Then RDA is pending, and a retry calls the trigger for it, as for each condition that is pending and enabled. If a
+/// condition is pending after a read of IIR, the trigger was called for it since that read.
 pub fn transmitter_interrupt()
     ensures ier_write { IerWriteAsksLaw }
     ensures thr_write { ThrWriteAsksLaw }
@@ -151,20 +151,24 @@ pub fn transmitter_interrupt()
     ensures called { CalledSinceLaw }
 {}
 
-/// From any start, for any driver of a console. At each interrupt it takes at least one held byte. Either it reads IIR
-/// until nothing is pending and sends at least one byte between two reads, as Linux and Xen do, or it sends at least
-/// one after its last read of IIR, unless it has none left or flow control stops it. It sends by THR writes outside
-/// loopback while IER enables THRE, its bytes in their order. It gets bytes while it has none, or goes on after a stop,
-/// only at such a THR write, or at an IER write that enables THRE and whose call for RDA is not refused. The monitor
-/// makes a character timeout after each read of IIR that shows nothing pending, and in each turn of its event loop.
+/// From any start, for a driver of a console and a monitor that do the following:
 ///
-/// Then after each run the interrupt is asked for as long as bytes are held and IER enables RDA, or bytes are left to
-/// send and it is not stopped. Of the bytes held before some runs, the first are taken, in order, as many as there were
-/// runs; of those left to send, as many are sent as there were runs without a stop. So a byte with i before it in its
-/// direction is through within i + 1 such runs, whatever arrives, and whatever the driver is given, meanwhile.
+/// - At each interrupt, the driver reads IIR, and takes at least one byte if one is held.
+/// - It sends its bytes in order, by THR writes outside loopback while IER enables THRE. Either it reads IIR until
+///   nothing is pending, as Linux and Xen do, and sends at least one byte between two reads. Or it sends at least one
+///   after its last read of IIR. It need send none while it has none left or flow control stops it.
+/// - It gets bytes while it has none, or goes on after a stop, only at such a THR write, or at an IER write that
+///   enables THRE and whose call for RDA is not refused.
+/// - The monitor makes a character timeout after each read of IIR that shows nothing pending, and in each turn of its
+///   event loop.
 ///
-/// A driver that has bytes left and ends its run with a read of IIR that shows THRE is not asked again, neither here
-/// nor by a 16550A.
+/// Then the interrupt is asked for after each run if bytes are held and IER enables RDA, or if bytes are left to send
+/// and flow control does not stop the driver. Each run takes at least one more of the held bytes, in order, and each
+/// run without a stop sends at least one more. So a byte with i before it in its direction is through within i + 1 such
+/// runs, whatever arrives meanwhile, and whatever the driver is given.
+///
+/// If a driver ends its run with a read of IIR that shows THRE, and has bytes left, it is not asked again. A 16550A
+/// does not ask it either.
 pub fn console_driver()
     ensures asked_to_take { InterruptToReadLaw }
     ensures asked_to_send { InterruptToSendLaw }
@@ -172,19 +176,19 @@ pub fn console_driver()
     ensures sent { SentInPassesLaw }
 {}
 
-/// From any start, for a handler of Linux's shape: it reads IIR until nothing is pending, and after each read sends,
-/// and takes bytes until none is left or it has taken as many as a limit. Its runs are those of [`console_driver`].
-/// Where it reads that nothing is pending, it has sent all its bytes, unless it is stopped. If IER enables RDA there,
-/// it has also taken all, unless its last turn came to the limit: the others wait for the character timeout.
+/// From any start, for a handler like Linux's. It reads IIR until nothing is pending. After each read it sends, and it
+/// takes bytes until none is left or it has taken as many as a limit. Its runs are those of [`console_driver`]. When it
+/// reads that nothing is pending, it has sent all its bytes, unless it is stopped. If IER then enables RDA, it has also
+/// taken all bytes, unless its last turn came to the limit: the others wait for the character timeout.
 pub fn console_handler()
     ensures run { HandlerRunLaw }
     ensures ends { HandlerEndsLaw }
 {}
 
-/// One call in any state, and the level of the interrupt line. A call that calls the trigger, which may refuse, leaves
-/// the line up. The line goes up in such a call, or in an IER write that enables a pending condition, for which the
-/// trigger is not called again. It goes down only in a read of IIR or RBR, or in an IER write. From a start whose IIR
-/// is 1, 2, 4 or 6, the line is up exactly while the trace has a condition pending that IER enables.
+/// One call in any state, and the level of the interrupt line. A call that calls the trigger leaves the line up, even
+/// if the trigger refuses. The line goes up only in such a call, or in an IER write that enables a condition that is
+/// already pending, for which the trigger is not called. It goes down only in a read of IIR or RBR, or in an IER write.
+/// From a start whose IIR is 1, 2, 4 or 6, it is up exactly while the trace has a condition pending that IER enables.
 #[tactic(auto, using(crate::proofs::Lemmas::Serial::Laws::Interrupts::interrupt_line_laws))]
 pub fn interrupt_line()
     ensures after { LineAfterLaw }
@@ -293,7 +297,8 @@ pub fn set_time()
     by_lemmas();
 }
 
-/// Laws whose lemmas the search does not apply by their names. Those above that state them call this function.
+/// Laws whose lemmas the prover's search does not apply. The functions above that state these laws call this one, whose
+/// answers cite the lemmas.
 fn by_lemmas()
     ensures interrupts { InterruptLaw }
     ensures steps { StepLaw }

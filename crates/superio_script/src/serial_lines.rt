@@ -20,7 +20,7 @@ use vm_superio::{Serial, laws};
 /// The serial port of a board.
 pub(crate) type BoardSerial = Serial<Line, Counts, Output>;
 
-/// Executes a line on the serial port and returns the reply. Only `ss` can fail, for lack of memory. The port is then
+/// Executes a line on the serial port and returns the reply. Only `ss` can fail, if memory is refused. The port is then
 /// unchanged.
 #[tactic(auto, using(crate::proofs::SerialScriptLemmas::unchanged_lines))]
 pub(crate) fn serial_line(

@@ -55,8 +55,7 @@ fn is_refused(mask: u64, number: u64) -> bool {
     number < 64 && mask >> number & 1 == 1
 }
 
-/// What a line of this mask answered to so many calls, the first of this number. `None` if no access calls it like
-/// this.
+/// What a line of this mask answered to so many calls, the first of this number. `None` if no access makes such calls.
 fn answers(mask: u64, first: u64, count: u64) -> Option<Asked> {
     let second = first.saturating_add(1);
     match (count, is_refused(mask, first), is_refused(mask, second)) {
@@ -306,8 +305,7 @@ fn all_threes() -> [[u8; 3]; 27] {
     all
 }
 
-/// A vector takes all that a guest sends.
-/// Whether the interrupt of an empty transmitter is found, and alone.
+/// Whether IIR shows THRE, and nothing else.
 fn finds_thre<W: Write>(serial: &mut Serial<Object<'_>, NoEvents, W>) -> bool {
     serial.read(2) == 0xC2
 }

@@ -4,10 +4,10 @@
 //! event, an output that is drained, and a script, which calls its streams no more than it has to. A call that takes
 //! and drops objects does not call them before.
 use crate::objects::{
-    FAULTS, Log, Object, SerialCall, TestSerial, Then, Writing, by_std, fault_of, in_order,
-    is_same, port, port_over, writings,
+    FAULTS, Log, Object, SerialCall, TestSerial, Then, Writing, by_std, drawn, drawn_clock,
+    drawn_state, fault_of, in_order, is_same, port, port_over, writings,
 };
-use std::alloc::{AllocError, Global};
+use std::alloc::Global;
 use std::io;
 use std::io::{Read, Write};
 use std::test::Fail;
@@ -17,7 +17,7 @@ use superio_examples::triggers::EventFd;
 use superio_script::{LineRefused, ScriptFault, run_script};
 use vm_superio::run::{Call, Reply, run};
 use vm_superio::serial::{Error, Refused};
-use vm_superio::{I8042Device, Rtc, Serial, SerialState, Trigger};
+use vm_superio::{I8042Device, Rtc, Serial, Trigger};
 
 // ---- a byte that is sent
 
@@ -54,14 +54,15 @@ fn a_fault_of_the_writer_is_returned_as_it_is(rt: HostRuntime) -> Result<(), Fai
         controller: I8042Device::new(Object(&log)),
     };
     for number in 0..FAULTS {
+        let [byte, ..] = drawn(u64::from(number.unsigned_abs())).to_le_bytes();
         for writing in writings(number) {
             for way in 0..3u8 {
                 log.start(writing);
                 let sent = match way {
-                    0 => bus.serial.write(0, b'x'),
-                    1 => bus.write(COM1, b'x').map_err(of_port),
+                    0 => bus.serial.write(0, byte),
+                    1 => bus.write(COM1, byte).map_err(of_port),
                     // IER enables both conditions.
-                    _ => bus.port_out(COM1, b"x\x03").map_err(of_port),
+                    _ => bus.port_out(COM1, &[byte, 0x03]).map_err(of_port),
                 };
                 assert!(rt;
                     is_right(rt.alloc(), &log, writing, &sent)?,
@@ -106,6 +107,31 @@ fn a_data_write_turns_to_the_writer_then_events_then_trigger(rt: HostRuntime) ->
     serial.read(0);
     serial.read(0);
     assert!(rt; log.order.get() == in_order(b"Trer"));
+    Ok(())
+}
+
+/// It stops at the first refusal.
+#[test]
+fn a_retry_calls_the_trigger_once_for_each_interrupt_due(rt: HostRuntime) -> Result<(), Fail> {
+    let log = Log::new();
+    let object = Object(&log);
+    for number in 0..300u64 {
+        let state = drawn_state(rt.alloc(), number, 1)?;
+        let made = Serial::from_state(rt.alloc(), &state, object, object, object);
+        let mut serial = made.map_err(Refused::into_error)?;
+        let due = u64::from(serial.interrupts_due());
+        for refused in 1..4u64 {
+            let before = log.triggers.get();
+            log.refused.set(before.wrapping_add(refused));
+            assert!(rt;
+                serial.retry_interrupts().is_err() == (refused <= due),
+                "{number}"
+            );
+            let called = log.triggers.get().wrapping_sub(before);
+            assert!(rt; called == refused.min(due), "{number}");
+        }
+        log.refused.set(0);
+    }
     Ok(())
 }
 
@@ -265,33 +291,31 @@ fn a_fault_of_a_stream_is_io(rt: HostRuntime) {
 
 // ---- objects that are dropped
 
-/// The state of a number: it holds any count of bytes, and any conditions are pending and enabled.
-fn state_of(alloc: Global, number: u8) -> Result<SerialState, AllocError> {
-    let mut state = SerialState::default(alloc);
-    state.in_buffer = b"x".repeat(alloc, usize::from(number % 65))?;
-    state.line_status = number.wrapping_mul(7);
-    state.line_control = number.wrapping_mul(11);
-    state.modem_control = number.wrapping_mul(13);
-    state.interrupt_enable = number;
-    state.interrupt_identification = number / 4;
-    Ok(state)
+/// The error of a way to drop a port.
+fn error_of(way: u8) -> Error<LineRefused> {
+    match way {
+        3 => Error::FullFifo,
+        4 => Error::Memory,
+        5 => Error::Trigger(LineRefused),
+        _ => Error::IOError(fault_of(i32::from(way))),
+    }
 }
 
-/// Drops a port whole, or what is left of it in one of three ways.
+/// Drops a port whole, or what is left of it in one of three ways, the last of them with any error.
 fn drop_port(port: TestSerial<'_>, way: u8) {
     match way {
         0 => drop(port),
         1 => drop(port.into_writer()),
         2 => drop(port.into_parts()),
-        _ => drop_refused(port),
+        _ => drop_refused(port, error_of(way)),
     }
 }
 
-/// Drops a port's objects as those of a port that was refused.
-fn drop_refused(port: TestSerial<'_>) {
+/// Drops a port's objects as those of a port that was refused for this error.
+fn drop_refused(port: TestSerial<'_>, error: Error<LineRefused>) {
     let (trigger, events, out) = port.into_parts();
     let refused = Refused {
-        error: Error::FullFifo,
+        error,
         trigger,
         events,
         out,
@@ -303,9 +327,9 @@ fn drop_refused(port: TestSerial<'_>) {
 fn objects_of_a_port_are_dropped_in_silence(rt: HostRuntime) -> Result<(), Fail> {
     let log = Log::new();
     let object = Object(&log);
-    for number in 0..=255u8 {
-        let state = state_of(rt.alloc(), number)?;
-        for way in 0..4u8 {
+    for number in 0..300u64 {
+        let state = drawn_state(rt.alloc(), number, (number % 65) as usize)?;
+        for way in 0..7u8 {
             let made = Serial::from_state(rt.alloc(), &state, object, object, object);
             let port = made.map_err(Refused::into_error)?;
             let calls = log.calls();
@@ -319,9 +343,12 @@ fn objects_of_a_port_are_dropped_in_silence(rt: HostRuntime) -> Result<(), Fail>
 #[test]
 fn objects_of_a_clock_and_a_controller_are_dropped_in_silence(rt: HostRuntime) {
     let log = Log::new();
-    drop(Rtc::with_events(Object(&log)).into_parts());
+    for number in 0..100u64 {
+        let state = drawn_clock(number);
+        drop(Rtc::from_state(&state, Object(&log)).into_parts());
+        drop(Rtc::from_state(&state, Object(&log)));
+    }
     drop(I8042Device::new(Object(&log)).into_reset_evt());
-    drop(Rtc::with_events(Object(&log)));
     drop(I8042Device::new(Object(&log)));
     assert!(rt; log.calls() == [0; 4]);
 }

@@ -1,6 +1,6 @@
 // SPDX-License-Identifier: Apache-2.0 OR BSD-3-Clause
-//! The objects that the tests give to a device: a trigger, an events object and a writer, which share a log; and the
-//! faults of writers.
+//! The objects that the tests give to a device: a trigger, an events object and a writer, which share a log; the faults
+//! of writers; and what is drawn, each by its number.
 ghost use Rattle.std.specs.Prelude.{IfOk};
 ghost use Rattle.vm_superio.specs.Claims.{dlab_clear, not_in_loopback};
 ghost use Rattle.vm_superio.specs.Links.ForAnyObject.{AnyCalls, AnyCalls-nil, AnyCalls-append};
@@ -14,38 +14,114 @@ use superio_script::LineRefused;
 use vm_superio::rtc_pl031::RtcEvents;
 use vm_superio::run::Call;
 use vm_superio::serial::{Error, NoEvents, Refused, SerialEvents};
-use vm_superio::{Serial, Trigger};
+use vm_superio::{RtcState, Serial, SerialState, Trigger};
+
+// ---- what is drawn
+
+/// A number that a seed gives, by the generator splitmix64.
+pub fn drawn(seed: u64) -> u64 {
+    let mixed = seed.wrapping_add(1).wrapping_mul(0x9E37_79B9_7F4A_7C15);
+    let mixed = (mixed ^ (mixed >> 30)).wrapping_mul(0xBF58_476D_1CE4_E5B9);
+    let mixed = (mixed ^ (mixed >> 27)).wrapping_mul(0x94D0_49BB_1331_11EB);
+    mixed ^ (mixed >> 31)
+}
+
+/// A state of any registers that holds so many bytes.
+pub fn drawn_state(alloc: Global, seed: u64, held: usize) -> Result<SerialState, AllocError> {
+    let [dll, dlm, ier, iir, lcr, lsr, mcr, msr] = drawn(seed).to_le_bytes();
+    let [scratch, byte, ..] = drawn(!seed).to_le_bytes();
+    Ok(SerialState {
+        baud_divisor_low: dll,
+        baud_divisor_high: dlm,
+        interrupt_enable: ier,
+        interrupt_identification: iir,
+        line_control: lcr,
+        line_status: lsr,
+        modem_control: mcr,
+        modem_status: msr,
+        scratch,
+        in_buffer: [byte].repeat(alloc, held)?,
+    })
+}
+
+/// A state of a clock with any fields.
+pub fn drawn_clock(seed: u64) -> RtcState {
+    let [l0, l1, l2, l3, m0, m1, m2, m3] = drawn(seed).to_le_bytes();
+    let [i0, i1, i2, i3, r0, r1, r2, r3] = drawn(!seed).to_le_bytes();
+    RtcState {
+        lr: u32::from_le_bytes([l0, l1, l2, l3]),
+        offset: i64::from_le_bytes(drawn(drawn(seed)).to_le_bytes()),
+        mr: u32::from_le_bytes([m0, m1, m2, m3]),
+        imsc: u32::from_le_bytes([i0, i1, i2, i3]),
+        ris: u32::from_le_bytes([r0, r1, r2, r3]),
+        armed: seed % 2 == 0,
+    }
+}
+
+/// How many sizes there are.
+pub const SIZES: u64 = 64;
+
+/// The size of a number below [`SIZES`]: those about the powers of two up to 256, and any below 2,000.
+pub fn size_of(number: u64) -> usize {
+    match number {
+        0..=8 => 1 << number,
+        9..=17 => (1 << (number - 9)) - 1,
+        18..=26 => (1 << (number - 18)) + 1,
+        _ => (drawn(number) % 2_000) as usize,
+    }
+}
 
 // ---- faults
 
 /// How many faults there are.
-pub const FAULTS: i32 = 148;
+pub const FAULTS: i32 = 544;
 
 /// The fault of a number below [`FAULTS`]: by each number of the system but that of an interrupted call, which is
-/// repeated; by a driver's number; by kinds, among them those that no number has; and with a text of its own.
+/// repeated; by each kind alone; by a kind with any text; and by any number.
 pub fn fault_of(number: i32) -> io::Error {
     match number {
         4 => io::Error::from_raw_os_error(4_095),
-        134 => io::Error::from(ErrorKind::WriteZero),
-        135 => io::Error::from(ErrorKind::UnexpectedEof),
-        136 => io::Error::from(ErrorKind::InvalidData),
-        137 => io::Error::from(ErrorKind::Other),
-        138 => io::Error::from(ErrorKind::Unsupported),
-        139 => io::Error::from(ErrorKind::WouldBlock),
-        140 => io::Error::from(ErrorKind::TimedOut),
-        141 => io::Error::from(ErrorKind::BrokenPipe),
-        142 => io::Error::new(ErrorKind::Other, "l'hôte a fermé la connexion"),
-        143 => io::Error::new(ErrorKind::InvalidData, ""),
-        144 => io::Error::new(ErrorKind::UnexpectedEof, "no more"),
-        145 => io::Error::new(ErrorKind::Unsupported, "no flush"),
-        146 => io::Error::new(ErrorKind::WriteZero, "full"),
-        147 => io::Error::new(ErrorKind::BrokenPipe, "gone"),
-        _ => io::Error::from_raw_os_error(number),
+        0..=133 => io::Error::from_raw_os_error(number),
+        134..=271 => io::Error::from(kind_of(number - 134)),
+        272..=409 => fault_with_text(kind_of(number - 272), number),
+        _ => io::Error::from_raw_os_error(drawn_code(number)),
     }
 }
 
-/// How a writer may answer a byte: it takes it, fails by the fault of this number or takes nothing, at once or after
-/// interruptions, of which every sixteenth fault has many, or its flush fails.
+/// Any number of the system.
+fn drawn_code(seed: i32) -> i32 {
+    let [b0, b1, b2, b3, ..] = drawn(u64::from(seed.unsigned_abs())).to_le_bytes();
+    i32::from_le_bytes([b0, b1, b2, b3])
+}
+
+/// A kind: those of the system's numbers, but that of an interrupted call, and those that no number has.
+fn kind_of(number: i32) -> ErrorKind {
+    match number {
+        4 => ErrorKind::UnexpectedEof,
+        134 => ErrorKind::WriteZero,
+        135 => ErrorKind::InvalidData,
+        136 => ErrorKind::Other,
+        137 => ErrorKind::Unsupported,
+        _ => io::Error::from_raw_os_error(number).kind(),
+    }
+}
+
+/// A fault of this kind with a text of up to 80 characters, or with one that has others than those of ASCII.
+fn fault_with_text(kind: ErrorKind, seed: i32) -> io::Error {
+    let seed = u64::from(seed.unsigned_abs());
+    let mut text = [b' '; 80];
+    for place in 0..text.len() {
+        text[place] = (drawn(seed.wrapping_add(place as u64)) % 95) as u8 + b' ';
+    }
+    let length = (drawn(seed) % 81) as usize;
+    match str::from_utf8(&text[..length]) {
+        Ok(text) if seed % 8 != 0 => io::Error::new(kind, text),
+        _ => io::Error::new(kind, "l'hôte a fermé la connexion"),
+    }
+}
+
+/// What a writer may do with a byte: take it; fail by the fault of this number; take nothing; or take it, and fail to
+/// flush. It may be interrupted first: 300 times if 16 divides the number of the fault, and twice otherwise.
 pub fn writings(number: i32) -> [Writing; 6] {
     let fault = fault_of(number);
     let takes = Writing::takes();

@@ -5,10 +5,20 @@
 use std::alloc::{AllocError, Global};
 use std::io::Write;
 use std::test::Fail;
+use superio_examples::echo::{echo, over_serial};
+use superio_examples::first_claims::{read_back, restored_reads_same};
+use superio_examples::many_calls::make_by_run;
+use superio_examples::monitor::{MachineEvent, Monitor};
+use superio_examples::saved_monitor::{move_monitor, restore_monitor, save_monitor};
 use superio_script::{
     Board, Counts, Line, LineFault, LineRefused, Output, ScriptFault, drain, run_script,
 };
+use vm_superio::laws::saved::{
+    serial_read_then_written, serial_written_then_read, state_to_uart_and_back,
+    uart_to_state_and_back,
+};
 use vm_superio::run::{Call, Done, Reply, run};
+use vm_superio::saved::LoadError;
 use vm_superio::serial::{Error, NoEvents, Refused, SerialEvents};
 use vm_superio::{Serial, SerialState};
 
@@ -144,6 +154,34 @@ fn calls_of_a_port_take_no_memory(rt: HostRuntime) -> Result<(), Fail> {
         assert!(rt; serial.read(0) == value);
     }
     assert!(rt; serial.into_writer().bytes() == b"c".as_slice());
+    Ok(())
+}
+
+/// Whether this state was read, or memory was refused.
+fn is_read(read: &Result<SerialState, LoadError>, state: &SerialState) -> bool {
+    match read {
+        Ok(read) => *read == *state,
+        Err(fault) => *fault == LoadError::Memory,
+    }
+}
+
+#[test]
+fn a_state_is_converted_or_memory_is_refused(rt: HostRuntime) -> Result<(), Fail> {
+    let alloc = rt.alloc();
+    let state = state(alloc)?;
+    let saved = state.to_bytes()?;
+    let bytes = saved.as_bytes();
+    assert!(rt; is_read(&SerialState::from_bytes(alloc, bytes), &state));
+    assert!(rt; is_read(&serial_written_then_read(alloc, &state), &state));
+    assert!(rt; is_read(&state_to_uart_and_back(alloc, &state), &state));
+    match serial_read_then_written(alloc, bytes) {
+        Ok(written) => assert!(rt; written.as_bytes() == bytes),
+        Err(fault) => assert!(rt; fault == LoadError::Memory),
+    }
+    match uart_to_state_and_back(alloc, &state.to_uart()?) {
+        Ok(port) => assert!(rt; port.to_bytes().as_bytes() == bytes),
+        Err(fault) => assert!(rt; fault == LoadError::Memory),
+    }
     Ok(())
 }
 
@@ -312,4 +350,97 @@ fn a_script_prints_the_replies_before_its_restore_or_nothing(rt: HostRuntime) {
     }
     assert!(rt; end == Ok(()));
     assert!(rt; printed.bytes() == b"ok\n03\nok\n0000000000000002\nc4\n61\n3e\n".as_slice());
+}
+
+// ---- programs to copy
+
+#[test]
+fn a_console_echoes_or_memory_is_refused(rt: HostRuntime) {
+    let alloc = rt.alloc();
+    match echo(alloc, 1, b"ab", &[1]) {
+        Ok(sent) => assert!(rt; sent.as_slice() == b"ab".as_slice()),
+        Err(AllocError) => assert!(rt; echo(alloc, 1, b"ab", &[1]).is_ok()),
+    }
+    match over_serial::echo(alloc, Output::new(), 1, b"ab", &[1]) {
+        Ok(written) => assert!(rt; written.bytes() == b"ab".as_slice()),
+        Err(error) => assert!(rt; matches!(error, Error::Memory)),
+    }
+}
+
+#[test]
+fn claims_hold_or_memory_is_refused(rt: HostRuntime) -> Result<(), Fail> {
+    let alloc = rt.alloc();
+    match read_back(alloc, line(), output(), b"ab") {
+        Ok(read) => assert!(rt; read.as_slice() == b"ab".as_slice()),
+        Err(error) => assert!(rt; matches!(error, Error::Memory)),
+    }
+    let mut serial = port(alloc, &state(alloc)?)?;
+    match restored_reads_same(alloc, &mut serial, line(), counts(), output(), 0) {
+        Ok(bytes) => assert!(rt; bytes == (b'a', b'a')),
+        Err(error) => assert!(rt; matches!(error, Error::Memory)),
+    }
+    Ok(())
+}
+
+/// How many of the calls a new port makes by a run, or that memory was refused.
+fn made_by_run(alloc: Global) -> Result<usize, AllocError> {
+    let calls = calls(alloc)?;
+    match Serial::with_events(alloc, line(), counts(), output()) {
+        Ok(mut serial) => Ok(make_by_run(alloc, &mut serial, calls)?.len()),
+        Err(_) => Err(AllocError),
+    }
+}
+
+#[test]
+fn calls_are_made_by_a_run_or_memory_is_refused(rt: HostRuntime) -> Result<(), Fail> {
+    let made = match made_by_run(rt.alloc()) {
+        Ok(made) => made,
+        Err(AllocError) => made_by_run(rt.alloc())?,
+    };
+    assert!(rt; made == 6);
+    Ok(())
+}
+
+#[test]
+fn a_monitor_is_made_and_runs_or_memory_is_refused(rt: HostRuntime) -> Result<(), Fail> {
+    let alloc = rt.alloc();
+    let mut monitor = match Monitor::new(alloc, 3, 5) {
+        Ok(monitor) => monitor,
+        Err(AllocError) => Monitor::new(alloc, 3, 5)?,
+    };
+    let events = [
+        MachineEvent::Typed(b'a'),
+        MachineEvent::PortWrite(0x3F8, b'x'),
+    ];
+    let replies = match monitor.run(alloc, &events) {
+        Ok(replies) => replies,
+        Err(AllocError) => monitor.run(alloc, &events)?,
+    };
+    assert!(rt; replies.len() == 2);
+    assert!(rt; monitor.input.room() == 2 && !monitor.output.is_empty());
+    Ok(())
+}
+
+#[test]
+fn a_monitor_moves_or_memory_is_refused(rt: HostRuntime) -> Result<(), Fail> {
+    let alloc = rt.alloc();
+    let mut monitor = match Monitor::new(alloc, 3, 5) {
+        Ok(monitor) => monitor,
+        Err(AllocError) => Monitor::new(alloc, 3, 5)?,
+    };
+    monitor.input.push(b"a");
+    monitor.output.push(b'x');
+    let saved = match save_monitor(alloc, &monitor) {
+        Ok(saved) => saved,
+        Err(AllocError) => save_monitor(alloc, &monitor)?,
+    };
+    match restore_monitor(alloc, &saved) {
+        Ok(restored) => assert!(rt; restored.input.room() == 2 && !restored.output.is_empty()),
+        Err(fault) => assert!(rt; fault == LoadError::Memory),
+    }
+    match move_monitor(alloc, &monitor) {
+        Ok(moved) => assert!(rt; moved.input.room() == 2 && !moved.output.is_empty()),
+        Err(fault) => assert!(rt; fault == LoadError::Memory),
+    }
+    Ok(())
 }

@@ -1,7 +1,10 @@
 // SPDX-License-Identifier: Apache-2.0 OR BSD-3-Clause
 //! Calls that may return that memory was refused do not, while there is memory. A body that gives up at some size meets
 //! each contract.
-use crate::objects::{Log, Object, SerialCall, TestSerial, port_over, port_over_vector};
+use crate::objects::{
+    Log, Object, SIZES, SerialCall, TestSerial, drawn, drawn_state, port_over, port_over_vector,
+    size_of,
+};
 use std::alloc::{AllocError, Global};
 use std::io::Write;
 use std::test::Fail;
@@ -14,19 +17,6 @@ use superio_examples::saved_monitor::{move_monitor, save_monitor};
 use vm_superio::run::{Call, run};
 use vm_superio::serial::Uart;
 use vm_superio::{Serial, SerialState};
-
-/// Sizes about the powers of two, among them the FIFO's, and others.
-const SIZES: [usize; 26] = [
-    0, 1, 2, 3, 4, 5, 7, 8, 9, 15, 16, 17, 31, 32, 33, 63, 64, 65, 100, 127, 128, 129, 255, 256,
-    257, 1_000,
-];
-
-/// The state of a port that holds so many bytes.
-fn state_of(alloc: Global, held: usize) -> Result<SerialState, AllocError> {
-    let mut state = SerialState::default(alloc);
-    state.in_buffer = b"x".repeat(alloc, held)?;
-    Ok(state)
-}
 
 /// Whether the state goes to bytes and back, and to a port without I/O and back.
 fn is_converted(alloc: Global, state: &SerialState) -> Result<bool, Fail> {
@@ -44,10 +34,10 @@ fn is_restored(alloc: Global, state: &SerialState, object: Object<'_>) -> Result
 #[test]
 fn states_of_each_size_are_made(rt: HostRuntime) -> Result<(), Fail> {
     let log = Log::new();
-    for held in 0..=64usize {
-        let state = state_of(rt.alloc(), held)?;
-        assert!(rt; is_converted(rt.alloc(), &state)?, "{held}");
-        assert!(rt; is_restored(rt.alloc(), &state, Object(&log))?, "{held}");
+    for seed in 0..300u64 {
+        let state = drawn_state(rt.alloc(), seed, (seed % 65) as usize)?;
+        assert!(rt; is_converted(rt.alloc(), &state)?, "{seed}");
+        assert!(rt; is_restored(rt.alloc(), &state, Object(&log))?, "{seed}");
     }
     assert!(rt; port_over(rt.alloc(), Object(&log)).is_ok());
     Ok(())
@@ -81,42 +71,52 @@ fn counts_of<'a>(alloc: Global, object: Object<'a>, size: usize) -> Result<[usiz
 #[test]
 fn lists_of_each_size_are_taken(rt: HostRuntime) -> Result<(), Fail> {
     let log = Log::new();
-    for size in SIZES {
+    for number in 0..SIZES {
+        let size = size_of(number);
         let counts = counts_of(rt.alloc(), Object(&log), size)?;
         assert!(rt; counts == [size.saturating_add(2), size.min(64)], "{size}");
     }
     Ok(())
 }
 
-/// Whether a queue of this input takes all of it, and is made again with it.
-fn is_input_of(alloc: Global, bytes: &[u8]) -> Result<bool, Fail> {
+/// Whether a queue of this input takes all of it, and is made again with it, and with room for so many bytes.
+fn is_input_of(alloc: Global, bytes: &[u8], limit: usize) -> Result<bool, Fail> {
     let mut input = InputQueue::new(alloc, bytes.len())?;
     let is_full = input.push(bytes) == bytes.len() && input.room() == 0;
     input.feed(&mut Uart::new());
-    let restored = InputQueue::restored(alloc, bytes, 0)?;
-    Ok(is_full && input.limit() == bytes.len() && restored.waiting(alloc)?.as_slice() == bytes)
+    let restored = InputQueue::restored(alloc, bytes, limit)?;
+    Ok(
+        is_full
+            && input.limit() == bytes.len()
+            && restored.waiting(alloc)?.as_slice() == bytes
+            && restored.limit() == bytes.len().max(limit),
+    )
 }
 
-/// Whether a queue of this output takes all of it and drops what follows, and is made again with it.
-fn is_output_of(alloc: Global, bytes: &[u8]) -> Result<bool, Fail> {
+/// Whether a queue of this output takes all of it and drops what follows, and is made again with it, and with room for
+/// so many bytes.
+fn is_output_of(alloc: Global, bytes: &[u8], limit: usize) -> Result<bool, Fail> {
     let mut output = OutputQueue::new(alloc, bytes.len())?;
     let is_full = output.write(bytes).ok() == Some(bytes.len())
         && output.write(b"abc").ok() == Some(0);
-    let restored = OutputQueue::restored(alloc, bytes, 0, 0)?;
+    let restored = OutputQueue::restored(alloc, bytes, limit, 0)?;
     Ok(
         is_full
             && output.dropped() == 3
             && output.waiting(alloc)?.as_slice() == bytes
-            && restored.limit() == bytes.len(),
+            && restored.waiting(alloc)?.as_slice() == bytes
+            && restored.limit() == bytes.len().max(limit),
     )
 }
 
 #[test]
 fn queues_of_each_size_are_made(rt: HostRuntime) -> Result<(), Fail> {
-    for size in SIZES {
+    for number in 0..SIZES {
+        let size = size_of(number);
+        let limit = (drawn(!number) % 2_000) as usize;
         let bytes = b"x".repeat(rt.alloc(), size)?;
-        assert!(rt; is_input_of(rt.alloc(), &bytes)?, "{size}");
-        assert!(rt; is_output_of(rt.alloc(), &bytes)?, "{size}");
+        assert!(rt; is_input_of(rt.alloc(), &bytes, limit)?, "{size} {limit}");
+        assert!(rt; is_output_of(rt.alloc(), &bytes, limit)?, "{size} {limit}");
     }
     Ok(())
 }
@@ -135,8 +135,10 @@ fn is_same_moved(alloc: Global, monitor: &Monitor) -> Result<bool, Fail> {
 
 #[test]
 fn monitors_of_each_size_are_made(rt: HostRuntime) -> Result<(), Fail> {
-    for size in SIZES {
-        let mut monitor = Monitor::new(rt.alloc(), size, size)?;
+    for number in 0..SIZES {
+        let size = size_of(number);
+        let output = (drawn(!number) % 2_000) as usize;
+        let mut monitor = Monitor::new(rt.alloc(), size, output)?;
         assert!(rt; replies_to(rt.alloc(), &mut monitor, size)? == size);
         assert!(rt; is_same_moved(rt.alloc(), &monitor)?, "{size}");
     }

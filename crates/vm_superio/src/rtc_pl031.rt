@@ -1,12 +1,13 @@
 // SPDX-License-Identifier: Apache-2.0 OR BSD-3-Clause
 //! A real-time clock with the registers of an ARM PL031. It counts seconds.
 //!
-//! The clock does not read the host's clock. The monitor passes the moment of each access, in seconds since 1970. The
-//! low 32 bits of a moment are the host's time. Guest time is the host's time plus the clock's offset if the sum fits
-//! in 32 bits, and otherwise the host's time. It does not wrap.
+//! The clock does not read the host's clock: you pass each access its moment, in seconds since 1970. The low 32 bits
+//! of a moment are the host's time. Guest time is the host's time plus the clock's offset if the sum fits in 32 bits,
+//! and otherwise the host's time. It does not wrap.
 //!
-//! The match register is an alarm. It raises bit 0 of the raw interrupt status at the first access at which guest time
-//! has reached a match that was not past when written. The clock calls no trigger: ask [`Rtc::interrupt_line`].
+//! The match register is an alarm, unless its value is past when it is written. The first access that finds guest time
+//! at or past the match raises bit 0 of the raw interrupt status. The clock calls no trigger: after each access, set
+//! your line to [`Rtc::interrupt_line`].
 ghost use Rattle.std.specs.Prelude.{◌≡◌, ◌↔◌, ◌<◌, ◌^◌, ◌==◌, ◌||◌, ℕ, List, [], ◌∷◌, ◌++◌, IfSome, is_some, not, false};
 ghost use Rattle.std.specs.Bool.{OnTrue, OnFalse};
 ghost use Rattle.std.proofs.Common.{◌∙◌};
@@ -23,8 +24,8 @@ pub use superio_core::rtc_pl031::{ClockRegister, Pl031, RtcState, encoding};
 ///
 /// A clock owns its events object from creation on. It calls the object only where documented.
 ///
-/// An implementation states its `link`: the relation of the value before some events, the names of the events in order,
-/// and the value after them. The clock's contracts state which events link an object.
+/// An implementation declares its `link`, a relation of three things: its value before some events, the names of these
+/// events, in order, and its value after them. A clock's contract states which events it reported.
 pub trait RtcEvents {
     /// These events turn the first value into the second.
     ghost link: { Self → List RtcEvent → Self → Type 0 };
@@ -37,10 +38,10 @@ pub trait RtcEvents {
     fn invalid_write(&mut self)
         ensures { link self.old (invalid_write ∷ []) self.new };
 
-    /// The empty list links equal values only.
+    /// An empty list of events links a value with itself alone.
     ghost empty: { (x y : Self) → link x [] y ↔ (x ≡ y) };
 
-    /// Consecutive events join into one list.
+    /// Two linked lists of events, one after the other, are one linked list.
     ghost append: { (x y z : Self) (first second : List RtcEvent) →
         link x first y → link y second z → link x (first ++ second) z };
 }
@@ -177,13 +178,12 @@ impl<EV: RtcEvents> Rtc<EV> {
         self.clock.interrupt_line()
     }
 
-    /// The seconds from the moment `now`, in seconds since 1970, until the alarm is due if the guest makes no access.
-    /// An access then finds it reached; no earlier access does. The result is 0 if an access at `now` does, and always
-    /// less than 2^32.
+    /// The seconds from the moment `now`, in seconds since 1970, until an access finds the alarm reached, if the guest
+    /// makes none before. The result is less than 2^32, and 0 if an access at `now` finds it.
     ///
-    /// `None` means that no alarm is set, or that guest time never reaches the match: a clock behind the host's shows
-    /// the host's time before its first second, and may stop short of the match at the largest host's time. The mask
-    /// plays no part: a masked alarm is due like any other, and leaves the line down.
+    /// `None` means that no alarm is set, or that guest time never reaches the match. This can be so for a clock behind
+    /// the host's: its time may be less than the match at every moment. The mask plays no part: a masked alarm is due
+    /// like any other, and leaves the line down.
     ///
     /// The result holds until the next access, which may change the match or guest time.
     pub fn alarm_due(&self, now: u64) -> Option<u64>
@@ -199,9 +199,9 @@ impl<EV: RtcEvents> Rtc<EV> {
     /// First, if an alarm is set and guest time has reached it, the alarm raises bit 0 of the raw interrupt status and
     /// is cleared.
     ///
-    /// RTCMR (0x004) stores the value and drops any alarm set before. It sets the alarm if guest time is less than the
-    /// value, raises at once if guest time equals the value, and does neither if the value is past. RTCLR (0x008)
-    /// stores the value and makes it guest time. RTCCR (0x00C) resets the load register and guest time on 1; other
+    /// RTCMR (0x004) stores the value and drops any alarm set before. If the value is greater than guest time, it sets
+    /// the alarm. If they are equal, it raises bit 0 at once. If the value is past, it does neither. RTCLR (0x008)
+    /// stores the value and makes it guest time. RTCCR (0x00C) on 1 clears RTCLR and makes guest time the host's; other
     /// values have no effect. RTCIMSC (0x010) stores bit 0 only. RTCICR (0x01C) clears the raw interrupt status bits
     /// that the value has set.
     ///
@@ -244,9 +244,9 @@ impl<EV: RtcEvents> Rtc<EV> {
     /// 1970. Only the low 32 bits of `now` count. A read changes a register only if it finds the alarm due, as a write
     /// does first.
     ///
-    /// RTCDR (0x000) shows guest time, RTCCR (0x00C) shows 1, RTCMIS (0x018) shows the raw interrupt status under the
-    /// mask, and RTCMR (0x004), RTCLR (0x008), RTCIMSC (0x010) and RTCRIS (0x014) show their fields. Offsets 0xFE0 to
-    /// 0xFFF show the identification, each byte at four offsets.
+    /// RTCDR (0x000) shows guest time, and RTCCR (0x00C) shows 1. RTCMIS (0x018) shows the bits that the raw interrupt
+    /// status and the mask both have. RTCMR (0x004), RTCLR (0x008), RTCIMSC (0x010) and RTCRIS (0x014) show their
+    /// fields. Offsets 0xFE0 to 0xFFF show the identification, each byte at four offsets.
     ///
     /// A read at any other offset, including RTCICR (0x01C), leaves `bytes` unchanged and calls the events object's
     /// `invalid_read` once, before it returns. No read makes another call.

@@ -57,9 +57,9 @@ pub enum Reply<T: Trigger, EV: SerialEvents, W: Write> {
     Enqueued(Result<usize, Error<T::E>>),
     /// What `character_timeout` returned.
     TimedOut(Result<(), Error<T::E>>),
-    /// The port was recreated: the old port, with its own objects.
+    /// The restore succeeded. This is the old port, with its own objects.
     Restored(Serial<T, EV, W>),
-    /// The port stayed: why, and the objects of the restore.
+    /// The restore failed, and the port stayed. This is why, with the objects of the restore.
     NotRestored(Refused<T, EV, W>),
 }
 

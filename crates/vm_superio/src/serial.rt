@@ -90,7 +90,7 @@ impl<T: Trigger, EV: SerialEvents, W: Write> Serial<T, EV, W> {
 
     /// Makes a serial port from a saved state, taken unchanged, and new objects. Calls the trigger once for each
     /// condition that is both pending and enabled, so that the interrupts that the guest has not taken reach the new
-    /// trigger. Neither calls the events object nor uses the writer. Allocates as `new` does.
+    /// trigger. It does not call the events object or use the writer. Allocates as `new` does.
     ///
     /// # Errors
     ///
@@ -265,9 +265,10 @@ impl<T: Trigger, EV: SerialEvents, W: Write> Serial<T, EV, W> {
     ///
     /// # Errors
     ///
-    /// Returns [`Error::Trigger`] if the trigger refuses a call, even if the writer fails too, else [`Error::IOError`]
-    /// if the writer fails to take the byte or to flush. The writer's failure has no effect on the registers. A refused
-    /// condition stays pending: no access calls the trigger for it again until the guest has acknowledged it.
+    /// Returns [`Error::Trigger`] if the trigger refuses a call, even if the writer fails too. Otherwise returns
+    /// [`Error::IOError`] if the writer fails to take the byte or to flush. Its failure has no effect on the registers.
+    /// A refused condition stays pending: no access calls the trigger for it again until the guest has acknowledged it.
+    /// Only an IER write may make two calls. If the first of these is refused, THRE is not raised.
     pub fn write(&mut self, offset: u8, value: u8) -> Result<(), Error<T::E>>
         ensures step { IsSerialWrite T.link EV.link W.contents offset value result self.old self.new }
         // While IER is 0 the trigger is not called.
@@ -311,8 +312,8 @@ impl<T: Trigger, EV: SerialEvents, W: Write> Serial<T, EV, W> {
         Recorded { reply, asked, sent }
     }
 
-    /// Whether a write at `offset` sends its byte, as a THR write outside loopback does. Changes nothing: an event loop
-    /// may ask before the write whether its sink has room.
+    /// Whether a write at `offset` sends its byte, as a THR write outside loopback does. Changes nothing. Ask before
+    /// the write if your output may have no room.
     pub fn sends(&self, offset: u8) -> bool
         ensures { (value : ℕ) → sent_by (decode_in self.now.state (Write offset value))
             ≡ (if result then value ∷ [] else []) }
@@ -357,7 +358,7 @@ impl<T: Trigger, EV: SerialEvents, W: Write> Serial<T, EV, W> {
     ///
     /// # Errors
     ///
-    /// Returns the trigger's refusal: a pending, enabled condition was not notified.
+    /// Returns the trigger's refusal: call this again later.
     pub fn retry_interrupts(&mut self) -> Result<(), T::E>
         ensures called { OnOk result
             (T.link self.old.trigger (all_ok (conditions_due self.old.state)) self.new.trigger) }
@@ -370,8 +371,8 @@ impl<T: Trigger, EV: SerialEvents, W: Write> Serial<T, EV, W> {
         call_again(&self.registers, &mut self.interrupt_evt)
     }
 
-    /// How many interrupts are due, 0 to 2: the conditions that are both pending and enabled. A retry calls the trigger
-    /// once for each.
+    /// How many interrupts are due, 0 to 2: one for each condition that is both pending and enabled. A retry calls the
+    /// trigger once for each.
     pub fn interrupts_due(&self) -> u8
         ensures calls { result ≡ length (conditions_due self.now.state) }
         ensures at_most_2 { result ≤ 2 }
@@ -386,8 +387,8 @@ impl<T: Trigger, EV: SerialEvents, W: Write> Serial<T, EV, W> {
         self.registers.interrupt_enable
     }
 
-    /// Whether the interrupt line is up: while a condition is pending and enabled. For a controller that takes levels,
-    /// set your line to it after every call, and leave the trigger out.
+    /// Whether the interrupt line is up: while a condition is pending and enabled. If your interrupt controller takes
+    /// levels, set your line to it after every call, reads among them, and let the trigger do nothing.
     pub fn interrupt_line(&self) -> bool
         ensures line { result ≡ irq_level self.now.state }
         ensures due { result ≡ not (length (conditions_due self.now.state) == 0) }
@@ -411,7 +412,8 @@ impl<T: Trigger, EV: SerialEvents, W: Write> Serial<T, EV, W> {
     /// # Errors
     ///
     /// Returns [`Error::FullFifo`] if there are bytes, outside loopback, and 64 are held: nothing changes. Returns
-    /// [`Error::Trigger`] if the trigger refuses: the bytes are kept, and the guest finds them when it looks.
+    /// [`Error::Trigger`] if the trigger refuses: the bytes that fit are kept, so do not enqueue them again. To find
+    /// out how many, compare `fifo_capacity` before and after.
     pub fn enqueue_raw_bytes(&mut self, input: &[u8]) -> Result<usize, Error<T::E>>
         ensures step { IsSerialEnqueue T.link EV.link W.contents input.now result self.old self.new }
         ensures held { self.new.state.in_buffer ≡ self.old.state.in_buffer ++ enqueued_bytes self.old.state input.now }

@@ -10,6 +10,9 @@ use devices::serial::registers::{Register, Registers};
 use devices::serial::{Asked, EnqueueEffects, ReadEffects, WriteEffects};
 use devices::{is_reset_command, Pl031, RtcState, Uart};
 
+/// Coq computes fast with numbers of 63 bits.
+const WORD: u64 = u64::MAX >> 1;
+
 /// Numbers from a seed, the sum so far, and the number of calls.
 struct Run {
     seed: u64,
@@ -19,10 +22,8 @@ struct Run {
 
 impl Run {
     fn next(&mut self, below: u64) -> u64 {
-        self.seed ^= self.seed << 13;
-        self.seed ^= self.seed >> 7;
-        self.seed ^= self.seed << 17;
-        (self.seed >> 20) % below
+        self.seed = self.seed.wrapping_mul(6364136223846793005).wrapping_add(1442695040888963407) & WORD;
+        (self.seed >> 32) % below
     }
 
     fn bytes(&mut self, count: u64) -> Vec<u8> {
@@ -30,7 +31,7 @@ impl Run {
     }
 
     fn add(&mut self, number: u64) {
-        self.sum = self.sum.wrapping_mul(33) ^ number;
+        self.sum = (self.sum.wrapping_mul(33) ^ number) & WORD;
     }
 
     fn add_all(&mut self, bytes: &[u8]) {
@@ -60,7 +61,8 @@ impl Run {
 
     fn clock(&mut self, clock: &Pl031) {
         [clock.lr, clock.mr, clock.imsc, clock.ris].iter().for_each(|&number| self.add(number.into()));
-        self.add(clock.offset as u64);
+        self.add(clock.offset as u64 >> 32);
+        self.add(clock.offset as u64 & u64::from(u32::MAX));
         self.add(clock.armed);
     }
 

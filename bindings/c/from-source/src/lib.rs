@@ -11,7 +11,7 @@ use superio::{is_reset_command, Pl031, RtcState, Uart};
 /// Changes with every change to a struct or to the meaning of a call.
 const ABI: u32 = 4;
 
-/// What a due alarm returns if it never is.
+/// What `superio_rtc_alarm_due` returns if no access ever finds an alarm due.
 const NEVER: u64 = u64::MAX;
 
 /// What a load returns on success.
@@ -128,7 +128,7 @@ pub unsafe extern "C" fn superio_serial_load(port: *mut Uart, bytes: *const u8, 
 
 /// # Safety
 ///
-/// 33 bytes outside the clock can be written at `bytes`. They need not be set.
+/// `SAVED_SIZE` bytes outside the clock can be written at `bytes`. They need not be set.
 #[no_mangle]
 pub unsafe extern "C" fn superio_rtc_save(clock: &Pl031, bytes: *mut u8) {
     let saved = clock.state().to_bytes();

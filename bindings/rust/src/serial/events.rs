@@ -2,9 +2,9 @@
 //! What a serial port reports.
 use std::sync::Arc;
 
-/// Hears what a serial port did.
+/// Receives a serial port's events.
 ///
-/// A port calls it only to report, and nothing that it does changes the port.
+/// A port calls it only to report: what it does cannot change the port.
 ///
 /// # Example
 ///

@@ -5,14 +5,14 @@ use std::io::Write;
 use super::{Serial, SerialEvents};
 use crate::Trigger;
 
-/// Tells the level of the interrupt line, for an interrupt controller that takes levels.
+/// Returns the level of the interrupt line, for an interrupt controller that takes levels.
 ///
-/// A PCI interrupt, a level-triggered input of an I/O APIC and that of a GIC are levels. There a trigger that pulses
-/// loses interrupts. Let the trigger do nothing, and set the line to this level after every call of the port, reads
-/// among them.
+/// A PCI interrupt and level-triggered inputs of an I/O APIC or a GIC are levels. There a trigger that pulses loses
+/// interrupts. Let the trigger do nothing, and set the line to this level after every call of the port, reads among
+/// them.
 ///
-/// It is a trait, in a module of its own, so that no method of a program that was written for vm-superio collides with
-/// the call: import it where you make the call.
+/// This is a trait of its own, so that it cannot collide with a method of a program that was written for vm-superio:
+/// import it where you make the call.
 pub trait InterruptLine {
     /// Whether the line is up: while a condition is pending that IER enables. The port does not change.
     fn interrupt_line(&self) -> bool;

@@ -53,9 +53,9 @@ pub struct SerialState {
     pub baud_divisor_low: u8,
     /// DLM, the high byte of the divisor.
     pub baud_divisor_high: u8,
-    /// IER: 0x01 enables the interrupt of received data, 0x02 that of an empty transmitter.
+    /// IER: 0x01 enables RDA, received data available, and 0x02 THRE, transmitter holding register empty.
     pub interrupt_enable: u8,
-    /// IIR without 0xC0: 0x04 if received data is pending, 0x02 if an empty transmitter is, and 0x01 if neither is.
+    /// IIR without 0xC0. 0x04: RDA is pending, 0x02: THRE is, 0x01: neither is.
     pub interrupt_identification: u8,
     /// LCR. Bit 0x80 puts the divisor at offsets 0 and 1.
     pub line_control: u8,
@@ -78,15 +78,16 @@ impl Default for SerialState {
 }
 
 impl SerialState {
-    /// Whether the registers and bytes agree, as those of every port do that began as a new one: at most 64 bytes, data
-    /// ready if and only if there is one, an IIR of 1, 2, 4 or 6, and received data pending only if there is a byte.
+    /// Whether the state is coherent: at most 64 bytes are held, LSR shows data ready exactly if bytes are held, IIR is
+    /// 1, 2, 4 or 6, and RDA is pending only if bytes are held. Every state of a port that began as a new one is
+    /// coherent.
     ///
     /// Restoring any other state is safe too. You may refuse an incoherent one from an untrusted source.
     pub fn is_coherent(&self) -> bool {
         self.port().map_or(false, |port| port.is_coherent())
     }
 
-    /// The encoding: at most 81 bytes, the same on every machine. A state has exactly one.
+    /// The encoding: 17 to 81 bytes, the same on every machine. A state has exactly one.
     ///
     /// # Errors
     ///

@@ -14,8 +14,8 @@ use crate::Trigger;
 /// # When to make the call
 ///
 /// Make it after each guest read of offset 2 whose answer has bit 0x01 (none pending), and once in each turn of your
-/// event loop. Where DLAB is set or loopback is on, the same call does no harm. If the trigger refuses, the guest has
-/// read the value all the same: return it, and call [`retry_interrupts`](Serial::retry_interrupts) some ms later.
+/// event loop. If the trigger refuses, the guest has read the value all the same: return it, and call
+/// [`retry_interrupts`](Serial::retry_interrupts) some milliseconds later.
 ///
 /// # Example
 ///
@@ -63,16 +63,14 @@ use crate::Trigger;
 /// # Ok::<(), Error<Infallible>>(())
 /// ```
 ///
-/// It is a trait, in a module of its own, so that no method of a program that was written for vm-superio collides with
-/// the call: import it where you make the call.
+/// This is a trait of its own, so that it cannot collide with a method of a program that was written for vm-superio:
+/// import it where you make the call.
 pub trait CharacterTimeout {
     /// Why the trigger refused.
     type E;
 
-    /// Raises the interrupt of received data again, and calls the trigger once, if bytes wait without it.
-    ///
-    /// That is so if at least one byte is held, IER enables the interrupt, and it is not pending. Otherwise nothing
-    /// happens. DLAB and loopback make no difference.
+    /// If bytes are held, IER enables the interrupt for received data, and it is not pending, raises it and calls the
+    /// trigger once. Otherwise nothing happens. DLAB and loopback make no difference.
     ///
     /// # Errors
     ///

@@ -6,7 +6,7 @@
 /// The capacity of the FIFO, as in a 16750.
 pub const FIFO_SIZE: usize = 64;
 
-/// From so many bytes on a copy is cheaper than a loop.
+/// The fewest bytes for which a copy is cheaper than a loop.
 const COPY_MIN: usize = 8;
 
 /// What a port needs from its receive FIFO: a list of at most 64 bytes, oldest first.
@@ -15,11 +15,11 @@ pub trait RxFifo {
     // Clauses in crates/superio_core/src/fifo.rt: value, bound.
     fn len(&self) -> usize;
 
-    /// Whether it is empty.
+    /// Whether no byte is held.
     // Clauses in crates/superio_core/src/fifo.rt: returns.
     fn is_empty(&self) -> bool;
 
-    /// Takes the oldest byte.
+    /// Removes the oldest byte and returns it, or `None` if no byte is held.
     // Clauses in crates/superio_core/src/fifo.rt: byte, rest, len_in_range.
     fn take_first(&mut self) -> Option<u8>;
 
@@ -32,8 +32,8 @@ pub trait RxFifo {
     fn fill(&mut self, bytes: &[u8]) -> usize;
 }
 
-/// Received bytes in a ring of 64 places. Any values are valid: `head` counts modulo 64, and `len` above 64 counts as
-/// 64.
+/// Received bytes in a ring of 64 places. Any values are valid: `head` is taken modulo 64, and a `len` above 64 counts
+/// as 64.
 #[repr(C)]
 #[derive(Clone, Copy)]
 pub struct ArrayFifo {

@@ -4,7 +4,7 @@
 //! A real-time clock with the registers of an ARM PL031, without I/O.
 //!
 //! A call changes the clock and returns what the guest reads, or whether the access is invalid. The clock reads no
-//! clock of the host: each access gets its moment, in seconds since 1970.
+//! clock of the host: you pass each access its moment, in seconds since 1970.
 
 mod alarm;
 pub mod encoding;
@@ -14,7 +14,7 @@ use alarm::{guest_time, seconds_until};
 pub use encoding::RtcState;
 pub use registers::ClockRegister;
 
-/// A clock without an events object. Any values are valid.
+/// A PL031 real-time clock without I/O. Any values are a valid clock.
 #[repr(C)]
 #[derive(Clone, Copy)]
 pub struct Pl031 {
@@ -135,8 +135,9 @@ impl Pl031 {
         true
     }
 
-    /// Reads at `offset` at the moment `now`, in seconds since 1970, as `Rtc::read` does. Only the
-    /// low 32 bits of `now` count. Returns the value read, or `None` if the read is invalid.
+    /// The guest reads four bytes at `offset` from the clock's base, at the moment `now`, in seconds since 1970. Only
+    /// the low 32 bits of `now` count. Returns the number whose bytes it reads, lowest first, or `None` if there is
+    /// nothing to read at this offset. Even then the access may find the alarm reached.
     #[inline(always)]
     // Clauses in crates/superio_core/src/rtc_pl031.rt: response, state.
     pub fn read(&mut self, offset: u16, now: u64) -> Option<u32> {
@@ -144,8 +145,9 @@ impl Pl031 {
         self.read_register(ClockRegister::decode(offset), time)
     }
 
-    /// Writes `value` at `offset` at the moment `now`, as `Rtc::write` does. Returns whether this
-    /// offset takes a write.
+    /// The guest writes `value`, as four bytes, lowest first, at `offset` from the clock's base, at the moment `now`,
+    /// in seconds since 1970. Returns whether this offset takes a write. If not, nothing is stored, but the access may
+    /// still find the alarm reached.
     #[inline(always)]
     // Clauses in crates/superio_core/src/rtc_pl031.rt: writable, state.
     pub fn write(&mut self, offset: u16, value: u32, now: u64) -> bool {
@@ -153,14 +155,16 @@ impl Pl031 {
         self.store(ClockRegister::decode(offset), value, time)
     }
 
-    /// Whether the interrupt line is up: bit 0 of RTCMIS, the raw interrupt status under the mask.
+    /// Whether the interrupt line is up: bit 0 of RTCMIS, set if both RTCRIS and RTCIMSC have it. Set your line to it
+    /// after each access.
     // Clauses in crates/superio_core/src/rtc_pl031.rt: returns.
     pub fn interrupt_line(&self) -> bool {
         self.ris & self.imsc & 1 == 1
     }
 
-    /// The seconds from the moment `now` until the alarm is due if the guest makes no access; see
-    /// `Rtc::alarm_due`.
+    /// The seconds from the moment `now`, in seconds since 1970, until an access finds the alarm reached, if the guest
+    /// makes none before: less than 2^32, and 0 if an access at `now` finds it. `None` if no alarm is set, or if guest
+    /// time never reaches the match. The mask plays no part.
     // Clauses in crates/superio_core/src/rtc_pl031.rt: due, bound.
     pub fn alarm_due(&self, now: u64) -> Option<u64> {
         if self.armed == 0 {

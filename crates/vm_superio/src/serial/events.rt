@@ -4,12 +4,12 @@ ghost use Rattle.std.specs.Prelude.{◌≡◌, ◌↔◌, List, [], ◌∷◌, �
 ghost use Rattle.std.proofs.Common.{◌∙◌};
 ghost use Rattle.superio_core.specs.Serial.Operations.{Event, buffer_read, out_byte, tx_lost_byte, in_buffer_empty};
 
-/// Hears what a serial port does, to count it, log it, or feed more input after the port runs empty.
+/// Receives a serial port's events: use them to count, to log, or to offer more input when no byte is left.
 ///
 /// A serial port owns its events object from creation on. It calls the object only where documented.
 ///
-/// An implementation states its `link`: the relation of the value before some events, the names of the events in order,
-/// and the value after them. The port's contracts state which events link an object.
+/// An implementation declares its `link`, a relation of three things: its value before some events, the names of these
+/// events, in order, and its value after them. A port's contract states which events it reported.
 pub trait SerialEvents {
     /// These events turn the first value into the second.
     ghost link: { Self → List Event → Self → Type 0 };
@@ -30,10 +30,10 @@ pub trait SerialEvents {
     fn in_buffer_empty(&mut self)
         ensures { link self.old (in_buffer_empty ∷ []) self.new };
 
-    /// The empty list links equal values only.
+    /// An empty list of events links a value with itself alone.
     ghost empty: { (x y : Self) → link x [] y ↔ (x ≡ y) };
 
-    /// Consecutive events join into one list.
+    /// Two linked lists of events, one after the other, are one linked list.
     ghost append: { (x y z : Self) (first second : List Event) →
         link x first y → link y second z → link x (first ++ second) z };
 }

@@ -144,15 +144,15 @@ pub struct Registers {
     pub baud_divisor_low: u8,
     /// DLM, the high byte of the divisor latch.
     pub baud_divisor_high: u8,
-    /// IER.
+    /// IER. 0x01 enables RDA, received data available, and 0x02 THRE, transmitter holding register empty.
     pub interrupt_enable: u8,
-    /// IIR without bits 0xC0.
+    /// IIR without bits 0xC0. 0x04: RDA is pending, 0x02: THRE is, 0x01: neither is.
     pub interrupt_identification: u8,
-    /// LCR.
+    /// LCR. 0x80 is DLAB.
     pub line_control: u8,
-    /// LSR.
+    /// LSR. 0x01 is data ready.
     pub line_status: u8,
-    /// MCR.
+    /// MCR. 0x10 is loopback.
     pub modem_control: u8,
     /// MSR.
     pub modem_status: u8,
@@ -209,8 +209,8 @@ impl Registers {
         has_bits(self.modem_control, MCR_LOOP_BIT)
     }
 
-    /// Whether a port with these registers is coherent, given whether it holds bytes and that it holds at most 64: data
-    /// ready shows whether it does, and IIR is 1, 2, 4 or 6, with RDA pending only while bytes are held.
+    /// Whether these registers are coherent with a FIFO that holds bytes or none, and at most 64: LSR shows data ready
+    /// exactly if it holds some, IIR is 1, 2, 4 or 6, and RDA is pending only if it holds some.
     // Clauses in crates/superio_core/src/serial/registers.rt: returns.
     pub fn is_coherent(&self, holds_bytes: bool) -> bool {
         has_bits(self.line_status, LSR_DATA_READY_BIT) == holds_bytes
