@@ -8,19 +8,21 @@ last lines name all that was not tried, and why.
 """
 import os
 import platform
+import random
 from collections import Counter
 from pathlib import Path
 
 import pytest
 from harness import ROOT, check
 from hypothesis import HealthCheck, settings
+from seeds import VARIABLE, seed
 from tools import PLACES, TOOLS, is_there, missing
 
 LEFT_OUT = pytest.StashKey()   # of a test that --without leaves out
 
 os.environ.setdefault("HYPOTHESIS_STORAGE_DIRECTORY", str(ROOT / "out" / "hypothesis"))
 common = {"deadline": None, "database": None, "suppress_health_check": list(HealthCheck), "print_blob": True}
-settings.register_profile("quick", max_examples=50, derandomize=True, **common)
+settings.register_profile("quick", max_examples=50, **common)
 settings.register_profile("thorough", max_examples=3000, **common)
 settings.load_profile(os.environ.get("HYPOTHESIS_PROFILE", "quick"))
 
@@ -41,7 +43,18 @@ def needed(item):
     return {tool for mark in item.iter_markers("needs") for tool in mark.args}
 
 
+@pytest.hookimpl(optionalhook=True)
+def pytest_xdist_setupnodes():
+    """Workers have to find the same names of tests. Some are of a set, whose order is a process's own."""
+    os.environ["PYTHONHASHSEED"] = str(random.randrange(2 ** 32))
+
+
+@pytest.hookimpl(tryfirst=True)
 def pytest_configure(config):
+    if hasattr(config, "workerinput"):   # what a worker runs has an order of its own again
+        del os.environ["PYTHONHASHSEED"]
+    if config.getoption("--hypothesis-seed") is None:   # which hypothesis reads after this
+        config.option.hypothesis_seed = seed()
     if unknown := left_out(config) - set(TOOLS):
         raise pytest.UsageError(f"--without: there is no tool {', '.join(sorted(unknown))}")
 
@@ -86,6 +99,8 @@ def pytest_terminal_summary(terminalreporter):
     reasons = Counter(report.longrepr[2].removeprefix("Skipped: ") for report in skipped)
     for reason, number in sorted(reasons.items()):
         terminalreporter.write_line(f"NOT TRIED: {number} tests, since {reason}")
+    if {"failed", "error"} & {*terminalreporter.stats}:
+        terminalreporter.write_line(f"What was random began at {VARIABLE}={seed()}, with which it is the same again")
 
 
 @pytest.fixture(scope="session")

@@ -57,7 +57,7 @@ static void carry_out(const char *word) {
     if (IS("edges") || IS("level")) machine = made;
     else if (IS("out")) port_write(&machine, (uint16_t)first, (uint8_t)second);
     else if (IS("in")) read_port((uint16_t)first);
-    else if (IS("store")) memory_write(&machine, CLOCK + first, (uint32_t)second);
+    else if (IS("store")) memory_write(&machine, 0x09011000 + first, (uint32_t)second);
     else if (IS("handler")) run_handler();
     else if (IS("input")) add_input((size_t)first, (int)second);
     else if (IS("early")) machine.feeds_early = true;

@@ -6,7 +6,6 @@ no state. The devices have any bytes in them: most are none that a guest leads t
 """
 import ctypes
 import mmap
-import random
 import re
 from pathlib import Path
 
@@ -15,6 +14,7 @@ from abi import CONSTANTS, FUNCTIONS, STRUCTS
 from board import CLOCK, SERIAL, fault
 from harness import ROOT, check
 from libraries import SHARED
+from seeds import random_source
 
 GUARD = 64      # bytes before and behind what a pointer leads to
 ROUNDS = 400    # calls of each function
@@ -101,7 +101,7 @@ def library(request):
 def made(library):
     """Calls of all functions in turn, with their arguments, results, what they left, and whether the library's own
     memory is as it was."""
-    source, states, calls, pieces = random.Random("abi"), [b""], [], writable_pieces(library._name)
+    source, states, calls, pieces = random_source("abi"), [b""], [], writable_pieces(library._name)
     own_memory = [ctypes.string_at(*it) for it in pieces]
     for _ in range(ROUNDS):
         for function in FUNCTIONS:
@@ -160,7 +160,7 @@ def test_no_state(made):
 def test_same_again(library, made):
     """A call that is made again, between other guards and in the other order, does the same: it reads nothing but what
     it is passed, and devices that take turns do what each does alone."""
-    source, different = random.Random("again"), set()
+    source, different = random_source("again"), set()
     for function, arguments, result, left, _ in reversed(made):
         again = [Place(source, it.content_before()) if isinstance(it, Place) else it for it in arguments]
         if call(library, function, again) != (result, left):
@@ -218,7 +218,7 @@ def loaded(library, kind, data):
 @pytest.mark.parametrize("kind", SAVED)
 def test_there_and_back(library, kind):
     """A state that was loaded has the fields of the saved one, and the same saved state."""
-    source, struct = random.Random(kind), STRUCTS[f"superio_{kind}"]
+    source, struct = random_source(kind), STRUCTS[f"superio_{kind}"]
     for _ in range(ROUNDS):
         device = struct.from_buffer_copy(random_device(source, struct))
         data = saved(library, kind, device)
@@ -244,7 +244,7 @@ def status_of(kind, data):
 def test_damaged(library, kind):
     """Saved bytes that are cut, longer, changed in a bit or of another length load as the state whose saved bytes they
     are, or leave the struct as it was and say which check they fail."""
-    source, struct = random.Random(kind), STRUCTS[f"superio_{kind}"]
+    source, struct = random_source(kind), STRUCTS[f"superio_{kind}"]
     for _ in range(8):
         data = saved(library, kind, struct.from_buffer_copy(random_device(source, struct)))
         flipped = [bytes([*data[:place], data[place] ^ 1 << bit, *data[place + 1:]])

@@ -9,6 +9,7 @@ from builds import COMPILERS, compilers_for
 from harness import ROOT, at_least, check, run
 from header import read_header
 from libraries import INTERFACE, PREBUILT, library_sums, source_line, sums_of
+from program import alone
 
 HERE = Path(__file__).parent
 WARNINGS = ["-O1", "-Wall", "-Wextra", "-pedantic", "-I", ROOT / "bindings" / "c"]
@@ -42,7 +43,8 @@ def test_prebuilt_is_of_the_sources():
 @pytest.mark.needs("kit")
 def test_prebuilt_is_what_a_build_gives(tmp_path):
     """From the proofs, byte for byte."""
-    check([ROOT / "tools" / "prebuild", tmp_path], timeout=3600, stderr=subprocess.STDOUT)
+    with alone():
+        check([ROOT / "tools" / "prebuild", tmp_path], timeout=3600, stderr=subprocess.STDOUT)
     assert library_sums(tmp_path) == library_sums(PREBUILT)
 
 

@@ -1,11 +1,13 @@
 # SPDX-License-Identifier: Apache-2.0 OR BSD-3-Clause
 """The program `superio`, and others in Rattle: how they are built, and how tests run them."""
+import fcntl
 import os
 import re
 import shutil
 import subprocess
 import sys
 import tempfile
+from contextlib import contextmanager
 from pathlib import Path
 
 from harness import ROOT
@@ -36,6 +38,17 @@ def build(*steps):
     os.unlink(log.name)
 
 
+@contextmanager
+def alone():
+    """Lets one process at a time go on: pytest may have several workers, and each builds in the folders of crates."""
+    folder = os.open(CRATES, os.O_RDONLY)
+    try:
+        fcntl.flock(folder, fcntl.LOCK_EX)
+        yield
+    finally:
+        os.close(folder)
+
+
 def crates_below(crate):
     """The crates of the repository that a crate uses, and those that they use, each once and lowest first."""
     lines = dict(re.findall(r"^(\w+)[^:#\n]*:(.*)", (ROOT / "crates.txt").read_text(encoding="utf-8"), re.M))
@@ -60,8 +73,9 @@ def is_current(crate):
 
 def built_program(crate="superio"):
     """The proved program of a crate, which is proved and built if it is not there or older than its sources."""
-    if not is_current(crate):
-        build(*((it, "lib") for it in crates_below(crate)), (crate, "run"))
+    with alone():
+        if not is_current(crate):
+            build(*((it, "lib") for it in crates_below(crate)), (crate, "run"))
     return path_of(crate)
 
 
@@ -93,6 +107,7 @@ def hand_over():
 def built_tests():
     """The proved tests of superio_tests, which are proved and built if they are missing or older than the sources."""
     sources = max(path.stat().st_mtime for path in CRATES.glob("*/src/**/*.rt"))
-    if not TESTS.exists() or TESTS.stat().st_mtime < sources:
-        build(("superio_tests", "test"))
+    with alone():
+        if not TESTS.exists() or TESTS.stat().st_mtime < sources:
+            build(("superio_tests", "test"))
     return TESTS

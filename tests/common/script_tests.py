@@ -11,8 +11,9 @@ from typing import NamedTuple
 
 from documents import documents
 from harness import ROOT
-from made import every_load, random_script, seeds
+from made import every_load, random_script
 from script import FURTHER_LINES, LINES, run_script, script_of
+from seeds import seeds
 from superio.recording import entries_of
 
 TESTS = ROOT / "tests" / "data"

@@ -10,7 +10,7 @@ from glob import glob
 # Beside each name that a test may need: commands, files, or imports of Debian's Python, each with its package.
 TOOLS = {
     "kit": {"rt": "the Rattle kit, which is no package"},
-    "pytest": {"import pytest, hypothesis": "python3-pytest python3-hypothesis"},
+    "pytest": {"import pytest, xdist, hypothesis": "python3-pytest python3-pytest-xdist python3-hypothesis"},
     "cc": {"cc": "gcc", "gcc": "gcc", "/usr/include/stdio.h": "libc6-dev"},
     "c++": {"g++": "g++"},
     "clang": {"clang": "clang", "clang++": "clang"},

@@ -2,13 +2,12 @@
 """Random calls and scripts from a seed, broken lines, damaged saved states, and the fewest of some calls that still
 differ. A call is a name of board.Board and its arguments."""
 import random
-import subprocess
 from functools import partial
 
 from board import BYTES, CLOCK, CLOCK_CONTENTS, FIFO_SIZE, REGISTERS, SERIAL, saved
-from harness import ROOT
 from oracle import CLOCK_AT, CLOCK_FIELDS
 from script import LINES, PROGRAM_LINES, line_of, script_of, syntax_of
+from seeds import random_source
 
 MOST_CALLS = 36
 # What a script shows of its devices at its end, by the program's lines: all that reads show, before and after the
@@ -20,20 +19,6 @@ SHOWN = [*ENDS, ("serial_read", 3), ("serial_write", 3, 0x03), *(("serial_read",
          ("serial_read", 1), ("serial_write", 3, 0x03), ("drain",), ("events",), *CLOCK_SHOWN,
          ("clock_read", 2**32 - 1, 0x18), ("clock_read", 0, 0x00)]
 SAVED = [*ENDS, ("save",), ("clock_save",)]
-
-
-def commit():
-    """The commit, so that each tries other seeds and can try its own again. Without one, as in a release: ''."""
-    try:
-        return subprocess.run(["git", "rev-parse", "HEAD"], cwd=ROOT, capture_output=True, text=True).stdout.strip()
-    except OSError:
-        return ""
-
-
-def seeds(what, number):
-    """So many seeds, others with each commit. More of them leave the first as they are."""
-    own = commit()
-    return [f"{what} {place} of {own}" for place in range(number)]
 
 
 # Numbers and bytes
@@ -94,9 +79,9 @@ def spoilt(source):
                           saved(good[4], bytes(size))])
 
 
-def every_load(count=20_500):
+def every_load(count=20_800):
     """Each of many spoilt states is loaded as a port and as a clock, which are saved after it."""
-    source = random.Random("loads")
+    source = random_source("loads")
     for state in dict.fromkeys(spoilt(source) for _ in range(count)):
         yield from (("load", state), ("save",), ("clock_load", state), ("clock_save",))
 

@@ -12,9 +12,10 @@ import pytest
 from board import Board
 from cargo import COMPARISON, Comparison
 from harness import ROOT, at_least
-from made import every_load, fewest, seeds
+from made import every_load, fewest
 from recorded import Recorder, difference, every_answer, random_recorded, recording_of, recordings, rows_of
 from script import line_of, replies_of
+from seeds import seeds
 
 RECORDED = {name: rows_of(text) for name, text in recordings().items()}
 FURTHER = {name: rows_of(text) for name, text in

@@ -12,9 +12,10 @@ import oracle
 import pytest
 from board import Board
 from harness import at_least
-from made import SAVED, SHOWN, broken_lines, fewest, random_calls, random_script, seeds, shown
+from made import SAVED, SHOWN, broken_lines, fewest, random_calls, random_script, shown
 from script import FURTHER_LINES, LINES, PROGRAM_LINES, replies_of, run_script, script_of
 from script_tests import Script
+from seeds import seeds
 from sides import PythonBoard, run
 
 from superio.library import VARIABLE, open_library
@@ -114,14 +115,13 @@ class WrongPort(model.Port):
         return reply
 
 
-def test_a_wrong_model_is_found(monkeypatch):
-    """Random calls find it, and shrink to few."""
-    wrong = type("wrong", (), {"Port": WrongPort, "Clock": model.Clock})
+def test_a_wrong_model_is_found():
+    """Random calls find it again and again, and shrink to few, at least once to the fewest that there are."""
+    wrong, sizes = type("wrong", (), {"Port": WrongPort, "Clock": model.Clock}), []
     for seed in seeds("wrong", 200):
         calls = calls_of(seed, False)
-        if replies_of(Board(wrong), calls) != by_steps(calls):
+        if len(sizes) < 5 and replies_of(Board(wrong), calls) != by_steps(calls):
             few = fewest(calls, lambda it: replies_of(Board(wrong), it) != by_steps(it))
-            assert len(few) <= 6
             assert "the model:" in made.shown(few, replies_of(Board(wrong), few), by_steps(few))
-            return
-    pytest.fail("no random calls found a wrong model")
+            sizes.append(len(few))
+    assert len(sizes) == 5 and min(sizes) <= 6 and max(sizes) <= 20, sizes

@@ -6,9 +6,10 @@ import random
 import model
 import pytest
 from board import Board
-from made import random_calls, seeds
+from made import random_calls
 from script import replies_of, script_of
 from script_tests import Script
+from seeds import seeds
 from test_failing_io import fault, in_pieces, read_fails_after, with_room
 from test_refused_memory import refusing, runs  # noqa: F401, the fixture among them
 

@@ -4,7 +4,7 @@
 Each fenced `sh` block is run by bash with an empty environment and a new home, with the programs of /usr/bin alone, and
 with those beside `rt` if a command is of KIT. It has to succeed, and to print what a `text` block after it shows, if
 there is one before a heading; what follows a prompt there, such as `superio> `, is its input. What takes long is
-shortened: `tools/check` prints its help, and pytest only collects.
+shortened: `tools/check` prints its help, as `tools/recheck` does but for its own document, and pytest only collects.
 
 The steps of RATTLE.md are carried out beside a link to this repository, with the file that CLAIMS.md shows, up to a
 proved claim. This proves the libraries first, in minutes, unless `rt` proved them here.
@@ -16,6 +16,7 @@ import shutil
 import pytest
 from documents import HEADING, Document, copy_repository
 from harness import ROOT, at_least, run
+from program import alone
 
 DOCUMENTS = ("README.md", "CONTRIBUTING.md", "docs/*.md", "bindings/*/README.md", "tests/README.md")
 # Their commands are for a folder of the user's own, and for a host with KVM, where tests/kvm runs them.
@@ -25,7 +26,8 @@ KIT = re.compile(r"^(?:rt|tools/run|tools/prebuild)\b", re.M)
 PROGRAMS = {"cc": "cc", "cargo": "debian-rust", "git": "git", "make": "make", "npm": "npm", "pkg-config": "pkg-config",
             "venv": "pip", "pip": "pip"}
 PROMPT = re.compile(r"\w+> ")
-SHORTER = [(r"^tools/check\b[^#\n]*", "tools/check --help "), (r"^(python3 -m pytest)\b", r"\1 --collect-only -q")]
+SHORTER = [(r"^tools/(check\b[^#\n]*|recheck +(?=#))", r"tools/\1 --help "),
+           (r"^(python3 -m pytest)\b", r"\1 --collect-only -q")]
 BUILT = "crates/superio/out/superio"
 
 
@@ -90,4 +92,5 @@ def test_first_crate(tmp_path):
     own.mkdir()
     (tmp_path / "fimolavand").symlink_to(ROOT)
     (own / "own.rt").write_text("\n".join([*claim, ""]), encoding="utf-8")
-    paste(own, where, "\n".join(steps), typed, printed)
+    with alone():
+        paste(own, where, "\n".join(steps), typed, printed)

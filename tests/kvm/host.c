@@ -36,6 +36,10 @@ static int64_t due[CLOCKS];    /* in nanoseconds, or 0 */
 static int64_t now[CLOCKS] = {
     [CLOCK_REALTIME] = 1700000000 * SECOND, [CLOCK_MONOTONIC] = 777 * SECOND, [CLOCK_BOOTTIME] = 5000 * SECOND};
 
+/* The registers of the system after a reset, and those with which the guest begins. */
+static const struct kvm_sregs system_before = {.cs = {.base = 0xFFFF0000, .selector = 0xF000}, .cr0 = 0x60000010};
+static struct kvm_sregs system_after;
+
 int __real_poll(struct pollfd *files, nfds_t count, int timeout);
 int __real_eventfd_write(int fd, eventfd_t value);
 ssize_t __real_write(int fd, const void *bytes, size_t count);
@@ -223,6 +227,16 @@ int __wrap_pthread_create(pthread_t *thread, const pthread_attr_t *attributes, v
     return attributes || work != machine_run || argument;
 }
 
+/* Writes the guest's first state, with which test_images.py compares: the registers, and 2 MB of memory. */
+static void write_state(const struct kvm_regs *registers) {
+    FILE *file = fopen("state", "wb");
+    must(file ? 0 : -1, "state");
+    fwrite(registers, sizeof *registers, 1, file);
+    fwrite(&system_after, sizeof system_after, 1, file);
+    fwrite(memory, 1 << 21, 1, file);
+    fclose(file);
+}
+
 /* KVM, whose parts are all standard input, but for the vCPU. It knows no processor. */
 int __wrap_ioctl(int fd, unsigned long request, void *argument) {
     switch (request) {
@@ -233,7 +247,12 @@ int __wrap_ioctl(int fd, unsigned long request, void *argument) {
         return fd;
     case KVM_GET_VCPU_MMAP_SIZE: return MOST;
     case KVM_GET_SUPPORTED_CPUID: ((struct kvm_cpuid2 *)argument)->nent = 0; break;
-    case KVM_SET_REGS: SEE("  at %llx", ((struct kvm_regs *)argument)->rip); break;
+    case KVM_GET_SREGS: *(struct kvm_sregs *)argument = system_before; break;
+    case KVM_SET_SREGS: system_after = *(struct kvm_sregs *)argument; break;
+    case KVM_SET_REGS:
+        SEE("  at %llx", ((struct kvm_regs *)argument)->rip);
+        write_state(argument);
+        break;
     case KVM_IRQFD: SEE("  edges of irq %u", ((struct kvm_irqfd *)argument)->gsi); break;
     case KVM_IRQ_LINE:
         SEE("  line %u %u", ((struct kvm_irq_level *)argument)->irq, ((struct kvm_irq_level *)argument)->level);

@@ -1,6 +1,7 @@
 # SPDX-License-Identifier: Apache-2.0 OR BSD-3-Clause
 """Random images of Linux, hostile ones among them, booted by the monitor over host.c: one that does not fit into the
-guest's memory is refused, and no byte is written outside of that memory."""
+guest's memory is refused, and no byte is written outside of that memory. A guest begins in the state that Linux's boot
+protocol asks for, or a boot sector."""
 import random
 import struct
 from collections import Counter
@@ -9,6 +10,7 @@ from typing import NamedTuple
 import pytest
 from harness import run
 from monitors import build_monitor
+from seeds import random_source
 
 pytestmark = [pytest.mark.needs("cc", "make"), pytest.mark.where("Linux on x86-64")]
 
@@ -77,8 +79,9 @@ def outcome(image):
 
 
 def test_images(monitor):
-    source, outcomes = random.Random("images"), Counter()
-    for _ in range(50):
+    """The same in each commit, and some of its own."""
+    fixed, own, outcomes = random.Random("images"), random_source("images"), Counter()
+    for source in 45 * [fixed] + 15 * [own]:
         image = random_image(source)
         (monitor / "kernel").write_bytes(image.content())
         status, seen = booted(monitor, "kernel")
@@ -107,3 +110,91 @@ def test_initramfs(monitor):
         fits = 0 < size <= INITRAMFS
         status, seen = booted(monitor, "kernel", "initramfs", "x" * 5000)
         assert (status, "at 100200" in seen) == (0 if fits else 1, fits), seen
+
+
+# Segments, of which processors read descriptors in memory too.
+CODE = {"base": 0, "limit": 2 ** 32 - 1, "type": 11, "present": 1, "dpl": 0, "db": 0, "s": 1, "l": 1, "g": 1, "avl": 0}
+DATA = {**CODE, "type": 3, "db": 1, "l": 0}
+LOW_END, HIGH_START, WORDS_SIZE = 0x9FC00, 1 << 20, 2048
+
+
+class State:
+    """The state with which a guest begins, as host.c wrote it: KVM's kvm_regs and kvm_sregs, and memory."""
+
+    def __init__(self, data):
+        names = "rax rbx rcx rdx rsi rdi rsp rbp r8 r9 r10 r11 r12 r13 r14 r15 rip rflags".split()
+        self.general = {name: it for name, it in zip(names, struct.unpack_from("<18Q", data)) if it}
+        self.segments = {}
+        for place, name in enumerate("cs ds es fs gs ss".split()):
+            base, limit, selector, *bits = struct.unpack_from("<QIH8B", data, 144 + 24 * place)
+            self.segments[name] = selector, {"base": base, "limit": limit, **dict(zip(
+                ("type", "present", "dpl", "db", "s", "l", "g", "avl"), bits))}
+        self.descriptors = struct.unpack_from("<QH", data, 144 + 24 * 8)
+        self.cr0, _, self.cr3, self.cr4, _, self.efer = struct.unpack_from("<6Q", data, 144 + 24 * 8 + 32)
+        self.memory = data[-(1 << 21):]
+
+    def words(self, address, count):
+        return struct.unpack_from(f"<{count}Q", self.memory, address)
+
+    def number(self, address, size=4):
+        return int.from_bytes(self.memory[address:address + size], "little")
+
+
+def descriptor(word):
+    """A segment by its descriptor, as the processor's manual has it."""
+    limit, g = word & 0xFFFF | word >> 32 & 0xF0000, word >> 55 & 1
+    return {"base": word >> 16 & 0xFFFFFF | word >> 32 & 0xFF000000, "limit": limit << 12 | 0xFFF if g else limit,
+            "type": word >> 40 & 15, "s": word >> 44 & 1, "dpl": word >> 45 & 3, "present": word >> 47 & 1,
+            "avl": word >> 52 & 1, "l": word >> 53 & 1, "db": word >> 54 & 1, "g": g}
+
+
+def begun(folder, *words):
+    assert booted(folder, *words)[0] == 0
+    return State((folder / "state").read_bytes())
+
+
+def test_a_boot_sector_begins(monitor):
+    (monitor / "flat").write_bytes(b"\xF4" * 700)
+    state = begun(monitor, "flat")
+    assert state.general == {"rip": 0x7C00, "rsp": 0x7C00, "rflags": 2}
+    assert (state.segments["cs"][0], state.segments["cs"][1]["base"], state.cr0 & 1) == (0, 0, 0)
+    assert state.memory.strip(b"\0") == b"\xF4" * 700
+
+
+@pytest.mark.parametrize("words", ["console=ttyS0", "x" * 5000])
+def test_linux_begins(monitor, words):
+    """In long mode, with the first gigabyte mapped to itself, flat segments, and its parameters."""
+    image = Image(4, 0x20F, KERNEL_64, 1 << 20, 1 << 20, 5000)
+    (monitor / "kernel").write_bytes(image.content())
+    (monitor / "initramfs").write_bytes(b"i" * 3000)
+    state = begun(monitor, "kernel", "initramfs", words)
+    parameters = state.general["rsi"]
+    assert state.general == {"rip": image.pref_address + 0x200, "rsi": parameters, "rflags": 2}
+    assert (state.cr0, state.cr4, state.efer) == (0x60000010 | 0x80000001, 0x20, 0x500)
+    base, limit = state.descriptors
+    table = state.words(base, 4)
+    assert limit == 31 and [descriptor(table[2]), descriptor(table[3])] == [CODE, DATA]
+    assert state.segments == {"cs": (0x10, CODE), **dict.fromkeys(("ds", "es", "fs", "gs", "ss"), (0x18, DATA))}
+    first = state.words(state.cr3, 512)
+    second = state.words(first[0] & ~0xFFF, 512)
+    third = state.words(second[0] & ~0xFFF, 512)
+    assert [it & 0xFFF for it in (first[0], second[0])] == [3, 3] and not any(first[1:]) and not any(second[1:])
+    assert [*third] == [page << 21 | 0x83 for page in range(512)]
+    head = {0x210: 0xFF, 0x218: INITRAMFS, 0x21C: 3000}
+    assert {place: state.number(parameters + place, 1 if place == 0x210 else 4) for place in head} == head
+    for name, (place, form) in FIELDS.items():
+        value, = struct.unpack_from(form, state.memory, parameters + place)
+        assert value == (MAGIC if name == "header" else getattr(image, name)), name
+    assert state.number(parameters + 0x1E8, 1) == 2
+    regions = [struct.unpack_from("<QQI", state.memory, parameters + 0x2D0 + 20 * place) for place in range(3)]
+    assert regions == [(0, LOW_END, 1), (HIGH_START, MEMORY_SIZE - HIGH_START, 1), (0, 0, 0)]
+    at = state.number(parameters + 0x228)
+    assert state.memory[at:at + WORDS_SIZE + 1].split(b"\0")[0] == words[:WORDS_SIZE - 1].encode()
+    assert state.memory[image.pref_address:image.pref_address + image.size] == b"\xCC" * image.size
+    tables = state.cr3, first[0] & ~0xFFF, second[0] & ~0xFFF
+    rest, used = bytearray(state.memory), [(base, limit + 1), *((it, 4096) for it in tables), (parameters, 4096),
+                                           (at, WORDS_SIZE), (image.pref_address, image.size)]
+    for start, size in used:
+        assert start + size <= LOW_END or start >= HIGH_START
+        rest[start:start + size] = bytes(size)
+    assert not any(rest) and len({start for start, _ in used}) == len(used)

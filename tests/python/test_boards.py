@@ -7,9 +7,10 @@ import re
 
 import pytest
 from harness import at_least
-from made import random_script, seeds
+from made import random_script
 from script import FURTHER_LINES, PROGRAM_LINES
 from script_tests import FURTHER_TESTS, TESTS, kept_scripts, load_scripts, made_scripts, scripts_of
+from seeds import seeds
 
 from superio import Board, Rtc, ScriptError, board, parse
 from superio.script import BadLine, text_of

@@ -81,7 +81,7 @@ fn wrong_values(name: &str) -> Vec<Value> {
 /// A state with random fields goes through both formats. It is refused without any one of its fields, or with a wrong
 /// value of it, and a further field changes nothing.
 fn takes_its_fields_alone<T: Clone + Debug + PartialEq + Serialize + DeserializeOwned>(text: &str) {
-    let mut seed = 1;
+    let mut seed = std::env::var("TEST_SEED").map_or(1, |it| it.parse().unwrap());
     let form: Value = serde_json::from_str(text).unwrap();
     for _ in 0..300 {
         let value = random_like(&form, &mut seed);

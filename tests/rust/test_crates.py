@@ -11,7 +11,6 @@ from pathlib import Path
 import pytest
 from cargo import BINDINGS, DEVICES, ORIGINAL, Cargo, Comparison, add_crate, copied_crate, toolchain_for, toolchains
 from harness import ROOT, check
-from made import seeds
 from recorded import difference, random_recorded, recordings, rows_of
 
 pytestmark = pytest.mark.needs("cargo")
@@ -70,8 +69,7 @@ def test_formatted(crate, tmp_path):
 
 def test_as_released(tmp_path):
     """With other random numbers for each commit."""
-    [seed] = seeds("released", 1)
-    assert copied_crate(tmp_path).test("--release", "--lib", "--tests", SEED=seed) == number_of_tests(BINDINGS) >= 14
+    assert copied_crate(tmp_path).test("--release", "--lib", "--tests") == number_of_tests(BINDINGS) >= 14
 
 
 @pytest.mark.needs("debian-rust")
@@ -93,7 +91,8 @@ def test_on(target, tmp_path):
     """The tests pass in qemu's user mode."""
     _, compiler, emulator = TARGETS[target]
     name = f"CARGO_TARGET_{target.upper().replace('-', '_')}"
-    settings = {f"{name}_LINKER": compiler, f"{name}_RUNNER": f"{emulator} -L /usr/{compiler[:-len('-gcc')]}"}
+    settings = {f"{name}_LINKER": compiler, f"{name}_RUNNER": f"{emulator} -L /usr/{compiler[:-len('-gcc')]}",
+                "CARGO_PROFILE_DEV_OPT_LEVEL": "1"}   # else the emulator takes long
     cargo = copied_crate(tmp_path, toolchain_for(target))
     assert cargo.test("--lib", "--tests", "--target", target, **settings) == number_of_tests(BINDINGS)
 

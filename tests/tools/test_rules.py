@@ -4,11 +4,11 @@ them."""
 import re
 import shutil
 import sys
-from importlib.machinery import SourceFileLoader
-from importlib.util import module_from_spec, spec_from_loader
 
 import pytest
 from harness import ROOT, run
+from parts import OF_CARGO, counted, of_gate
+from parts import run as run_part
 
 HEAD = "import pytest\nfrom harness import at_least\n"
 RUN = HEAD + "def test():\n    "
@@ -36,14 +36,19 @@ BROKEN = {
 }
 
 
+def write_test(folder, text, name="test_it.py"):
+    (folder / "tests").mkdir(parents=True, exist_ok=True)
+    (folder / "tests" / name).write_text(text + "\n", encoding="utf-8")
+
+
 def run_pytest(folder, text, *words, path="/nowhere"):
     """Runs a test alone, without any tool."""
-    (folder / "tests" / "common").mkdir(parents=True)
+    write_test(folder, text)
+    (folder / "tests" / "common").mkdir()
     for name in ("conftest.py", "pytest.ini"):
         shutil.copy(ROOT / name, folder)
     for path_of in (ROOT / "tests" / "common").glob("*.py"):
         shutil.copy(path_of, folder / "tests" / "common")
-    (folder / "tests" / "test_it.py").write_text(text + "\n", encoding="utf-8")
     return run([sys.executable, "-m", "pytest", "tests", *words], cwd=folder, env={"PATH": path})
 
 
@@ -55,6 +60,17 @@ def test_what_pytest_counts(text, end, tmp_path):
     assert (ran.returncode == 0) == (end in ("1 passed", "1 skipped"))
 
 
+def test_what_workers_count(tmp_path):
+    """Those of xdist pass, fail and skip the same tests, here all in one run."""
+    for number, (text, _) in enumerate(BROKEN.values()):
+        write_test(tmp_path, text, f"test_{number}.py")
+    said = run_pytest(tmp_path, RUN + "pass", "--without=node", "-n2", "--dist=loadfile").stdout
+    failed = {int(it) for it in re.findall(r"^(?:FAILED|ERROR) tests/test_(\d+)\.py", said, re.M)}
+    assert failed == {number for number, (_, end) in enumerate(BROKEN.values()) if "failed" in end or "error" in end}
+    assert re.search(r"\d failed, 2 passed, 2 skipped, \d+ errors in .*\n$", said), said
+    assert "NOT TRIED: 1 tests, since --without names node\n" in said
+
+
 def test_a_missing_tool_names_its_package(tmp_path):
     text = BROKEN["a tool that is missing"][0]
     assert "chromium is missing: install chromium, or run with --without chromium" in run_pytest(tmp_path, text).stdout
@@ -63,6 +79,11 @@ def test_a_missing_tool_names_its_package(tmp_path):
 def test_what_was_not_tried_is_named(tmp_path):
     text = BROKEN["a tool that is left out"][0]
     assert "NOT TRIED: 1 tests, since --without names node\n" in run_pytest(tmp_path, text, "--without=node").stdout
+
+
+def test_a_failure_names_the_seed(tmp_path):
+    said = [run_pytest(tmp_path / end, RUN + end).stdout for end in ("pass", "assert 0")]
+    assert ["TEST_SEED=0, " in it for it in said] == [False, True], said
 
 
 def test_an_unknown_tool_is_refused(tmp_path):
@@ -79,14 +100,6 @@ def test_a_file_that_fails_leaves_the_others(tmp_path):
 
 # tools/check
 
-def tool():
-    loader = SourceFileLoader("check", str(ROOT / "tools" / "check"))
-    module = module_from_spec(spec_from_loader("check", loader))
-    loader.exec_module(module)
-    return module
-
-
-CHECK = tool()
 GATE = ["test result: ok. 3 passed; 0 failed", "rt: it ran, and wrote what its file stdout has",
         "rt: ok; must-fail edits: 5 refused; all", "7 passed, 0 failed"]
 CARGO = "test result: ok. 3 passed; 0 failed; {} ignored; 0 measured; 0 filtered out"
@@ -95,7 +108,7 @@ CARGO = "test result: ok. 3 passed; 0 failed; {} ignored; 0 measured; 0 filtered
 @pytest.mark.parametrize("status, lines, counts", [
     (0, GATE, (10, 0, 0)),
     (1, GATE, (10, 1, 0)),
-    (1, [*GATE[:3], "6 passed, 1 failed"], (9, 2, 0)),
+    (1, [*GATE[:3], "6 passed, 1 failed"], (9, 1, 0)),
     (0, [*GATE[:2], "rt: ok; must-fail edits: 4 refused; all", GATE[3]], (10, 1, 0)),
     (0, [*GATE[:2], "rt: ok; must-fail edits: 5 refused, 2 of them only by a limit, 1 bad; all", GATE[3]], (10, 1, 0)),
     (0, GATE[1:], (7, 1, 0)),
@@ -104,7 +117,7 @@ CARGO = "test result: ok. 3 passed; 0 failed; {} ignored; 0 measured; 0 filtered
 ])
 def test_gate(status, lines, counts):
     """It fails also if it tried other must-fail edits or tests than there are."""
-    assert CHECK.of_gate(status, lines, 5, 3) == counts
+    assert of_gate(status, "\n".join(lines), 5, 3) == counts
 
 
 @pytest.mark.parametrize("status, lines, counts", [
@@ -112,7 +125,7 @@ def test_gate(status, lines, counts):
     (0, [], (0, 1, 0)), (101, ["test result: FAILED. 2 passed; 1 failed; 0 ignored"], (2, 1, 0)),
 ])
 def test_cargo(status, lines, counts):
-    assert CHECK.of_cargo(status, lines) == counts
+    assert counted(status, "\n".join(["3 passed", *lines, "4 failed"]), OF_CARGO) == counts
 
 
 @pytest.mark.parametrize("status, last, counts", [
@@ -121,4 +134,8 @@ def test_cargo(status, lines, counts):
     (2, "3 passed in 1s", (3, 1, 0)), (5, "no tests ran in 0.1s", (0, 1, 0)), (0, "no tests ran in 0.1s", (0, 1, 0)),
 ])
 def test_pytest(status, last, counts):
-    assert CHECK.of_pytest(status, ["more", last]) == counts
+    assert counted(status, f"9 passed\n{last}") == counts
+
+
+def test_a_part_that_is_not_there():
+    assert counted(*run_part("/nowhere/rt", "ci")) == (0, 1, 0)

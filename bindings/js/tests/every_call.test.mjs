@@ -5,15 +5,16 @@
  * that are damaged are refused or are another state.
  */
 import assert from "node:assert/strict";
+import process from "node:process";
 import test from "node:test";
 import * as superio from "../superio.mjs";
 
 const { I8042, Rtc, SavedStateError, Serial } = superio;
 const ROUNDS = 10_000;
 
-/** Numbers below a bound, by the generator mulberry32. Equal seeds give equal numbers. */
-function randomNumbers(seed) {
-  let state = seed;
+/** Numbers below a bound, by the generator mulberry32. TEST_SEED gives others, as each commit does. */
+function randomNumbers(test) {
+  let state = Number(process.env.TEST_SEED ?? 0) + test;
   return (bound) => {
     state = (state + 0x6d2b79f5) | 0;
     let mixed = Math.imul(state ^ (state >>> 15), state | 1);

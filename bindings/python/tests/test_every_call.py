@@ -1,7 +1,7 @@
 # SPDX-License-Identifier: Apache-2.0 OR BSD-3-Clause
 """What holds of every call, whatever it is for, by random ones: it passes C as much memory as superio.abi says, changes
 nothing that it is passed, and what it gives stays. Devices that take turns do what each does alone, states go there and
-back by every way, and a session's trace makes it again. The variable SEED of the environment makes the calls others."""
+back by every way, and a session's trace makes it again. The variable TEST_SEED makes the calls others."""
 import copy
 import ctypes
 import dataclasses
@@ -27,10 +27,10 @@ PORT_FIELDS = [name for name in SerialState.kinds()]
 
 
 class Drawn(random.Random):
-    """Arguments that are drawn, by the name of a test and SEED."""
+    """Arguments that are drawn, by the name of a test and TEST_SEED."""
 
-    def __init__(self, name):
-        super().__init__(f"{name} {os.environ.get('SEED', '')}")
+    def __init__(self, what):
+        super().__init__(f"{what} of {os.environ.get('TEST_SEED', 0)}")
 
     def moment(self):
         return self.choice([self.randrange(2_000), self.getrandbits(64)])

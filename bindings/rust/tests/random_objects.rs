@@ -25,11 +25,10 @@ const OFFSETS: u64 = 9; // one more than there are registers
 struct Random(u64);
 
 impl Random {
-    /// The numbers of a test. The variable SEED of the environment makes them others.
+    /// Those of a test. `TEST_SEED` gives others, as each commit does.
     fn of(test: u64) -> Random {
-        let seed = std::env::var("SEED").unwrap_or_default();
-        println!("SEED={seed}");
-        Random(seed.bytes().fold(test, |seed, byte| seed.wrapping_mul(31).wrapping_add(byte.into())))
+        let seed: u64 = std::env::var("TEST_SEED").map_or(0, |it| it.parse().unwrap());
+        Random(seed << 8 | test)
     }
 
     fn word(&mut self) -> u64 {

@@ -1,0 +1,39 @@
+# SPDX-License-Identifier: Apache-2.0 OR BSD-3-Clause
+"""The parts of tools/check: how each is run, and what it passed, failed and skipped."""
+import re
+import subprocess
+
+from harness import ROOT
+
+OF_CARGO = r"^test result: .*"   # the lines of `cargo test` that count
+
+
+def run(*words, **options):
+    """Runs a command and shows what it prints. Returns its status, 127 if it is not there, and what it printed."""
+    print("==", *words, flush=True)
+    process = subprocess.Popen(["env", *words], stdin=subprocess.DEVNULL, stdout=subprocess.PIPE, text=True,
+                               stderr=subprocess.STDOUT, errors="replace", **{"cwd": ROOT, **options})
+    lines = []
+    for line in process.stdout:
+        print(line, end="", flush=True)
+        lines.append(line)
+    return process.wait(), "".join(lines).rstrip("\n")
+
+
+def counted(status, printed, sums=r".*\Z"):
+    """What a part passed, failed and skipped, by the lines that a pattern finds: the last one, if none is given. An
+    error or an ignored test has failed. So has a part that passed nothing, or whose status is not 0."""
+    lines = "\n".join(re.findall(sums, printed, re.M))
+    passed, failed, skipped = (sum(map(int, re.findall(rf"(\d+) (?:{word})", lines)))
+                               for word in ("passed", "failed|error|ignored", "skipped"))
+    return passed, failed or int(status != 0 or not passed), skipped
+
+
+def of_gate(status, printed, edits, tests):
+    """The same of `rt ci`, which has failed also if it tried other must-fail edits or tests than there are."""
+    passed, failed, _ = counted(status, printed)
+    refused = sum(map(int, re.findall(r"must-fail edits: (\d+) refused(?!.*[1-9]\d* bad)", printed)))
+    tested = counted(0, printed, r"^test result: ok\..*")[0]
+    if (refused, tested) != (edits, tests):
+        print(f"rt ci tried {refused} of {edits} must-fail edits, and {tested} of {tests} tests")
+    return passed + tested, failed or int((refused, tested) != (edits, tests)), 0
