@@ -12,6 +12,7 @@ from pathlib import Path
 
 import antt2coq
 import rust2coq
+import shell2coq
 
 HERE = Path(__file__).resolve().parents[1]
 
@@ -29,7 +30,8 @@ LAWS += [f"superio_laws.Rtc.{name}" for name in ("ClockIsHistory", "RawBitsByHis
 WORDS = [f"superio_core.{name}" for name in """Serial.CoherentUart Serial.RdaCoversHeldBytes Serial.irq_level
     Serial.fresh_state Serial.Operations.is_first_of_two_refused Saved.serial_encoding Saved.serial_fault
     Saved.clock_encoding Saved.clock_fault Rtc.is_readable Rtc.is_writable Rtc.fresh_clock Rtc.state_of_clock
-    Rtc.Step.rtc_irq_level Rtc.Step.IsAlarmDue I8042.is_reset_command""".split()]
+    Rtc.Step.rtc_irq_level Rtc.Step.IsAlarmDue I8042.is_reset_command Serial.Step.answers_fit Serial.Operations.bytes_sent""".split()]
+WORDS += ["vm_superio.Rtc.clock_events"]
 
 
 class Failed(Exception):
@@ -37,11 +39,15 @@ class Failed(Exception):
 
 
 def translated(root):
-    """The generated files, and the names of the public functions."""
+    """The generated files, and the Coq names of the public functions."""
     crate = rust2coq.Crate(root / "bindings/superio/src/devices")
     functions = sorted(name for name, item in crate.functions.items() if item.public)
     types, code = rust2coq.translate(crate, functions)
-    return {"Types": types, "Code": code, "Definitions": antt2coq.translate(root / "crates", crate, LAWS + WORDS)}, functions
+    shell = shell2coq.ShellCrate(root / "bindings/rust/src", crate)
+    of_shell = shell.public()
+    files = {"Types": types, "Code": code, "Definitions": antt2coq.translate(root / "crates", crate, LAWS + WORDS),
+             "ShellCode": shell2coq.translate(shell, of_shell, code)}
+    return files, [rust2coq.coq_name(name) for name in functions] + [shell2coq.coq_name(name) for name in of_shell]
 
 
 def coqc(folder, name):
@@ -88,8 +94,8 @@ def audit(folder, functions):
     answers = coqc(folder, "Audit")
     if not theorems or not answers.endswith("\nClosed under the global context\n"):
         raise Failed(f"theorems rest on something:\n{answers[-2000:]}")
-    named = set(re.findall(r"\brs_\w+", answers))
-    if missing := [name for name in functions if "rs_" + name.replace("::", "_") not in named]:
+    named = set(re.findall(r"\b(?:rs|vm)_\w+", answers))
+    if missing := [name for name in functions if name not in named]:
         raise Failed(f"no theorem names {', '.join(missing)}")
     return theorems
 
