@@ -88,8 +88,8 @@ def audit(folder, functions):
         if law not in of_law:
             raise Failed(f"no theorem is {law}")
         lines.append(f"Definition proved_{law} : Recheck.Definitions.{law} := Recheck.Claims.{of_law[law]}.")
-    lines += [f"Check Recheck.Claims.{name}." for name in theorems]
-    lines += [f"Definition all := ({', '.join(f'Recheck.Claims.{name}' for name in theorems)}).", "Print Assumptions all."]
+    lines += [f"Check @Recheck.Claims.{name}." for name in theorems]
+    lines += [f"Definition all := ({', '.join(f'@Recheck.Claims.{name}' for name in theorems)}).", "Print Assumptions all."]
     (folder / "Audit.v").write_text("\n".join(lines) + "\n")
     answers = coqc(folder, "Audit")
     if not theorems or not answers.endswith("\nClosed under the global context\n"):
