@@ -109,8 +109,8 @@ class ShellWriter(Writer):
         """The calls that objects get, and what each may answer"""
         found = []
         for trait, variable in OBJECTS.items():
-            methods = WRITE if trait == "Write" else {
-                method.name: self.crate.call_of(method) for method in self.crate.traits[trait].methods}
+            declared = self.crate.traits[trait].methods if trait in self.crate.traits else ()
+            methods = WRITE if trait == "Write" else {method.name: self.crate.call_of(method) for method in declared}
             found += [(f"{trait}_{name}", variable, *method) for name, method in methods.items()]
         lines = [f"| {name} : " + " -> ".join([variable, *map(self.type, parameters), "Call T EV W"])
                  for name, variable, parameters, _ in found]
@@ -230,6 +230,9 @@ class ShellWriter(Writer):
         count = self.read(node.ends.high, env)
         return (f"if N.leb {count} (length {self.read(node.target, env)}) then\n  {indented(self.copy(node, env, then))}\n"
                 f"else {self.leave('None', env)}")
+
+    def by_variant(self, node, value, type_, env, then):
+        return super().by_variant(node, f"({value} : {self.type(type_)})", type_, env, then)
 
     # -- what the shell has no need of
     def refuse(self, node, what):
