@@ -7,7 +7,7 @@ import shutil
 import pytest
 from harness import ROOT, run
 
-DEVICES, SPECS = "bindings/superio/src/devices/", "crates/"
+DEVICES, SHELL, SPECS = "bindings/superio/src/devices/", "bindings/rust/src/", "crates/"
 FIFO, CODE, SAVED, CLOCK = {"Fifo"}, {"PortCode"}, {"SavedPort", "SavedClock"}, {"ClockCode", "AlarmDue"}
 
 # A file, what stands there, what is planted, and the files of proofs of which one has to fail.
@@ -62,6 +62,30 @@ WRONG += [(SPECS + file, old, new, proofs) for file, old, new, proofs in [
     ("superio_laws/specs/Rtc/History.antt", "if at == offset then Some value else None", "None", {"ClockHistory"}),
     ("superio_laws/specs/Serial/Laws/Console.antt", "take (length runs) (held_bytes", "take (1 + length runs) (held_bytes", {"Console"}),
 ]]
+EMPTY = "        if effects.in_buffer_empty {\n            self.events.in_buffer_empty();\n        }\n"
+READ = "        if effects.buffer_read {\n            self.events.buffer_read();\n        }\n"
+WRONG += [(SHELL + file, old, new, {"ShellPort", "ShellRest", "Claims"}) for file, old, new in [
+    ("serial.rs", "self.out.write_all(&[value]).and_then(|()| self.out.flush())", "self.out.flush().and_then(|()| self.out.write_all(&[value]))"),
+    ("serial.rs", "self.out.write_all(&[value]).and_then(|()| self.out.flush())", "self.out.write_all(&[value])"),
+    ("serial.rs", "Ok(()) => self.events.out_byte()", "Ok(()) => self.events.tx_lost_byte()"),
+    ("serial.rs", "        self.port.registers.interrupt_identification = pending;\n", ""),
+    ("serial.rs", "both_pending & !THRE;", "both_pending;"),
+    ("serial.rs", "1 => self.interrupt_evt.trigger().map_err(Error::Trigger)?,", "1 => self.trigger_twice().map_err(Error::Trigger)?,"),
+    ("serial.rs", "        sent\n    }", "        Ok(())\n    }"),
+    ("serial.rs", "            _ => self.trigger_twice().map_err(Error::Trigger)?,\n        }\n        sent\n",
+     "            _ => self.trigger_twice().map_err(Error::Trigger)?,\n        }\n        sent?;\n        self.interrupt_evt.trigger().map_err(Error::Trigger)\n"),
+    ("serial.rs", EMPTY + READ, READ + EMPTY),
+    ("serial.rs", "if effects.interrupts > 0 {", "if effects.interrupts > 1 {"),
+    ("serial.rs", "self.port.interrupts_due()", "2u8"),
+    ("serial.rs", "serial.retry_interrupts().map_err(Error::Trigger)?;", ""),
+    ("serial/state.rs", "% FIFO_SIZE", "% 63"),
+    ("serial/state.rs", "modem_control: self.modem_control", "modem_control: self.modem_status"),
+    ("serial/timeout.rs", "0 => Ok(()),", "1 => Ok(()),"),
+    ("rtc_pl031.rs", "if offset != RTCDR && !self.is_armed() {", "if offset != RTCDR {"),
+    ("rtc_pl031.rs", "if !is_valid {", "if is_valid {"),
+    ("rtc_pl031.rs", "} else if offset > RTCLR {", "} else if offset > RTCMR {"),
+    ("i8042.rs", "if is_reset_command(offset, value) {", "if !is_reset_command(offset, value) {"),
+]]
 HARMLESS = [(DEVICES + file, old, new) for file, old, new in [
     ("fifo.rs", "if held == 0 {", "if held < 1 {"),
     ("serial.rs", "Register::Ier => self.interrupt_enable,\n", "Register::Ier => {\n                let enable = self.interrupt_enable;\n                enable\n            }\n"),
@@ -70,11 +94,16 @@ HARMLESS = [(DEVICES + file, old, new) for file, old, new in [
      "self.armed = u64::from(guest_time < value);\n        self.mr = value;"),
     ("serial/registers.rs", "byte & bits == bits", "bits == byte & bits"),
 ]]
+HARMLESS += [(SHELL + file, old, new) for file, old, new in [
+    ("i8042.rs", "self.reset_evt.trigger()?;", "return self.reset_evt.trigger();"),
+    ("serial.rs", "        let serial = Serial { port, interrupt_evt: trigger, events: serial_evts, out };",
+     "        let serial = Serial { out, events: serial_evts, interrupt_evt: trigger, port };"),
+]]
 
 
 def planted(folder, file, old, new):
     """A copy of the sources with one change, and what tools/recheck says of it."""
-    for source in (DEVICES, *(f"{SPECS}{crate}/specs" for crate in ("superio_core", "superio_laws"))):
+    for source in (DEVICES, SHELL, *(f"{SPECS}{crate}/specs" for crate in ("superio_core", "superio_laws", "vm_superio"))):
         shutil.copytree(ROOT / source, folder / source)
     text = (folder / file).read_text(encoding="utf-8")
     assert old in text, f"{file} has no {old!r}"

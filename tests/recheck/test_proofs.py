@@ -19,7 +19,7 @@ def checked(tmp_path_factory):
 
 
 def test_every_claim_is_proved(checked):
-    assert int(re.fullmatch(r"proved again: (\d+) theorems\n", checked[1])[1]) >= 68
+    assert int(re.fullmatch(r"proved again: (\d+) theorems\n", checked[1])[1]) >= 101
 
 
 def test_code_does_what_coq_computes(checked, tmp_path):
@@ -40,6 +40,8 @@ FAULTS = {
     "a law without a theorem": (r"Theorem (?=waiting_bytes :)", "Lemma ", "no theorem is WaitingBytesLaw"),
     "a function without a theorem": (r"Theorem reset_command offset value : rs_is_reset_command offset value = .*",
                                      "Theorem reset_command (offset value : N) : Some true = Some true.", "names is_reset_command"),
+    "a function of the shell without a theorem": (r"(?<=Theorem serial_objects port : )gives \(vm_Serial_writer port\)[^\n]*\n  /\\ ", "",
+                                                  "names vm_Serial_writer"),
     "an axiom": (r"Theorem waiting_bytes : WaitingBytesLaw\.", "Axiom all : forall T : Type, T.\nTheorem waiting_bytes : WaitingBytesLaw.",
                  "theorems rest on something"),
     "a proof that is left out": (r"(?<=Theorem retries : RetryLaw\. ).*", "Admitted.", "theorems rest on something"),
