@@ -64,7 +64,7 @@ WRONG += [(SPECS + file, old, new, proofs) for file, old, new, proofs in [
 ]]
 EMPTY = "        if effects.in_buffer_empty {\n            self.events.in_buffer_empty();\n        }\n"
 READ = "        if effects.buffer_read {\n            self.events.buffer_read();\n        }\n"
-WRONG += [(SHELL + file, old, new, {"ShellPort", "ShellRest", "Claims"}) for file, old, new in [
+WRONG += [(SHELL + file, old, new, {"Shell", "Claims"}) for file, old, new in [
     ("serial.rs", "self.out.write_all(&[value]).and_then(|()| self.out.flush())", "self.out.flush().and_then(|()| self.out.write_all(&[value]))"),
     ("serial.rs", "self.out.write_all(&[value]).and_then(|()| self.out.flush())", "self.out.write_all(&[value])"),
     ("serial.rs", "Ok(()) => self.events.out_byte()", "Ok(()) => self.events.tx_lost_byte()"),
