@@ -69,7 +69,7 @@ WRONG += [(SHELL + file, old, new, {"Shell", "Claims"}) for file, old, new in [
     ("serial.rs", "self.out.write_all(&[value]).and_then(|()| self.out.flush())", "self.out.write_all(&[value])"),
     ("serial.rs", "Ok(()) => self.events.out_byte()", "Ok(()) => self.events.tx_lost_byte()"),
     ("serial.rs", "        self.port.registers.interrupt_identification = pending;\n", ""),
-    ("serial.rs", "both_pending & !THRE;", "both_pending;"),
+    ("serial.rs", "both_pending & !THRE;", "both_pending & !(THRE | 0x04);"),
     ("serial.rs", "1 => self.interrupt_evt.trigger().map_err(Error::Trigger)?,", "1 => self.trigger_twice().map_err(Error::Trigger)?,"),
     ("serial.rs", "        sent\n    }", "        Ok(())\n    }"),
     ("serial.rs", "            _ => self.trigger_twice().map_err(Error::Trigger)?,\n        }\n        sent\n",
