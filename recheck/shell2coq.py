@@ -7,7 +7,8 @@ what follows its answer, and at the end its result and the new values of its `&m
 function without I/O is one of the function that rust2coq.py made.
 """
 from rust2coq import Writer, indented
-from rust_tree import UNIT, Refused
+from rust_tree import Refused
+from rust_types import actual
 from shell_tree import OBJECTS, OPAQUE
 from shell_types import WRITE, ShellChecker, ShellCrate
 
@@ -45,6 +46,9 @@ class ShellWriter(Writer):
 
     # -- types
     def type(self, type_, node=None):
+        type_ = actual(type_)
+        if isinstance(type_, tuple) and type_[0] == "iterator":
+            type_ = ("list", type_[1])
         text = super().type(type_, node)
         if text in OPAQUE:
             return OPAQUE[text]
@@ -248,6 +252,12 @@ class ShellWriter(Writer):
         pattern = node.pattern
         if pattern.kind == "list pattern":
             self.refuse(node, "the pattern of a list")
+        if pattern.kind == "variable" and getattr(node.value, "name", None) != "split_at_mut":
+            def bound(value, after):
+                name = self.fresh(pattern.name)
+                return (f"let {name} : {self.type(node.value.type, node)} := {value} in\n"
+                        f"{rest({**after, pattern.local: name})}")
+            return self.expr(node.value, env, bound)
         if pattern.kind != "record pattern":
             return super().let(node, env, rest)
         return self.expr(node.value, env, lambda value, after: rest(
