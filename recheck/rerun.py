@@ -12,6 +12,7 @@ from pathlib import Path
 
 import antt2coq
 import rust2coq
+import shell2coq
 from c_functions import safe_part
 
 HERE = Path(__file__).resolve().parents[1]
@@ -30,7 +31,8 @@ LAWS += [f"superio_laws.Rtc.{name}" for name in ("ClockIsHistory", "RawBitsByHis
 WORDS = [f"superio_core.{name}" for name in """Serial.CoherentUart Serial.RdaCoversHeldBytes Serial.irq_level
     Serial.fresh_state Serial.Operations.is_first_of_two_refused Saved.serial_encoding Saved.serial_fault
     Saved.clock_encoding Saved.clock_fault Rtc.is_readable Rtc.is_writable Rtc.fresh_clock Rtc.state_of_clock
-    Rtc.Step.rtc_irq_level Rtc.Step.IsAlarmDue I8042.is_reset_command""".split()]
+    Rtc.Step.rtc_irq_level Rtc.Step.IsAlarmDue I8042.is_reset_command Serial.Step.answers_fit Serial.Operations.bytes_sent""".split()]
+WORDS += ["vm_superio.Rtc.clock_events"]
 
 
 class Failed(Exception):
@@ -38,12 +40,16 @@ class Failed(Exception):
 
 
 def translated(root):
-    """The generated files, and the names of the public functions."""
+    """The generated files, and the Coq names of the public functions."""
     c_functions = safe_part((root / "bindings/c/from-source/src/lib.rs").read_text())
     crate = rust2coq.Crate(root / "bindings/superio/src/devices", c_functions)
     functions = sorted(name for name, item in crate.functions.items() if item.public)
     types, code = rust2coq.translate(crate, functions)
-    return {"Types": types, "Code": code, "Definitions": antt2coq.translate(root / "crates", crate, LAWS + WORDS)}, functions
+    shell = shell2coq.ShellCrate(root / "bindings/rust/src", crate)
+    of_shell = shell.public()
+    files = {"Types": types, "Code": code, "Definitions": antt2coq.translate(root / "crates", crate, LAWS + WORDS),
+             "ShellCode": shell2coq.translate(shell, of_shell, code)}
+    return files, [rust2coq.coq_name(name) for name in functions] + [shell2coq.coq_name(name) for name in of_shell]
 
 
 def coqc(folder, name):
@@ -90,13 +96,13 @@ def audit(folder, functions):
     laws = [path.rpartition(".")[2] for path in LAWS]
     lines = ["Require Recheck.Definitions Recheck.Claims."]
     lines += [f"Definition proved_{law} : Recheck.Definitions.{law} := Recheck.Claims.{of_law[law]}." for law in laws if law in of_law]
-    lines += [f"Check Recheck.Claims.{name}." for name in theorems]
-    lines += ["Definition all : True :=", *(f"let _ := Recheck.Claims.{name} in" for name in theorems), "I.", "Print Assumptions all."]
+    lines += [f"Check @Recheck.Claims.{name}." for name in theorems]
+    lines += ["Definition all : True :=", *(f"let _ := @Recheck.Claims.{name} in" for name in theorems), "I.", "Print Assumptions all."]
     (folder / "Audit.v").write_text("\n".join(lines) + "\n")
     answers = coqc(folder, "Audit")
-    named = set(re.findall(r"\brs_\w+", answers))
+    named = set(re.findall(r"\b(?:rs|vm)_\w+", answers))
     faults = [f"no theorem is {law}" for law in laws if law not in of_law]
-    faults += [f"no theorem names {name}" for name in functions if "rs_" + name.replace("::", "_") not in named]
+    faults += [f"no theorem names {name}" for name in functions if name not in named]
     if not theorems or not answers.endswith("\nClosed under the global context\n"):
         faults.append(f"theorems rest on something:\n{answers[-2000:]}")
     if faults:

@@ -20,6 +20,10 @@ COMPARISON = {"==": "{equal} {a} {b}", "!=": "negb ({equal} {a} {b})", "<": "{be
 ARITHMETIC = {"+": "add", "-": "sub", "*": "mul", "/": "div", "%": "rem"}
 
 
+def coq_name(key):
+    return "rs_" + key.replace("::", "_")
+
+
 def indented(text):
     return text.replace("\n", "\n  ")
 
@@ -28,6 +32,13 @@ class Writer:
     """Writes functions as Coq. `then` takes the Coq value and the environment after it."""
     def __init__(self, crate):
         self.crate, self.written, self.open, self.out, self.count = crate, {}, [], [], 0
+
+    def coq_name(self, key):
+        return coq_name(key)
+
+    def word(self, key):
+        """The word that binds the result of this function."""
+        return "let*"
 
     def fresh(self, name):
         self.count += 1
@@ -132,8 +143,8 @@ class Writer:
                 raise Refused(f"{item.file}:{item.line}: the constant {name}")
             text = self.expr(item.value, {}, lambda value, env: f"Some {value}")
             text = text[5:] if text.startswith("Some ") else f"constant ({indented(text)})"
-            self.out.append(f"{self.comment(item.doc)}Definition rs_{name} : {self.type(type_)} := {text}.")
-            self.written[name] = "rs_" + name
+            self.written[name] = self.coq_name(name)
+            self.out.append(f"{self.comment(item.doc)}Definition {self.written[name]} : {self.type(type_)} := {text}.")
             self.open.pop()
             self.where = where
         return self.written[name]
@@ -158,7 +169,7 @@ class Writer:
         env = {local: f"{local.name}'" for local in function.locals}
         text = self.expr(function.body, env, self.leave)
         result = [self.type(checker.result), *(self.type(local.type) for local in self.changed)]
-        name = "rs_" + key.replace("::", "_")
+        name = self.coq_name(key)
         parameters = "".join(f" ({env[local]} : {self.type(local.type)})" for local in function.locals)
         where = f"{self.comment(function.doc)}(* {function.file}:{function.line} *)\n"
         self.out.append(f"{where}Definition {name}{parameters} : option ({' * '.join(result)}) :=\n  {indented(text)}.")
@@ -205,7 +216,7 @@ class Writer:
 
     def bind(self, call, name, then):
         name = self.fresh(name)
-        return f"let* {name} := {call} in\n{then(name)}"
+        return f"{self.word(None)} {name} := {call} in\n{then(name)}"
 
     def _integer(self, node, env, then):
         type_ = self.known(node)
@@ -489,7 +500,7 @@ class Writer:
                     return put(at + 1, {**env, places[at].local: new[at]})
                 return self.update(places[at], new[at], env, lambda after: put(at + 1, after))
             pattern = f"'({', '.join([result, *new])})" if new else result
-            return f"let* {pattern} := {' '.join([name, *found])} in\n{put(0, env)}"
+            return f"{self.word(node.key)} {pattern} := {' '.join([name, *found])} in\n{put(0, env)}"
         return values(list(zip(arguments, node.modes)), env, [])
 
     def _method(self, node, env, then):

@@ -40,10 +40,10 @@ class Token:
         self.kind, self.text, self.line, self.suffix = kind, text, line, suffix
 
 
-def tokens(text, file):
+def tokens(text, file, token=TOKEN):
     found, at, line = [], 0, 1
     while at < len(text):
-        match = TOKEN.match(text, at)
+        match = token.match(text, at)
         if not match or match["block"]:
             raise Refused(f"{file}:{line}: {text[at:at + 20]!r}")
         kind = "number" if match["number"] else match.lastgroup
@@ -83,10 +83,12 @@ ASSIGNING = {"=", "|=", "&=", "^=", "+=", "-=", "*=", "/=", "%="}
 
 class Parser:
     """Reads one file."""
+    token, attributes = TOKEN, ATTRIBUTES
+
     def __init__(self, text, file):
         self.file, self.at = file, 0
         self.modules, self.imports = set(), []  # the names of `mod`, and the paths of `use`
-        self.tokens = tokens(text, file) + [Token("end", "", 0)]
+        self.tokens = tokens(text, file, self.token) + [Token("end", "", 0)]
 
     # -- tokens
     @property
@@ -167,7 +169,7 @@ class Parser:
                 while not self.has("]"):
                     text += self.next + (" " if self.next == "," else "")
                     self.at += 1
-                if not ATTRIBUTES.fullmatch(text):
+                if not self.attributes.fullmatch(text):
                     self.refuse(f"the attribute {text}")
                 if text.startswith("derive"):
                     derived |= set(re.findall(r"\w+", text[7:]))

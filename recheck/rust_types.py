@@ -753,7 +753,7 @@ class Checker:
 def roots(node):
     """The variables that it changes."""
     for part in node.walk():
-        if part.kind == "assign":
+        if part.kind in ("assign", "replace"):
             yield root(part.place.value if part.place.kind == "index" else part.place)
         if part.kind == "method" and part.name == "copy_from_slice":
             yield root(part.target)

@@ -10,7 +10,8 @@ from harness import ROOT
 import rerun
 
 JOBS = len(os.sched_getaffinity(0))
-DEVICES, SPECS, C_FUNCTIONS = "bindings/superio/src/devices/", "crates/", "bindings/c/from-source/src/lib.rs"
+DEVICES, SHELL, SPECS = "bindings/superio/src/devices/", "bindings/rust/src/", "crates/"
+C_FUNCTIONS = "bindings/c/from-source/src/lib.rs"
 FIFO, CODE, SAVED, CLOCK = {"Fifo"}, {"PortCode"}, {"SavedPort", "SavedClock"}, {"ClockCode", "AlarmDue"}
 
 # A file, what stands there, what is planted, and the files of proofs of which one has to fail.
@@ -73,6 +74,30 @@ WRONG += [(C_FUNCTIONS, old, new, {"CFunctions", "Claims"}) for old, new in [
     ("const LOADED: u32 = 0", "const LOADED: u32 = 1"),
     ("const NEVER: u64 = u64::MAX", "const NEVER: u64 = 0"),
 ]]
+EMPTY = "        if effects.in_buffer_empty {\n            self.events.in_buffer_empty();\n        }\n"
+READ = "        if effects.buffer_read {\n            self.events.buffer_read();\n        }\n"
+WRONG += [(SHELL + file, old, new, {"Shell", "Claims"}) for file, old, new in [
+    ("serial.rs", "self.out.write_all(&[value]).and_then(|()| self.out.flush())", "self.out.flush().and_then(|()| self.out.write_all(&[value]))"),
+    ("serial.rs", "self.out.write_all(&[value]).and_then(|()| self.out.flush())", "self.out.write_all(&[value])"),
+    ("serial.rs", "Ok(()) => self.events.out_byte()", "Ok(()) => self.events.tx_lost_byte()"),
+    ("serial.rs", "        self.port.registers.interrupt_identification = pending;\n", ""),
+    ("serial.rs", "both_pending & !THRE;", "both_pending & !(THRE | 0x04);"),
+    ("serial.rs", "1 => self.interrupt_evt.trigger().map_err(Error::Trigger)?,", "1 => self.trigger_twice().map_err(Error::Trigger)?,"),
+    ("serial.rs", "        sent\n    }", "        Ok(())\n    }"),
+    ("serial.rs", "            _ => self.trigger_twice().map_err(Error::Trigger)?,\n        }\n        sent\n",
+     "            _ => self.trigger_twice().map_err(Error::Trigger)?,\n        }\n        sent?;\n        self.interrupt_evt.trigger().map_err(Error::Trigger)\n"),
+    ("serial.rs", EMPTY + READ, READ + EMPTY),
+    ("serial.rs", "if effects.interrupts > 0 {", "if effects.interrupts > 1 {"),
+    ("serial.rs", "self.port.interrupts_due()", "2u8"),
+    ("serial.rs", "serial.retry_interrupts().map_err(Error::Trigger)?;", ""),
+    ("serial/state.rs", "% FIFO_SIZE", "% 63"),
+    ("serial/state.rs", "modem_control: self.modem_control", "modem_control: self.modem_status"),
+    ("serial/timeout.rs", "0 => Ok(()),", "1 => Ok(()),"),
+    ("rtc_pl031.rs", "if offset != RTCDR && !self.is_armed() {", "if offset != RTCDR {"),
+    ("rtc_pl031.rs", "if !is_valid {", "if is_valid {"),
+    ("rtc_pl031.rs", "} else if offset > RTCLR {", "} else if offset > RTCMR {"),
+    ("i8042.rs", "if is_reset_command(offset, value) {", "if !is_reset_command(offset, value) {"),
+]]
 HARMLESS = [(DEVICES + file, old, new) for file, old, new in [
     ("fifo.rs", "if held == 0 {", "if held < 1 {"),
     ("serial.rs", "Register::Ier => self.interrupt_enable,\n", "Register::Ier => {\n                let enable = self.interrupt_enable;\n                enable\n            }\n"),
@@ -81,11 +106,16 @@ HARMLESS = [(DEVICES + file, old, new) for file, old, new in [
      "self.armed = u64::from(guest_time < value);\n        self.mr = value;"),
     ("serial/registers.rs", "byte & bits == bits", "bits == byte & bits"),
 ]]
+HARMLESS += [(SHELL + file, old, new) for file, old, new in [
+    ("i8042.rs", "self.reset_evt.trigger()?;", "return self.reset_evt.trigger();"),
+    ("serial.rs", "        let serial = Serial { port, interrupt_evt: trigger, events: serial_evts, out };",
+     "        let serial = Serial { out, events: serial_evts, interrupt_evt: trigger, port };"),
+]]
 
 
 def planted(checked, folder, file, old, new):
     """A copy of what is checked, with one change of a source, and the names of the files that are to be checked anew."""
-    for source in (DEVICES, *(f"{SPECS}{crate}/specs" for crate in ("superio_core", "superio_laws"))):
+    for source in (DEVICES, SHELL, *(f"{SPECS}{crate}/specs" for crate in ("superio_core", "superio_laws", "vm_superio"))):
         shutil.copytree(ROOT / source, folder / source)
     (folder / C_FUNCTIONS).parent.mkdir(parents=True)
     shutil.copy(ROOT / C_FUNCTIONS, folder / C_FUNCTIONS)

@@ -5,24 +5,6 @@ use crate::sansio::serial::Registers;
 use crate::sansio::Uart;
 use crate::saved::SavedStateError;
 
-/// A struct with the registers of another one, in which they have the same names.
-macro_rules! with_registers {
-    ($from:expr => $name:ident { $($more:tt)* }) => {
-        $name {
-            baud_divisor_low: $from.baud_divisor_low,
-            baud_divisor_high: $from.baud_divisor_high,
-            interrupt_enable: $from.interrupt_enable,
-            interrupt_identification: $from.interrupt_identification,
-            line_control: $from.line_control,
-            line_status: $from.line_status,
-            modem_control: $from.modem_control,
-            modem_status: $from.modem_status,
-            scratch: $from.scratch,
-            $($more)*
-        }
-    };
-}
-
 /// The contents of a port's registers and its receive FIFO. The default is a new port's.
 ///
 /// # Example
@@ -111,7 +93,18 @@ impl SerialState {
         let (registers, held) = (port.registers, &port.in_buffer);
         let oldest = usize::from(held.head);
         let places = (oldest..oldest + held.len()).map(|place| place % FIFO_SIZE);
-        with_registers!(registers => SerialState { in_buffer: places.map(|place| held.bytes[place]).collect() })
+        SerialState {
+            baud_divisor_low: registers.baud_divisor_low,
+            baud_divisor_high: registers.baud_divisor_high,
+            interrupt_enable: registers.interrupt_enable,
+            interrupt_identification: registers.interrupt_identification,
+            line_control: registers.line_control,
+            line_status: registers.line_status,
+            modem_control: registers.modem_control,
+            modem_status: registers.modem_status,
+            scratch: registers.scratch,
+            in_buffer: places.map(|place| held.bytes[place]).collect(),
+        }
     }
 
     /// The port of this state, or `None` if it has more bytes than a port can hold.
@@ -121,7 +114,17 @@ impl SerialState {
         // The count is at most FIFO_SIZE.
         let mut in_buffer = ArrayFifo { head: 0, len: count as u8, bytes: [0; FIFO_SIZE] };
         in_buffer.bytes.get_mut(..count)?.copy_from_slice(&self.in_buffer);
-        let registers = with_registers!(self => Registers {});
+        let registers = Registers {
+            baud_divisor_low: self.baud_divisor_low,
+            baud_divisor_high: self.baud_divisor_high,
+            interrupt_enable: self.interrupt_enable,
+            interrupt_identification: self.interrupt_identification,
+            line_control: self.line_control,
+            line_status: self.line_status,
+            modem_control: self.modem_control,
+            modem_status: self.modem_status,
+            scratch: self.scratch,
+        };
         Some(Uart { registers, in_buffer })
     }
 }
