@@ -39,25 +39,25 @@ export interface EnqueueEffects {
 
 /** The state of a serial port: its registers, of one byte each, and what it holds. */
 export interface SerialState {
-  /** DLL, the low byte of the divisor latch. */
+  /** DLL. */
   baudDivisorLow: number;
-  /** DLM, its high byte. */
+  /** DLM. */
   baudDivisorHigh: number;
-  /** IER. 0x01 enables RDA, received data available, and 0x02 THRE, transmitter holding register empty. */
+  /** IER: 0x01 enables RDA, 0x02 THRE. */
   interruptEnable: number;
-  /** IIR without 0xC0. 0x04: RDA is pending, 0x02: THRE is, 0x01: neither is. */
+  /** IIR without 0xC0: 0x04 RDA, 0x02 THRE, 0x01 nothing pending. */
   interruptIdentification: number;
-  /** LCR. 0x80 is DLAB. */
+  /** LCR: 0x80 is DLAB. */
   lineControl: number;
-  /** LSR. 0x01 is data ready. */
+  /** LSR: 0x01 is data ready. */
   lineStatus: number;
-  /** MCR. 0x10 is loopback. */
+  /** MCR: 0x10 is loopback. */
   modemControl: number;
   /** MSR. */
   modemStatus: number;
   /** SCR. */
   scratch: number;
-  /** The received bytes that the guest has not read, oldest first: at most 64. */
+  /** The received bytes, oldest first: at most 64. */
   inBuffer: Uint8Array;
 }
 
@@ -71,7 +71,7 @@ export interface RtcState {
   imsc: number;
   /** RTCRIS, the raw interrupt status. */
   ris: number;
-  /** How far guest time is ahead of the host's, in seconds: a signed number of 64 bits. */
+  /** How far guest time is ahead of the host's, in seconds. */
   offset: bigint;
   /** Whether an alarm is set. */
   armed: boolean;

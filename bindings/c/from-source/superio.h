@@ -63,7 +63,7 @@
  *     for (int i = 0; i < times; i++) {
  *         if (!ask_for_interrupt()) {
  *             is_refused = true;
- *             wake_event_loop(); // in some milliseconds
+ *             retry_in(5); // milliseconds: sets a timer of the event loop
  *             break;
  *         }
  *     }
@@ -98,10 +98,10 @@
  * lowest port first. The clock takes four bytes at a multiple of four: answer a
  * narrower read from the four bytes around it, and ignore a narrower write.
  *
- * Input. A driver tests the port before it uses it, and throws away what it
- * finds in the FIFO. So keep input in a queue of your own until the guest is
- * ready: until IER enables RDA and not THRE. No driver's test of a port leaves
- * IER like this. From then on the guest stays ready, whatever it enables, until
+ * Input. A driver tests the port before it uses it, and throws away some or
+ * all of what it finds in the FIFO. So keep input in a queue of your own until
+ * the guest is ready: until IER enables RDA and not THRE. No driver's test of a
+ * port leaves IER like this. From then on the guest stays ready, whatever it enables, until
  * the machine is reset. A guest that polls, such as a boot loader, never gets
  * ready in this way, nor does one that enables RDA only together with THRE:
  * have an option with which a guest is ready from the start, also after a
@@ -120,17 +120,19 @@
  * writes to a file that does not block: it polls for room while bytes wait, and
  * has to be woken when the first one is queued. LSR always shows an empty
  * transmitter, so no guest waits by itself until there is room. When the queue
- * is full, either drop the byte and count it, or hold the guest in its access:
- * without the lock, and for a limited time. After that time drop bytes at once,
- * until the reader takes some.
+ * is full, either drop the byte and count it, or hold the guest in its access
+ * for a limited time. To hold it, first ask for the interrupts of the write,
+ * then release the lock, wait for room, and take the lock again. After that
+ * time drop bytes at once, until the reader takes some.
  *
  * Turns. A turn of the event loop comes after each return of its poll. Bound
  * the poll to some milliseconds while an interrupt is refused and, for a guest
  * whose handler does not read IIR until nothing is pending, while bytes are
- * held; and wake the loop when one of the two begins in a guest's access. Such
- * a guest gets one run in each turn. If the guest's handler runs meanwhile, the
- * turn's character timeout may interrupt it once more than there is work for.
- * Linux counts such an interrupt as unhandled, and goes on.
+ * held; and wake the loop when one of the two begins in a guest's access. A
+ * refusal in a turn must not end the next poll at once, or the loop spins. The
+ * handler of such a guest runs about once for each turn. If it runs meanwhile,
+ * the turn's character timeout may interrupt it once more than there is work
+ * for. Linux counts such an interrupt as unhandled, and goes on.
  *
  * A line that takes levels. Set it after every call on the port, also after
  * `new` and a load: the port before it may have left the line up. Call your
@@ -349,7 +351,7 @@ superio_serial_read_effects superio_serial_read(superio_serial *port,
 
 /*
  * The guest writes `value` at `offset`. Afterwards do two things, in this
- * order:
+ * order unless you hold the guest until there is room:
  *
  * 1. If `sends` is true, send the value, without waiting for its reader. If
  *    you report events, report that of the byte: out_byte if it is sent, and
@@ -365,8 +367,9 @@ superio_serial_read_effects superio_serial_read(superio_serial *port,
  * later, as often as superio_serial_interrupts_due says.
  *
  * A write to IER does not ask for a condition that was pending before it. If
- * you raise edges and your controller may lose one, ask as often as
- * superio_serial_interrupts_due says after a write at offset 1 too.
+ * you raise edges and your controller may lose one, such as at a masked input,
+ * then after a write at offset 1 ask as often as superio_serial_interrupts_due
+ * says, in place of `interrupts`.
  *
  * `interrupts` is 2 only if a write to IER raises both conditions. If the first
  * of the two is refused, both conditions are pending, and
