@@ -13,7 +13,7 @@ use superio_examples::saved_monitor::{move_monitor, restore_monitor, save_monito
 use superio_script::{
     Board, Counts, Line, LineFault, LineRefused, Output, ScriptFault, drain, run_script,
 };
-use vm_superio::laws::saved::{
+use vm_superio::object_laws::saved::{
     serial_read_then_written, serial_written_then_read, state_to_uart_and_back,
     uart_to_state_and_back,
 };
