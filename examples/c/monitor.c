@@ -126,6 +126,7 @@ static void reset(struct machine *machine) {
     machine->serial = superio_serial_new();
     machine->is_ready = machine->was_refused = machine->is_interrupted = false;
     follow_clock(machine);
+    feed(machine); /* to a guest that polls */
 }
 
 static bool is_serial(uint16_t port) {

@@ -48,8 +48,10 @@
  *
  *     // The guest resets the machine. The clock goes on.
  *     port = superio_serial_new();
- *     is_ready = is_refused = false;
+ *     is_ready = is_early; // the option for a guest that polls
+ *     is_refused = false;
  *     interrupt(0);
+ *     offer_input();
  *
  *     // What `offer_input` does.
  *     if (is_ready) {
@@ -100,13 +102,13 @@
  *
  * Input. A driver tests the port before it uses it, and throws away some or
  * all of what it finds in the FIFO. So keep input in a queue of your own until
- * the guest is ready: until IER enables RDA and not THRE. No driver's test of a
- * port leaves IER like this. From then on the guest stays ready, whatever it enables, until
- * the machine is reset. A guest that polls, such as a boot loader, never gets
- * ready in this way, nor does one that enables RDA only together with THRE:
- * have an option with which a guest is ready from the start, also after a
- * reset. Bound the queue. While it is full, do not read from its source. Wake
- * the event loop once it has room.
+ * the guest is ready: until IER enables RDA and not THRE. No driver that we ran
+ * leaves IER like this in its test of a port. From then on the guest stays
+ * ready, whatever it enables, until the machine is reset. A guest that polls,
+ * such as a boot loader, never gets ready in this way, nor does one that
+ * enables RDA only together with THRE: have an option with which a guest is
+ * ready from the start, also after a reset. Bound the queue. While it is full,
+ * do not read from its source. Wake the event loop once it has room.
  *
  * Offer input at the moments that the sketch shows and at no others: once when
  * it arrives, and once when the guest becomes ready, has read the last byte or
@@ -164,8 +166,8 @@
  * sends nothing, and no call gives it one: ignore a break of your terminal, and
  * do not enqueue a zero for it.
  *
- * What the object code lacks
- * --------------------------
+ * What the object code of prebuilt lacks
+ * --------------------------------------
  *
  * - unwind tables: a backtrace from within a call ends there;
  * - CET marks: a program linked with it is not marked for shadow stacks or
@@ -326,7 +328,7 @@ typedef struct superio_serial_write_effects {
 /* What an enqueue did, and leaves to you. */
 typedef struct superio_serial_enqueue_effects {
     size_t accepted;    /* how many bytes it accepted, first ones first */
-    bool fifo_full;     /* there were bytes, and no room for one of them */
+    bool fifo_full;     /* there were bytes, and 64 were held: it took none */
     uint8_t interrupts; /* how often to ask for the interrupt: 0 or 1 times */
 } superio_serial_enqueue_effects;
 

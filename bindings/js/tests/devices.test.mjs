@@ -285,7 +285,7 @@ test("superio.d.ts declares the fields of what calls give", () => {
 });
 
 test("superio.d.ts declares each reason why bytes are no saved state", () => {
-  const [union] = /readonly reason: [^;]*/.exec(declarations);
+  const [union] = /readonly reason:[^;]*/.exec(declarations);
   assert.deepEqual(Array.from(union.matchAll(/"(.*?)"/g), ([, reason]) => reason), Object.keys(SAVED_STATE_ERRORS));
 });
 
