@@ -27,7 +27,7 @@ struct Machine {
 impl Machine {
     /// After each call of the port, reads among them, the line is what the port says.
     fn set_line<T>(&mut self, returned: T) -> T {
-        self.line = self.port.interrupt_line(); // a monitor passes this level to KVM
+        self.line = self.port.interrupt_line(); // a monitor passes it to KVM if it has changed
         returned
     }
 
