@@ -132,9 +132,9 @@
  * whose handler does not read IIR until nothing is pending, while bytes are
  * held; and wake the loop when one of the two begins in a guest's access. A
  * refusal in a turn must not end the next poll at once, or the loop spins. The
- * handler of such a guest runs about once for each turn. If it runs meanwhile,
- * the turn's character timeout may interrupt it once more than there is work
- * for. Linux counts such an interrupt as unhandled, and goes on.
+ * handler of such a guest runs about once in each turn. A timeout that comes
+ * while the handler is running may interrupt the guest once more, with nothing
+ * left to do. Linux counts such an interrupt as unhandled, and goes on.
  *
  * A line that takes levels. Set it after every call on the port, also after
  * `new` and a load: the port before it may have left the line up. Call your
@@ -159,8 +159,8 @@
  * A snapshot. A saved port has neither the input and the output that wait, nor
  * whether the guest is ready: save these beside it. For a clock, save `now` too
  * if it is not the host's time. After a load, ask for the interrupt as often as
- * superio_serial_interrupts_due says, or set the level. This covers an interrupt
- * that was refused before the snapshot.
+ * superio_serial_interrupts_due says, or set the level. This covers an
+ * interrupt that was refused before the snapshot.
  *
  * Break. The port has none. A guest that sends a break, by bit 0x40 of LCR,
  * sends nothing, and no call gives it one: ignore a break of your terminal, and
@@ -328,7 +328,8 @@ typedef struct superio_serial_write_effects {
 /* What an enqueue did, and leaves to you. */
 typedef struct superio_serial_enqueue_effects {
     size_t accepted;    /* how many bytes it accepted, first ones first */
-    bool fifo_full;     /* there were bytes, and 64 were held: it took none */
+    bool fifo_full;     /* outside loopback, there were bytes and 64 were held:
+                           it took none */
     uint8_t interrupts; /* how often to ask for the interrupt: 0 or 1 times */
 } superio_serial_enqueue_effects;
 
@@ -376,8 +377,8 @@ superio_serial_read_effects superio_serial_read(superio_serial *port,
  * `interrupts` is 2 only if a write to IER raises both conditions. If the first
  * of the two is refused, both conditions are pending, and
  * superio_serial_interrupts_due says 2. The Rust crate vm-superio does not
- * raise THRE after that refusal: its guest may see 0x04 in IIR where this one
- * sees 0x06.
+ * raise THRE after that refusal: its guest may read 0xC4 at offset 2 where this
+ * one reads 0xC6.
  *
  * A write to MCR, at offset 4, may end loopback: offer input again that an
  * enqueue did not accept.
@@ -422,9 +423,11 @@ superio_serial_enqueue_effects superio_serial_enqueue(superio_serial *port,
  *   read IIR until nothing is pending, a timer has to make turns while bytes
  *   are held.
  *
- * With these calls no byte waits for ever in either direction, if in each run
- * the driver reads out a held byte, and sends one of its own while it has any:
- * the law console_driver in docs/THEOREM.md states this exactly.
+ * With these calls, and if refused interrupts are asked for again, no byte
+ * waits for ever in either direction, for a driver such as Linux's or Xen's: in
+ * each run it reads out a held byte, and while it has bytes to send, no run
+ * ends with a read of IIR that shows THRE. docs/THEOREM.md has all conditions,
+ * as those of the law console_driver.
  */
 uint8_t superio_serial_character_timeout(superio_serial *port)
     SUPERIO_MUST_USE SUPERIO_NONNULL SUPERIO_ACCESS(read_write, 1);
@@ -438,8 +441,8 @@ size_t superio_serial_fifo_capacity(const superio_serial *port)
  * pending and enabled, 0 to 2 times. The port does not change.
  *
  * After a restore, ask that often, so that interrupts that the guest has not
- * taken reach it from their new source. After a refused interrupt, ask that
- * often as soon as you can, such as from an event loop. The guest may then be
+ * taken reach it from their new source. Some milliseconds after a refused
+ * interrupt, ask that often from your event loop. The guest may then be
  * interrupted again for a condition that it knows of.
  */
 uint8_t superio_serial_interrupts_due(const superio_serial *port)
@@ -556,9 +559,9 @@ bool superio_rtc_interrupt_line(const superio_rtc *clock)
 /*
  * The seconds from the moment `now` until the alarm is due, if the guest makes
  * no access until then: an access at that moment finds it reached, and no
- * earlier access does. It is less than 2^32, and 0 if the alarm is due at
- * once. It is SUPERIO_RTC_NEVER if no alarm is set or guest time never reaches
- * the match. The mask plays no part.
+ * earlier access does. It is 0 if the alarm is due at once. It is
+ * SUPERIO_RTC_NEVER if no alarm is set or guest time never reaches the match,
+ * and otherwise less than 2^32. The mask plays no part.
  *
  * Ask again after each access, since it may change the match, guest time or
  * the alarm.
@@ -619,7 +622,8 @@ enum superio_saved_state_error {
     SUPERIO_LOAD_OTHER_DEVICE = 3,      /* the state of another device */
     SUPERIO_LOAD_UNKNOWN_VERSION = 4,   /* bytes[5] is another version */
     SUPERIO_LOAD_WRONG_LENGTH = 5,      /* the length is not that of the rest,
-                                           or no state of the device has it */
+                                           or for a port below 9, or for a
+                                           clock not 25 */
     SUPERIO_LOAD_TOO_MANY_BYTES = 6,    /* a port that holds more than 64 */
     SUPERIO_LOAD_INVALID_ARMED = 7      /* an alarm that is neither 0 nor 1 */
 };
@@ -653,7 +657,10 @@ void superio_rtc_save(const superio_rtc *clock,
                       uint8_t bytes[SUPERIO_AT_LEAST(SUPERIO_RTC_SAVED_SIZE)])
     SUPERIO_NONNULL SUPERIO_ACCESS(read_only, 1) SUPERIO_ACCESS(write_only, 2);
 
-/* Makes a clock from `count` saved bytes; see superio_serial_load. */
+/*
+ * Makes a clock from `count` saved bytes, as superio_serial_load makes a port.
+ * Then set the clock's line and timer, if it has them.
+ */
 uint32_t superio_rtc_load(superio_rtc *clock, const uint8_t *bytes,
                           size_t count)
     SUPERIO_MUST_USE SUPERIO_NONNULL SUPERIO_COUNTED

@@ -8,6 +8,7 @@
 enum { RTCMIS = 0x018 };
 
 static superio_rtc rtc;
+static bool was_up; /* the line, as the interrupt controller knows it */
 static int timer;
 static int64_t ahead; /* how many seconds moments are ahead of CLOCK_BOOTTIME */
 
@@ -17,14 +18,17 @@ static int64_t seconds(clockid_t which) {
     return time.tv_sec;
 }
 
-/* After each access: the line is a level, and the timer goes off when the alarm is due. */
+/* After each access: the line is a level, which changes or stays, and the timer goes off when the alarm is due. */
 static void follow(uint64_t now) {
     uint64_t due = superio_rtc_alarm_due(&rtc, now);
     struct itimerspec goes_off = {0}; /* which is never */
     if (due != SUPERIO_RTC_NEVER)
         goes_off.it_value.tv_sec = (int64_t)(now + due) - ahead;
     timerfd_settime(timer, TFD_TIMER_ABSTIME, &goes_off, NULL);
-    KVM(vm, KVM_IRQ_LINE, &((struct kvm_irq_level){.irq = CLOCK_IRQ, .level = superio_rtc_interrupt_line(&rtc)}));
+    bool is_up = superio_rtc_interrupt_line(&rtc);
+    if (is_up != was_up)
+        KVM(vm, KVM_IRQ_LINE, &((struct kvm_irq_level){.irq = CLOCK_IRQ, .level = is_up}));
+    was_up = is_up;
 }
 
 /* The guest's access to memory that it has not. The clock takes four bytes at a time. A narrower read shows a part of
