@@ -424,10 +424,10 @@ superio_serial_enqueue_effects superio_serial_enqueue(superio_serial *port,
  *   are held.
  *
  * With these calls, and if refused interrupts are asked for again, no byte
- * waits for ever in either direction, for a driver such as Linux's or Xen's: in
- * each run it reads out a held byte, and while it has bytes to send, no run
- * ends with a read of IIR that shows THRE. docs/THEOREM.md has all conditions,
- * as those of the law console_driver.
+ * waits for ever in either direction, for a driver that meets the conditions of
+ * the law console_driver in docs/THEOREM.md, as Linux's and Xen's do. A driver
+ * that ends a run with a read of IIR that shows THRE, and has bytes left to
+ * send, is not asked again. A 16550A does not ask it either.
  */
 uint8_t superio_serial_character_timeout(superio_serial *port)
     SUPERIO_MUST_USE SUPERIO_NONNULL SUPERIO_ACCESS(read_write, 1);

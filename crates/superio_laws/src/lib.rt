@@ -154,9 +154,12 @@ pub fn transmitter_interrupt()
 /// From any start, for a driver of a console and a monitor that do the following:
 ///
 /// - At each interrupt, the driver reads IIR, and takes at least one byte if one is held.
-/// - It sends its bytes in order, by THR writes outside loopback while IER enables THRE. Either it reads IIR until
-///   nothing is pending, as Linux and Xen do, and sends at least one byte between two reads. Or it sends at least one
-///   after its last read of IIR. It need send none while it has none left or flow control stops it.
+/// - Each run ends in one of two ways. Either the driver reads IIR until nothing is pending, as Linux and Xen do, and
+///   reads neither IIR nor RBR after that. Or a character timeout comes after what it does behind its last read of IIR,
+///   and it reads neither after that.
+/// - It sends its bytes in order, by THR writes outside loopback while IER enables THRE. While it has bytes left, and
+///   flow control does not stop it, it sends at least one between its last two reads of IIR or, in the second way,
+///   between its last one and the timeout.
 /// - It gets bytes while it has none, or goes on after a stop, only at such a THR write, or at an IER write that
 ///   enables THRE and whose call for RDA is not refused.
 /// - The monitor makes a character timeout after each read of IIR that shows nothing pending, and in each turn of its
