@@ -4,7 +4,8 @@
 Each fenced `sh` block is run by bash with an empty environment and a new home, with the programs of /usr/bin alone, and
 with those beside `rt` if a command is of KIT. It has to succeed, and to print what a `text` block after it shows, if
 there is one before a heading; what follows a prompt there, such as `superio> `, is its input. What takes long is
-shortened: `tools/check` prints its help, as `tools/recheck` does but for its own document, and pytest only collects.
+shortened: `tools/check` and `tools/recheck` print their help, and pytest only collects. tests/recheck runs the second as
+a new user does.
 
 The steps of RATTLE.md are carried out beside a link to this repository, with the file that CLAIMS.md shows, up to a
 proved claim. This proves the libraries first, in minutes, unless `rt` proved them here.
@@ -26,7 +27,7 @@ KIT = re.compile(r"^(?:rt|tools/run|tools/prebuild)\b", re.M)
 PROGRAMS = {"cc": "cc", "cargo": "debian-rust", "git": "git", "make": "make", "npm": "npm", "pkg-config": "pkg-config",
             "venv": "pip", "pip": "pip"}
 PROMPT = re.compile(r"\w+> ")
-SHORTER = [(r"^tools/(check\b[^#\n]*|recheck +(?=#))", r"tools/\1 --help "),
+SHORTER = [(r"^tools/((?:re)?check\b[^#\n]*)", r"tools/\1 --help "),
            (r"^(python3 -m pytest)\b", r"\1 --collect-only -q")]
 BUILT = "crates/superio/out/superio"
 

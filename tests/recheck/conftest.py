@@ -8,9 +8,10 @@ import rerun
 
 @pytest.fixture(scope="session")
 def checked(tmp_path_factory):
-    """The folder with all files, after tools/recheck has passed, and what it printed."""
+    """The folder with all files, after tools/recheck has passed as a new user runs it, and what it printed."""
     folder = tmp_path_factory.mktemp("recheck")
-    return folder, check([ROOT / "tools/recheck", "--keep", folder])
+    environment = {"HOME": str(folder.parent), "PATH": "/usr/bin:/bin"}
+    return folder, check([ROOT / "tools/recheck", "--keep", folder], env=environment)
 
 
 @pytest.fixture
