@@ -23,7 +23,10 @@
  *         superio_serial_write(&port, offset, value);
  *     if (written.sends)
  *         queue_output(value); // never waits
- *     interrupt(written.interrupts);
+ *     if (offset == 1) // IER: it may enable again what was refused
+ *         retry(written.interrupts);
+ *     else
+ *         interrupt(written.interrupts);
  *     is_ready = is_ready || (port.interrupt_enable & 3) == 1;
  *     if (offset == 1 || offset == 4) // IER: the guest may be ready for input
  *         offer_input();              // MCR: loopback may have ended
@@ -40,11 +43,7 @@
  *     write_output();   // as much as its reader takes now
  *     if (read_input()) // as much as the queue has room for
  *         offer_input();
- *     times = superio_serial_character_timeout(&port);
- *     if (is_refused) // these have the timeout's interrupt among them
- *         times = superio_serial_interrupts_due(&port);
- *     is_refused = false;
- *     interrupt(times);
+ *     retry(superio_serial_character_timeout(&port));
  *
  *     // The guest resets the machine. The clock goes on.
  *     port = superio_serial_new();
@@ -69,6 +68,13 @@
  *             break;
  *         }
  *     }
+ *
+ *     // What `retry` does.
+ *     if (is_refused) // `times` are among these
+ *         times = superio_serial_interrupts_due(&port);
+ *     if (times > 0) // 0 while IER disables what was refused
+ *         is_refused = false;
+ *     interrupt(times);
  *
  * The section "Around the calls" explains what is not a call here.
  *
@@ -128,9 +134,9 @@
  * time drop bytes at once, until the reader takes some.
  *
  * Turns. A turn of the event loop comes after each return of its poll. Bound
- * the poll to some milliseconds while an interrupt is refused and, for a guest
- * whose handler does not read IIR until nothing is pending, while bytes are
- * held; and wake the loop when one of the two begins in a guest's access. A
+ * the poll to some milliseconds in two cases: while an interrupt is refused;
+ * and while bytes are held, if the guest's handler does not read IIR until
+ * nothing is pending. If a guest's access begins such a case, wake the loop. A
  * refusal in a turn must not end the next poll at once, or the loop spins. The
  * handler of such a guest runs about once in each turn. A timeout that comes
  * while the handler is running may interrupt the guest once more, with nothing
@@ -159,8 +165,9 @@
  * A snapshot. A saved port has neither the input and the output that wait, nor
  * whether the guest is ready: save these beside it. For a clock, save `now` too
  * if it is not the host's time. After a load, ask for the interrupt as often as
- * superio_serial_interrupts_due says, or set the level. This covers an
- * interrupt that was refused before the snapshot.
+ * superio_serial_interrupts_due says, or set the level. If it says 0, IER may
+ * disable what is pending: set `is_refused` of the sketch above. So you need
+ * not save whether an interrupt was refused.
  *
  * Break. The port has none. A guest that sends a break, by bit 0x40 of LCR,
  * sends nothing, and no call gives it one: ignore a break of your terminal, and
@@ -367,7 +374,8 @@ superio_serial_read_effects superio_serial_read(superio_serial *port,
  * The condition of a refused interrupt stays pending, so no later access asks
  * for it until the guest has acknowledged it. A guest that waits for the
  * interrupt may never do so. If your interrupt can be refused, ask again
- * later, as often as superio_serial_interrupts_due says.
+ * later, as often as superio_serial_interrupts_due says. While it says 0, IER
+ * may disable the condition: then ask again after each write at offset 1, too.
  *
  * A write to IER does not ask for a condition that was pending before it. If
  * you raise edges and your controller may lose one, such as at a masked input,
@@ -442,8 +450,9 @@ size_t superio_serial_fifo_capacity(const superio_serial *port)
  *
  * After a restore, ask that often, so that interrupts that the guest has not
  * taken reach it from their new source. Some milliseconds after a refused
- * interrupt, ask that often from your event loop. The guest may then be
- * interrupted again for a condition that it knows of.
+ * interrupt, ask that often from your event loop, and if the result is 0, again
+ * after each write at offset 1. The guest may then be interrupted again for a
+ * condition that it knows of.
  */
 uint8_t superio_serial_interrupts_due(const superio_serial *port)
     SUPERIO_MUST_USE SUPERIO_NONNULL SUPERIO_ACCESS(read_only, 1);
@@ -630,7 +639,7 @@ enum superio_saved_state_error {
 
 /*
  * Saves a port and returns how many bytes it wrote: 17, plus one for each held
- * byte. The other bytes do not change.
+ * byte. The other bytes do not change. `bytes` is outside the port.
  */
 size_t superio_serial_save(
     const superio_serial *port,
@@ -652,7 +661,10 @@ uint32_t superio_serial_load(superio_serial *port, const uint8_t *bytes,
     SUPERIO_MUST_USE SUPERIO_NONNULL SUPERIO_COUNTED
     SUPERIO_ACCESS(write_only, 1) SUPERIO_ACCESS(read_only, 2, 3);
 
-/* Saves a clock: writes all SUPERIO_RTC_SAVED_SIZE bytes. */
+/*
+ * Saves a clock: writes all SUPERIO_RTC_SAVED_SIZE bytes, which are outside the
+ * clock.
+ */
 void superio_rtc_save(const superio_rtc *clock,
                       uint8_t bytes[SUPERIO_AT_LEAST(SUPERIO_RTC_SAVED_SIZE)])
     SUPERIO_NONNULL SUPERIO_ACCESS(read_only, 1) SUPERIO_ACCESS(write_only, 2);

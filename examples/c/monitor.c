@@ -61,6 +61,15 @@ static void interrupt(struct machine *machine, unsigned times) {
     machine->was_refused |= times > 0;
 }
 
+/* In each turn, and after a write to IER, which may enable again what was refused: asks for that too. */
+static void retry(struct machine *machine, unsigned times) {
+    if (machine->was_refused)
+        times = superio_serial_interrupts_due(&machine->serial); /* these `times` among them */
+    if (times > 0) /* 0 while IER disables what was refused */
+        machine->was_refused = false;
+    interrupt(machine, times);
+}
+
 /* Prints a byte from the guest, which must not reach a terminal as it is: it could be part of an escape sequence. */
 static void print_output(uint8_t byte) {
     printf(isprint(byte) && byte != '\\' ? "output: %c\n" : "output: \\x%02x\n", byte);
@@ -102,11 +111,7 @@ static void send_byte(struct machine *machine, uint8_t byte) {
  * and refusals are retried. */
 static void turn(struct machine *machine) {
     flush_output(machine);
-    unsigned times = superio_serial_character_timeout(&machine->serial);
-    if (machine->was_refused)
-        times = superio_serial_interrupts_due(&machine->serial); /* the timeout's interrupt among them */
-    machine->was_refused = false;
-    interrupt(machine, times);
+    retry(machine, superio_serial_character_timeout(&machine->serial));
 }
 
 /* What follows each access of the clock: its line is a level, and a timer has to go off when the alarm is due. */
@@ -142,7 +147,10 @@ static void port_write(struct machine *machine, uint16_t port, uint8_t value) {
         superio_serial_write_effects done = superio_serial_write(&machine->serial, (uint8_t)(port - COM1), value);
         if (done.sends)
             send_byte(machine, value);
-        interrupt(machine, done.interrupts);
+        if (port == COM1 + 1)
+            retry(machine, done.interrupts);
+        else
+            interrupt(machine, done.interrupts);
         machine->is_ready |= (machine->serial.interrupt_enable & 0x03) == 0x01; /* RDA, and THRE not */
         if (port == COM1 + 1 || port == COM1 + 4) /* the guest may be ready now, or have left loopback */
             feed(machine);
@@ -194,7 +202,8 @@ static struct machine migrate(const struct machine *machine) {
     check(superio_serial_load(&other.serial, serial, count) == SUPERIO_LOAD_OK, "loading the serial port");
     check(superio_rtc_load(&other.clock, clock, sizeof clock) == SUPERIO_LOAD_OK, "loading the clock");
     printf("moved a clock, a port of %zu bytes, and %zu of input\n", count, strlen(other.input));
-    interrupt(&other, superio_serial_interrupts_due(&other.serial)); /* what the guest has not taken */
+    other.was_refused = true; /* or lost with the old line: asks for what the guest has not taken */
+    retry(&other, 0);
     follow_clock(&other);
     return other;
 }
@@ -231,6 +240,14 @@ int main(void) {
     turn(&machine);
     printf("IIR %02x\n", port_read(&machine, COM1 + 2)); /* which ends both, although 64 bytes are held */
     turn(&machine);
+    printf("IIR %02x\n", port_read(&machine, COM1 + 2));
+
+    machine.line_is_down = true;
+    turn(&machine);
+    port_write(&machine, COM1 + 1, 0x00); /* the guest disables what was refused, as Linux does around a message */
+    machine.line_is_down = false;
+    turn(&machine);
+    port_write(&machine, COM1 + 1, 0x03); /* THRE is due again, and what was refused */
     printf("IIR %02x\n", port_read(&machine, COM1 + 2));
 
     memory_write(&machine, CLOCK + 0x010, 1);    /* RTCIMSC: the alarm may raise the line */

@@ -31,8 +31,8 @@ static void follow(uint64_t now) {
     was_up = is_up;
 }
 
-/* The guest's access to memory that it has not. The clock takes four bytes at a time. A narrower read shows a part of
- * the four around it, as EDK II expects. A narrower write, and whatever crosses two words, has no effect. */
+/* The guest's access to memory that it has not. The clock takes four bytes at any offset. A narrower read shows a part
+ * of the four around it, as EDK II expects, or ones if it crosses two words. A narrower write has no effect. */
 void clock_access(uint64_t address, bool is_write, uint8_t *bytes, unsigned count) {
     uint16_t offset = (uint16_t)(address - CLOCK_BASE), within = count == 4 ? 0 : offset % 4;
     bool is_clock = address >= CLOCK_BASE && address < CLOCK_BASE + SUPERIO_RTC_WINDOW && within + count <= 4;

@@ -20,6 +20,15 @@ static void interrupt(unsigned times) {
         monitor_wake();
 }
 
+/* Asks also for what was refused, once IER enables it. */
+static void retry(unsigned times) {
+    if (is_refused)
+        times = superio_serial_interrupts_due(&port); /* these `times` among them */
+    if (times > 0)
+        is_refused = false;
+    interrupt(times);
+}
+
 /* Offers the input, and keeps what the port does not accept: when input comes, when the guest has read the last byte of
  * the FIFO, and when it may have become ready or left loopback. An event loop that waits for room has to look again. */
 static void feed(void) {
@@ -44,7 +53,10 @@ uint8_t serial_read(uint8_t offset) {
 
 void serial_write(uint8_t offset, uint8_t value) {
     superio_serial_write_effects done = superio_serial_write(&port, offset, value);
-    interrupt(done.interrupts);
+    if (offset == IER)
+        retry(done.interrupts);
+    else
+        interrupt(done.interrupts);
     if (done.sends)
         monitor_send(value);
     takes_input |= (port.interrupt_enable & 0x03) == 0x01;
@@ -62,11 +74,11 @@ void serial_type(const uint8_t *bytes, size_t count) {
 /* In each turn of the event loop, which `monitor_wake` may have asked for: asks again for what was refused, and for the
  * bytes that the guest has left. Returns for how much input there is room. */
 size_t serial_turn(bool is_woken) {
-    if (is_woken && is_refused) {
-        is_refused = false;
-        interrupt(superio_serial_interrupts_due(&port));
-    }
-    interrupt(superio_serial_character_timeout(&port));
+    unsigned times = superio_serial_character_timeout(&port);
+    if (is_woken)
+        retry(times);
+    else
+        interrupt(times);
     return QUEUE_SIZE - waiting;
 }
 

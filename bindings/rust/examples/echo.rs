@@ -8,6 +8,7 @@ use std::cell::Cell;
 use std::collections::VecDeque;
 use std::io::{self, BufRead, Write};
 
+use vm_superio::serial::line::InterruptLine;
 use vm_superio::serial::timeout::CharacterTimeout;
 use vm_superio::serial::NoEvents;
 use vm_superio::{Serial, Trigger};
@@ -97,19 +98,30 @@ impl<L: Trigger> Machine<L> {
         value // the guest has read it, whatever the line answered
     }
 
-    /// The guest writes a register. Only the line can refuse, since the output takes every byte. A write to MCR may
-    /// have ended loopback.
+    /// The guest writes a register. Only the line can refuse, since the output takes every byte. A write to IER may
+    /// enable again what was refused, and one to MCR may have ended loopback.
     pub fn write(&mut self, offset: u8, value: u8) {
-        self.must_retry |= self.port.write(offset, value).is_err();
+        if self.port.write(offset, value).is_err() {
+            self.must_retry = true;
+        } else if offset == INTERRUPT_ENABLE {
+            self.retry();
+        }
         if offset == MODEM_CONTROL {
             self.offer();
+        }
+    }
+
+    /// Asks again for what was refused, once IER enables it.
+    fn retry(&mut self) {
+        if self.must_retry && self.port.interrupt_line() {
+            self.must_retry = self.port.retry_interrupts().is_err();
         }
     }
 
     /// A turn of the event loop, with the input that has arrived. A monitor bounds what waits.
     pub fn input(&mut self, bytes: &[u8]) {
         self.waiting.extend(bytes);
-        self.must_retry = self.must_retry && self.port.retry_interrupts().is_err();
+        self.retry();
         self.offer();
         self.must_retry |= self.port.character_timeout().is_err();
     }

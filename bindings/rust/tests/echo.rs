@@ -90,6 +90,10 @@ const SCRIPTS: [Script; 9] = [
         (Read(IIR, 0xC1), 0, 62), (Input(0), 1, 62), (Read(IIR, 0xC4), 0, 62), (Refuse(1), 0, 62),
         (Input(0), 0, 62), (Input(0), 1, 62),
     ]),
+    ("what IER disables at the retry is asked for by the write that enables it", &[
+        (Write(IER, 1), 0, 64), (Refuse(1), 0, 64), (Input(2), 0, 62), (Write(IER, 0), 0, 62), (Input(0), 0, 62),
+        (Write(IER, 1), 1, 62), (Input(0), 0, 62),
+    ]),
     ("a refused write is made up for, whatever is taken before, and bytes that are left are not forgotten over it", &[
         (Write(IER, 3), 1, 64), (Input(100), 1, 0), (Read(IIR, 0xC6), 0, 0), (Refuse(1), 0, 0),
         (Write(DATA, b'A'), 0, 0), (Write(SCR, 0), 0, 0), (ReadOut(64), 1, 28), (Input(0), 2, 28),

@@ -151,15 +151,16 @@ pub fn transmitter_interrupt()
     ensures called { CalledSinceLaw }
 {}
 
-/// From any start, for a driver of a console and a monitor that do the following:
+/// From any start, for a driver of a console and a monitor that do the following. A run is what an interrupt makes the
+/// driver do, with all other calls up to the next run.
 ///
-/// - At each interrupt, the driver reads IIR, and takes at least one byte if one is held.
-/// - Each run ends in one of two ways. Either the driver reads IIR until nothing is pending, as Linux and Xen do, and
-///   reads neither IIR nor RBR after that. Or a character timeout comes after what it does behind its last read of IIR,
-///   and it reads neither after that.
-/// - It sends its bytes in order, by THR writes outside loopback while IER enables THRE. While it has bytes left, and
-///   flow control does not stop it, it sends at least one between its last two reads of IIR or, in the second way,
-///   between its last one and the timeout.
+/// - At each interrupt, the driver reads IIR, and takes at least one byte if one is held. Nobody else reads IIR.
+/// - Each run ends in one of two ways. Either the driver reads IIR at least twice, until nothing is pending, as Linux
+///   and Xen do, and nobody reads IIR or RBR after that. Or a character timeout comes after the driver's last read of
+///   IIR and what it does then, and nobody reads either after that.
+/// - It sends its bytes in order, by THR writes outside loopback while IER enables THRE. In the first way, it has none
+///   left, or flow control stops it, at some moment between its last two reads of IIR. In the second, it sends at least
+///   one between its last read and the timeout, unless it has none left at some moment there, or is stopped.
 /// - It gets bytes while it has none, or goes on after a stop, only at such a THR write, or at an IER write that
 ///   enables THRE and whose call for RDA is not refused.
 /// - The monitor makes a character timeout after each read of IIR that shows nothing pending, and in each turn of its

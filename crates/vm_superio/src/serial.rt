@@ -353,7 +353,8 @@ impl<T: Trigger, EV: SerialEvents, W: Write> Serial<T, EV, W> {
     /// else changes. The history counts the call as a restore of the port with its own objects.
     ///
     /// A refused condition stays pending, and no access calls the trigger for it again until the guest has acknowledged
-    /// it. If your trigger can refuse, repeat this call after a refusal until it returns `Ok`. The guest may then be
+    /// it. If your trigger can refuse, repeat this call after a refusal until it returns `Ok`. While IER disables the
+    /// condition, it calls nothing and returns `Ok`: then repeat it after each write at offset 1. The guest may be
     /// interrupted again for a condition that it knows of.
     ///
     /// # Errors

@@ -75,7 +75,7 @@ pub trait CharacterTimeout {
     /// # Errors
     ///
     /// [`Error::Trigger`] if the trigger refused the call. The condition stays pending, so a further character timeout
-    /// does nothing: call [`retry_interrupts`](Serial::retry_interrupts) until it succeeds. No other error comes.
+    /// does nothing: call [`retry_interrupts`](Serial::retry_interrupts). No other error comes.
     fn character_timeout(&mut self) -> Result<(), Error<Self::E>>;
 }
 

@@ -5,6 +5,7 @@ use std::collections::VecDeque;
 use std::slice;
 use std::sync::{Mutex, MutexGuard};
 
+use vm_superio::serial::line::InterruptLine;
 use vm_superio::serial::timeout::CharacterTimeout;
 use vm_superio::serial::NoEvents;
 use vm_superio::{Serial, Trigger};
@@ -73,6 +74,15 @@ impl Port {
         }
     }
 
+    /// Asks again for what was refused, once IER enables it.
+    fn retry(&mut self) {
+        if self.is_refused && self.serial.interrupt_line() {
+            self.is_refused = false;
+            let result = self.serial.retry_interrupts();
+            self.retry_later(result);
+        }
+    }
+
     /// Offers the input, and keeps what the port does not accept.
     fn feed(&mut self) {
         let room = self.serial.fifo_capacity();
@@ -122,7 +132,11 @@ pub extern "C" fn serial_read(offset: u8) -> u8 {
 pub extern "C" fn serial_write(offset: u8, value: u8) {
     let sent = with_port(|port| {
         let result = port.serial.write(offset, value);
+        let is_taken = result.is_ok();
         port.retry_later(result);
+        if offset == INTERRUPT_ENABLE && is_taken {
+            port.retry();
+        }
         if offset == INTERRUPT_ENABLE {
             port.takes_input |= port.serial.state().interrupt_enable & 3 == 1;
         }
@@ -157,10 +171,8 @@ pub unsafe extern "C" fn serial_type(bytes: *const u8, count: usize) {
 #[no_mangle]
 pub extern "C" fn serial_turn(is_woken: bool) -> usize {
     with_port(|port| {
-        if is_woken && port.is_refused {
-            port.is_refused = false;
-            let result = port.serial.retry_interrupts();
-            port.retry_later(result);
+        if is_woken {
+            port.retry();
         }
         port.time_out();
         QUEUE_SIZE - port.input.len()
