@@ -63,6 +63,7 @@ fn echo_byte<EV: SerialEvents, W: Write>(
 }
 
 /// Takes bytes and sends each back, until LSR shows none or it has taken `bound`.
+#[tactic(auto)]
 fn echo_up_to<EV: SerialEvents, W: Write>(
     serial: &mut Serial<Counter, EV, W>,
     bound: usize,
@@ -134,6 +135,7 @@ fn run_handler<EV: SerialEvents, W: Write>(
 // ---- the monitor
 
 /// Runs the handler as long as the trigger was called.
+#[tactic(auto)]
 fn serve<EV: SerialEvents, W: Write>(
     serial: &mut Serial<Counter, EV, W>,
     bound: usize,
@@ -182,6 +184,7 @@ fn receive<EV: SerialEvents, W: Write>(
 }
 
 /// A piece of input comes, and the driver echoes it. Returns how many of its bytes there was room for.
+#[tactic(auto)]
 fn echo_piece<EV: SerialEvents, W: Write>(
     serial: &mut Serial<Counter, EV, W>,
     bound: usize,
@@ -208,6 +211,7 @@ fn echo_piece<EV: SerialEvents, W: Write>(
 }
 
 /// The first `most` bytes of the input come, and the driver echoes as many as there is room for. Returns the rest.
+#[tactic(auto)]
 fn echo_next<'a, EV: SerialEvents, W: Write>(
     serial: &mut Serial<Counter, EV, W>,
     bound: usize,
@@ -237,6 +241,7 @@ fn echo_next<'a, EV: SerialEvents, W: Write>(
 }
 
 /// All input comes: first in pieces of at most these sizes, and then as much at a time as there is room for.
+#[tactic(auto)]
 fn echo_input<EV: SerialEvents, W: Write>(
     serial: &mut Serial<Counter, EV, W>,
     bound: usize,
@@ -269,6 +274,7 @@ fn echo_input<EV: SerialEvents, W: Write>(
 /// # Errors
 ///
 /// Returns `Error::Memory` if memory is refused for the port, and `Error::IOError` if the writer fails.
+#[tactic(auto)]
 pub fn echo<W: Write + Drop>(
     alloc: Global,
     out: W,
