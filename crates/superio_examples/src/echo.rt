@@ -56,6 +56,7 @@ fn echo_byte(port: &mut Uart, output: &mut Vec<u8>) -> Result<(), AllocError>
 }
 
 /// Takes bytes and sends each back, until LSR shows none or it has taken `bound`.
+#[tactic(auto)]
 fn echo_up_to(port: &mut Uart, bound: usize, output: &mut Vec<u8>) -> Result<(), AllocError>
     requires coherent { CoherentUart port.old }
     requires open { IsOpen (state_of_uart port.old) }
@@ -114,6 +115,7 @@ fn run_handler(port: &mut Uart, bound: usize, output: &mut Vec<u8>) -> Result<u8
 // ---- the monitor
 
 /// Runs the handler as long as an interrupt is due.
+#[tactic(auto)]
 fn serve(port: &mut Uart, bound: usize, asked: u8, output: &mut Vec<u8>) -> Result<(), AllocError>
     requires coherent { CoherentUart port.old }
     requires open { IsOpen (state_of_uart port.old) }
@@ -158,6 +160,7 @@ fn echo_piece(
 }
 
 /// All input comes: first in pieces of at most these sizes, and then as much at a time as there is room for.
+#[tactic(auto)]
 fn echo_input(
     port: &mut Uart,
     bound: usize,

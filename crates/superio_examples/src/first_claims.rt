@@ -286,6 +286,7 @@ pub fn alarm_raises_line<EV: RtcEvents>(
 // ---- from a new port
 
 /// A guest reads back the input of a new port, as far as there is room for it.
+#[tactic(auto, unfolding(superio_core::specs::Bits::has_bits))]
 pub fn read_back<T: Trigger + Drop, W: Write + Drop>(
     alloc: Global,
     trigger: T,

@@ -2,7 +2,7 @@
 //! The same console over `Serial`, with a trigger that counts its calls. A writer takes what the guest sends.
 ghost use Rattle.std.specs.Prelude.{◌≡◌, ◌<◌, length, min, take, true, false, [], OnOk, IfOk, if◌then◌else◌};
 ghost use Rattle.std.specs.Io.KnownBytes.{Appends, Keeps, append_known};
-ghost use Rattle.vm_superio.specs.Claims.{held, Coherent, not_empty};
+ghost use Rattle.vm_superio.specs.Claims.{held, Coherent, fresh_state, not_empty};
 ghost use Rattle.vm_superio.specs.Serial.{count_if};
 ghost use Rattle.superio_examples.specs.Echo.{IsOpen};
 
@@ -15,6 +15,22 @@ use vm_superio::Serial;
 use vm_superio::serial::{Error, Refused, SerialEvents};
 
 // ---- the driver
+
+/// The driver opens a new port: it enables received data alone.
+fn open<EV: SerialEvents, W: Write>(
+    serial: &mut Serial<Counter, EV, W>,
+) -> Result<(), Error<Infallible>>
+    requires fresh { serial.old.state ≡ fresh_state }
+    requires coherent { Coherent serial.old.state }
+    ensures open { IsOpen serial.new.state }
+    ensures none_held { held serial.new ≡ [] }
+    ensures idle { serial.new.state.interrupt_identification ≡ 0x01 }
+    ensures uncalled { serial.new.trigger ≡ serial.old.trigger }
+    ensures out { serial.new.out ≡ serial.old.out }
+    ensures coherent { Coherent serial.new.state }
+{
+    serial.write(1, IER_RDA_BIT)
+}
 
 /// Whether LSR shows that a byte is held.
 fn has_data<EV: SerialEvents, W: Write>(serial: &mut Serial<Counter, EV, W>) -> bool
@@ -47,6 +63,7 @@ fn echo_byte<EV: SerialEvents, W: Write>(
 }
 
 /// Takes bytes and sends each back, until LSR shows none or it has taken `bound`.
+#[tactic(auto)]
 fn echo_up_to<EV: SerialEvents, W: Write>(
     serial: &mut Serial<Counter, EV, W>,
     bound: usize,
@@ -118,6 +135,7 @@ fn run_handler<EV: SerialEvents, W: Write>(
 // ---- the monitor
 
 /// Runs the handler as long as the trigger was called.
+#[tactic(auto)]
 fn serve<EV: SerialEvents, W: Write>(
     serial: &mut Serial<Counter, EV, W>,
     bound: usize,
@@ -143,7 +161,30 @@ fn serve<EV: SerialEvents, W: Write>(
     Ok(())
 }
 
+/// A piece of input comes. Returns how many of its bytes there was room for. The trigger was called if there are any.
+fn receive<EV: SerialEvents, W: Write>(
+    serial: &mut Serial<Counter, EV, W>,
+    piece: &[u8],
+) -> Result<usize, Error<Infallible>>
+    requires coherent { Coherent serial.old.state }
+    requires open { IsOpen serial.old.state }
+    requires none_held { held serial.old ≡ [] }
+    requires idle { serial.old.state.interrupt_identification ≡ 0x01 }
+    requires uncalled { serial.old.trigger.calls ≡ 0 }
+    ensures taken { IfOk result (λ taken. taken ≡ min 64 (length piece.now)) }
+    ensures held { IfOk result (λ taken. held serial.new ≡ take taken piece.now) }
+    ensures called { IfOk result (λ taken. serial.new.trigger.calls ≡ count_if (not_empty (held serial.new))) }
+    ensures pending { IfOk result (λ taken. serial.new.state.interrupt_identification
+        ≡ (if not_empty (held serial.new) then 0x04 else 0x01)) }
+    ensures out { serial.new.out ≡ serial.old.out }
+    ensures open { IsOpen serial.new.state }
+    ensures coherent { Coherent serial.new.state }
+{
+    serial.enqueue_raw_bytes(piece)
+}
+
 /// A piece of input comes, and the driver echoes it. Returns how many of its bytes there was room for.
+#[tactic(auto)]
 fn echo_piece<EV: SerialEvents, W: Write>(
     serial: &mut Serial<Counter, EV, W>,
     bound: usize,
@@ -164,12 +205,43 @@ fn echo_piece<EV: SerialEvents, W: Write>(
     ensures open { IsOpen serial.new.state }
     ensures coherent { Coherent serial.new.state }
 {
-    let taken = serial.enqueue_raw_bytes(piece)?;
+    let taken = receive(serial, piece)?;
     serve(serial, bound)?;
     Ok(taken)
 }
 
+/// The first `most` bytes of the input come, and the driver echoes as many as there is room for. Returns the rest.
+#[tactic(auto)]
+fn echo_next<'a, EV: SerialEvents, W: Write>(
+    serial: &mut Serial<Counter, EV, W>,
+    bound: usize,
+    input: &'a [u8],
+    most: usize,
+) -> Result<&'a [u8], Error<Infallible>>
+    requires coherent { Coherent serial.old.state }
+    requires open { IsOpen serial.old.state }
+    requires none_held { held serial.old ≡ [] }
+    requires idle { serial.old.state.interrupt_identification ≡ 0x01 }
+    requires uncalled { serial.old.trigger.calls ≡ 0 }
+    requires bound { 0 < bound }
+    ensures in_order { IfOk result (λ rest. Keeps (append_known (W.contents serial.old.out) input.now)
+        (append_known (W.contents serial.new.out) rest.now)) }
+    ensures shorter { IfOk result (λ rest.
+        0 < most → 0 < length input.now → length rest.now < length input.now) }
+    ensures none_left { IfOk result (λ rest. held serial.new ≡ []) }
+    ensures idle { IfOk result (λ rest. serial.new.state.interrupt_identification ≡ 0x01) }
+    ensures uncalled { IfOk result (λ rest. serial.new.trigger.calls ≡ 0) }
+    ensures open { IsOpen serial.new.state }
+    ensures coherent { Coherent serial.new.state }
+{
+    let (piece, _) = input.split_at(input.len().min(most));
+    let taken = echo_piece(serial, bound, piece)?;
+    let (_, rest) = input.split_at(taken);
+    Ok(rest)
+}
+
 /// All input comes: first in pieces of at most these sizes, and then as much at a time as there is room for.
+#[tactic(auto)]
 fn echo_input<EV: SerialEvents, W: Write>(
     serial: &mut Serial<Counter, EV, W>,
     bound: usize,
@@ -187,15 +259,10 @@ fn echo_input<EV: SerialEvents, W: Write>(
 {
     let mut rest = input;
     for most in pieces {
-        let (piece, _) = rest.split_at(rest.len().min(*most));
-        let taken = echo_piece(serial, bound, piece)?;
-        let (_, later) = rest.split_at(taken);
-        rest = later;
+        rest = echo_next(serial, bound, rest, *most)?;
     }
     while !rest.is_empty() {
-        let taken = echo_piece(serial, bound, rest)?;
-        let (_, later) = rest.split_at(taken);
-        rest = later;
+        rest = echo_next(serial, bound, rest, rest.len())?;
     }
     Ok(())
 }
@@ -207,6 +274,7 @@ fn echo_input<EV: SerialEvents, W: Write>(
 /// # Errors
 ///
 /// Returns `Error::Memory` if memory is refused for the port, and `Error::IOError` if the writer fails.
+#[tactic(auto)]
 pub fn echo<W: Write + Drop>(
     alloc: Global,
     out: W,
@@ -218,7 +286,7 @@ pub fn echo<W: Write + Drop>(
     ensures sent { IfOk result (λ written. Appends (W.contents out) (W.contents written) input.now) }
 {
     let mut serial = Serial::new(alloc, Counter::new(), out).map_err(Refused::into_error)?;
-    serial.write(1, IER_RDA_BIT)?;
+    open(&mut serial)?;
     echo_input(&mut serial, bound, input, pieces)?;
     Ok(serial.into_writer())
 }
