@@ -63,10 +63,10 @@ fn interrupted(imsc: u32, ris: u32) -> Rtc<Counts> {
     Rtc::from_state(&RtcState::from_five(0, 0, 0, imsc, ris), Counts::new())
 }
 
-/// How many reads and how many writes were invalid.
-fn invalid(clock: &Rtc<Counts>) -> [u64; 2] {
+/// Whether so many reads and so many writes were invalid.
+fn reports(clock: &Rtc<Counts>, reads: u64, writes: u64) -> bool {
     let counts = clock.events();
-    [counts.invalid_read_count(), counts.invalid_write_count()]
+    counts.invalid_read_count() == reads && counts.invalid_write_count() == writes
 }
 
 // ---- guest time
@@ -84,7 +84,7 @@ fn a_fresh_clock_shows_the_hosts_time(rt: HostRuntime) {
 #[test]
 fn the_data_register_follows_the_host_and_takes_no_write(rt: HostRuntime) {
     let mut clock = fresh();
-    assert!(rt; invalid(&clock) == [0, 0]);
+    assert!(rt; reports(&clock, 0, 0));
     make(
         &rt,
         &mut clock,
@@ -94,9 +94,9 @@ fn the_data_register_follows_the_host_and_takes_no_write(rt: HostRuntime) {
             Write(1_000, RTCDR, 0),
         ],
     );
-    assert!(rt; invalid(&clock) == [0, 1]);
+    assert!(rt; reports(&clock, 0, 1));
     make(&rt, &mut clock, &[Read(1_004, RTCDR, 1_004)]);
-    assert!(rt; invalid(&clock) == [0, 1]);
+    assert!(rt; reports(&clock, 0, 1));
 }
 
 #[test]
@@ -199,7 +199,7 @@ fn a_reset_ends_the_loaded_time_and_only_1_resets(rt: HostRuntime) {
             Read(1_009, RTCCR, 1),
         ],
     );
-    assert!(rt; invalid(&clock) == [0, 0]);
+    assert!(rt; reports(&clock, 0, 0));
 }
 
 /// `test_control_register`
@@ -280,9 +280,9 @@ fn a_clear_ends_the_interrupt_and_its_register_is_not_readable(rt: HostRuntime) 
             Read(1_000, RTCMIS, 0),
         ],
     );
-    assert!(rt; invalid(&clock) == [0, 0]);
+    assert!(rt; reports(&clock, 0, 0));
     assert!(rt; read_into(&mut clock, 1_000, RTCICR, 123) == 123);
-    assert!(rt; invalid(&clock) == [1, 0]);
+    assert!(rt; reports(&clock, 1, 0));
 }
 
 /// `test_raw_interrupt_status_register`
@@ -333,7 +333,7 @@ fn the_identification_is_four_offsets_a_byte_and_takes_no_write(rt: HostRuntime)
             Read(1_000, IDS[1], 0xB1),
         ],
     );
-    assert!(rt; invalid(&clock) == [0, 1]);
+    assert!(rt; reports(&clock, 0, 1));
     for (index, byte) in [0x31, 0x10, 0x04, 0x00, 0x0D, 0xF0, 0x05, 0xB1u32]
         .iter()
         .enumerate()
@@ -349,15 +349,15 @@ fn the_identification_is_four_offsets_a_byte_and_takes_no_write(rt: HostRuntime)
 fn reads_of_no_register_keep_the_bytes_and_are_reported(rt: HostRuntime) {
     let mut clock = fresh();
     assert!(rt; read_into(&mut clock, 1_000, RTCICR, 123) == 123);
-    assert!(rt; invalid(&clock) == [1, 0]);
+    assert!(rt; reports(&clock, 1, 0));
     make(
         &rt,
         &mut clock,
         &[Read(1_000, 0xFE5, 0x10), Read(1_000, 0xFFF, 0xB1)],
     );
-    assert!(rt; invalid(&clock) == [1, 0]);
+    assert!(rt; reports(&clock, 1, 0));
     assert!(rt; read_into(&mut clock, 1_000, 0x1003, 123) == 123);
-    assert!(rt; invalid(&clock) == [2, 0]);
+    assert!(rt; reports(&clock, 2, 0));
 }
 
 /// `test_invalid_read_offset`
@@ -365,9 +365,9 @@ fn reads_of_no_register_keep_the_bytes_and_are_reported(rt: HostRuntime) {
 fn a_read_past_the_registers_keeps_any_bytes(rt: HostRuntime) {
     let mut clock = fresh();
     assert!(rt; read_into(&mut clock, 1_000, 0x1003, 123) == 123);
-    assert!(rt; invalid(&clock) == [1, 0]);
+    assert!(rt; reports(&clock, 1, 0));
     assert!(rt; read_into(&mut clock, 1_000, 0x1003, 321) == 321);
-    assert!(rt; invalid(&clock) == [2, 0]);
+    assert!(rt; reports(&clock, 2, 0));
 }
 
 /// `test_invalid_write_offset`
@@ -379,15 +379,15 @@ fn writes_to_no_register_change_nothing_and_are_reported(rt: HostRuntime) {
         &mut clock,
         &[Read(1_000, RTCDR, 1_000), Write(1_000, 0x1003, 123)],
     );
-    assert!(rt; invalid(&clock) == [0, 1]);
+    assert!(rt; reports(&clock, 0, 1));
     make(
         &rt,
         &mut clock,
         &[Read(1_000, RTCDR, 1_000), Write(1_000, 0x009, 123)],
     );
-    assert!(rt; invalid(&clock) == [0, 2]);
+    assert!(rt; reports(&clock, 0, 2));
     make(&rt, &mut clock, &[Read(1_000, RTCDR, 1_000)]);
-    assert!(rt; invalid(&clock) == [0, 2]);
+    assert!(rt; reports(&clock, 0, 2));
     assert!(rt; clock.state() == RtcState::default());
 }
 
@@ -408,16 +408,16 @@ fn a_restored_clock_has_the_state_and_its_own_events_object(rt: HostRuntime) {
         &mut clock,
         &[Read(1_000, RTCLR, 1_100), Write(1_000, 0x1003, 123)],
     );
-    assert!(rt; invalid(&clock) == [0, 1]);
+    assert!(rt; reports(&clock, 0, 1));
     let mut restored = Rtc::from_state(&state, Counts::new());
     assert!(rt; restored.state() == state && state.lr == 1_100);
     make(&rt, &mut clock, &[Read(1_002, RTCDR, 1_102)]);
     make(&rt, &mut restored, &[Read(1_000, RTCLR, 1_100)]);
-    assert!(rt; invalid(&restored) == [0, 0]);
+    assert!(rt; reports(&restored, 0, 0));
     make(&rt, &mut restored, &[Write(1_000, 0x1003, 123)]);
-    assert!(rt; invalid(&restored) == [0, 1]);
+    assert!(rt; reports(&restored, 0, 1));
     let again = Rtc::from_state(&restored.state(), *restored.events());
-    assert!(rt; invalid(&again) == [0, 1]);
+    assert!(rt; reports(&again, 0, 1));
 }
 
 // ---- the alarm
@@ -469,7 +469,7 @@ fn an_invalid_access_fires_an_alarm(rt: HostRuntime) {
     let mut clock = fresh();
     make(&rt, &mut clock, &[Write(100, RTCMR, 200)]);
     assert!(rt; read_into(&mut clock, 200, 0x020, 123) == 123);
-    assert!(rt; invalid(&clock) == [1, 0]);
+    assert!(rt; reports(&clock, 1, 0));
     make(&rt, &mut clock, &[Read(150, RTCRIS, 1)]);
 }
 
@@ -545,7 +545,7 @@ fn a_value_is_read_and_written_like_its_bytes(rt: HostRuntime) {
     assert!(rt; clock.read_value(0x000, 7) == Some(1_002));
     assert!(rt; !clock.write_value(0x000, 1, 7));
     assert!(rt; clock.read_value(0x01C, 7).is_none());
-    assert!(rt; invalid(&clock) == [1, 1]);
+    assert!(rt; reports(&clock, 1, 1));
 }
 
 #[test]

@@ -4,7 +4,7 @@
 use std::alloc::{AllocError, Global};
 use std::fmt::Debug;
 use std::io;
-use std::test::Fail;
+use std::process::Abort;
 use superio_script::{Counts, Line, LineRefused};
 use vm_superio::rtc_pl031::RtcEvents;
 use vm_superio::run::{Act, Asked, Call, Done, Reply, Sent, run};
@@ -119,24 +119,59 @@ fn records_of<T: Trigger + Drop, EV: SerialEvents + Drop, W: io::Write + Drop>(
     run(alloc, serial, calls)
 }
 
-#[test]
-fn a_port_is_made_used_remade_and_taken_apart(rt: HostRuntime) -> Result<(), Fail> {
-    let alloc = rt.alloc();
+type FirstPort = Serial<Line, serial::NoEvents, Vec<u8>>;
+
+type Port = Serial<Line, Counts, Vec<u8>>;
+
+/// A fresh port without an events object.
+fn first_port(rt: &impl Abort, alloc: Global) -> FirstPort {
     let made = made(alloc, Line::new(0), Vec::new(alloc));
-    let mut first = made.map_err(error_of_refused)?;
+    made.map_err(error_of_refused).ok().expect(rt, "a port")
+}
+
+/// A port of another one's state, over its writer.
+fn remade(rt: &impl Abort, alloc: Global, first: FirstPort) -> Port {
+    let state = state_of(&first, alloc).ok().expect(rt, "a state");
+    let made = made_from_state(alloc, &state, Line::new(0), Counts::new(), writer_of(first));
+    made.map_err(error_of_refused).ok().expect(rt, "a port")
+}
+
+/// How many records a run of two reads has, of SCR and of the byte that is held.
+fn records_of_reads(rt: &impl Abort, alloc: Global, port: &mut Port) -> usize {
+    let calls = vec![in alloc; Call::Read(7), Call::Read(0)]
+        .ok()
+        .expect(rt, "calls");
+    records_of(alloc, port, calls)
+        .ok()
+        .expect(rt, "records")
+        .len()
+}
+
+/// Whether a port's objects were told of one byte read, and of nothing else.
+fn has_one_read(port: &Port) -> bool {
+    let (line, counts, out) = objects_of(port);
+    line.calls() == 0 && counts.buffer_read_count() == 1 && out.is_empty()
+}
+
+/// Whether a port's writer, if it is lent, takes a byte that the port then has.
+fn lends_its_writer(port: &mut Port) -> bool {
+    lent_writer(port).push(b'x').is_ok() && port.writer().as_slice() == b"x".as_slice()
+}
+
+#[test]
+fn a_port_is_made_used_remade_and_taken_apart(rt: HostRuntime) {
+    let mut first = first_port(&rt, rt.alloc());
     assert!(rt; write_at(&mut first, 7, 0x12).is_ok() && read_at(&mut first, 7) == 0x12);
     assert!(rt; enqueue(&mut first, b"a").ok() == Some(1) && room_in(&first) == 63);
-    let state = state_of(&first, alloc)?;
-    let made = made_from_state(alloc, &state, Line::new(0), Counts::new(), writer_of(first));
-    let mut second = made.map_err(error_of_refused)?;
-    let calls = vec![in alloc; Call::Read(7), Call::Read(0)]?;
-    assert!(rt; records_of(alloc, &mut second, calls)?.len() == 2);
-    let (line, counts, out) = objects_of(&second);
-    assert!(rt; line.calls() == 0 && counts.buffer_read_count() == 1 && out.is_empty());
-    lent_writer(&mut second).push(b'x')?;
-    assert!(rt; second.writer().as_slice() == b"x".as_slice());
-    assert!(rt; made_with_events(alloc, Line::new(0), Counts::new(), Vec::new(alloc)).is_ok());
-    Ok(())
+    let mut second = remade(&rt, rt.alloc(), first);
+    assert!(rt; records_of_reads(&rt, rt.alloc(), &mut second) == 2);
+    assert!(rt; has_one_read(&second) && lends_its_writer(&mut second));
+}
+
+/// A fresh port with an events object.
+fn port_with_events(rt: &impl Abort, alloc: Global) -> Port {
+    let made = made_with_events(alloc, Line::new(0), Counts::new(), Vec::new(alloc));
+    made.map_err(error_of_refused).ok().expect(rt, "a port")
 }
 
 // ---- the cases and fields of a run
@@ -197,29 +232,63 @@ fn calls(alloc: Global) -> Result<Vec<Call<Line, Counts, Vec<u8>>>, AllocError> 
     ]?)
 }
 
-#[test]
-fn a_record_has_the_act_of_its_call(rt: HostRuntime) -> Result<(), Fail> {
-    let alloc = rt.alloc();
-    let made = made_with_events(alloc, Line::new(0), Counts::new(), Vec::new(alloc));
-    let mut serial = made.map_err(error_of_refused)?;
-    let done = records_of(alloc, &mut serial, calls(alloc)?)?;
-    assert!(rt; done.len() == 7);
-    for (record, call) in done.into_iter().zip(calls(alloc)?) {
-        let Done {
-            act,
-            asked,
-            sent,
-            reply,
-        } = record;
-        assert!(rt; act == act_of(call) && is_reply_to(&reply, &act));
-        assert!(rt; calls_of(asked) == u8::from(matches!(act, Act::Enqueue(_))));
-        assert!(rt; bytes_out(sent) == u8::from(act == Act::Write(0, b'x')));
-        if let Reply::Restored(old) = &reply {
-            let state = state_of(old, alloc)?;
-            assert!(rt; state.in_buffer.as_slice() == b"a".as_slice());
-        }
+/// Whether a reply hands out no old port, or one that holds the byte.
+fn has_old_port(alloc: Global, reply: &Reply<Line, Counts, Vec<u8>>) -> bool {
+    match reply {
+        Reply::Restored(old) => holds_the_byte(alloc, old),
+        _ => true,
     }
-    Ok(())
+}
+
+/// Whether a port holds the byte that arrived.
+fn holds_the_byte(alloc: Global, port: &Port) -> bool {
+    match state_of(port, alloc) {
+        Ok(state) => state.in_buffer.as_slice() == b"a".as_slice(),
+        Err(_) => false,
+    }
+}
+
+/// Whether an act asked for so many interrupts and sent so many bytes as it does among those calls.
+fn asks_and_sends(act: &Act, asked: Asked, sent: Sent) -> bool {
+    calls_of(asked) == u8::from(matches!(act, Act::Enqueue(_)))
+        && bytes_out(sent) == u8::from(*act == Act::Write(0, b'x'))
+}
+
+/// Whether this is the record of this call.
+fn is_record_of(
+    alloc: Global,
+    record: Done<Line, Counts, Vec<u8>>,
+    call: Call<Line, Counts, Vec<u8>>,
+) -> bool {
+    let Done {
+        act,
+        asked,
+        sent,
+        reply,
+    } = record;
+    is_reply_to(&reply, &act)
+        && asks_and_sends(&act, asked, sent)
+        && has_old_port(alloc, &reply)
+        && act == act_of(call)
+}
+
+/// The records of those calls, by a fresh port.
+fn done(rt: &impl Abort, alloc: Global) -> Vec<Done<Line, Counts, Vec<u8>>> {
+    let mut port = port_with_events(rt, alloc);
+    let calls = calls(alloc).ok().expect(rt, "calls");
+    records_of(alloc, &mut port, calls)
+        .ok()
+        .expect(rt, "records")
+}
+
+#[test]
+fn a_record_has_the_act_of_its_call(rt: HostRuntime) {
+    let done = done(&rt, rt.alloc());
+    assert!(rt; done.len() == 7);
+    let calls = calls(rt.alloc()).ok().expect(&rt, "calls");
+    for (record, call) in done.into_iter().zip(calls) {
+        assert!(rt; is_record_of(rt.alloc(), record, call));
+    }
 }
 
 // ---- errors and states
@@ -244,16 +313,16 @@ fn an_error_has_four_cases(rt: HostRuntime) {
 }
 
 /// Whether a value equals itself and prints some text for a programmer.
-fn is_compared_and_printed<V: Debug + Eq>(alloc: Global, value: &V) -> Result<bool, AllocError> {
-    let text = format!(in alloc; "{value:?}")?;
-    Ok(*value == *value && !text.is_empty())
+fn is_compared_and_printed<V: Debug + Eq>(alloc: Global, value: &V) -> bool {
+    match format!(in alloc; "{value:?}") {
+        Ok(text) => *value == *value && !text.is_empty(),
+        Err(_) => false,
+    }
 }
 
-#[test]
-fn states_and_parts_of_records_are_compared_and_printed(rt: HostRuntime) -> Result<(), Fail> {
-    let alloc = rt.alloc();
-    // The fields of a state, in their order.
-    let state = SerialState {
+/// The fields of a state, in their order.
+fn state(alloc: Global) -> SerialState {
+    SerialState {
         baud_divisor_low: 0x0C,
         baud_divisor_high: 0x00,
         interrupt_enable: 0x00,
@@ -264,10 +333,23 @@ fn states_and_parts_of_records_are_compared_and_printed(rt: HostRuntime) -> Resu
         modem_status: 0xB0,
         scratch: 0x00,
         in_buffer: Vec::new(alloc),
-    };
-    assert!(rt; state == SerialState::default(alloc) && state == state.clone(alloc)?);
-    assert!(rt; is_compared_and_printed(alloc, &state)?);
-    let state = RtcState {
+    }
+}
+
+/// Whether a state is the default one, and is copied.
+fn is_default(alloc: Global, state: &SerialState) -> bool {
+    match state.clone(alloc) {
+        Ok(copy) => *state == SerialState::default(alloc) && *state == copy,
+        Err(_) => false,
+    }
+}
+
+#[test]
+fn states_and_parts_of_records_are_compared_and_printed(rt: HostRuntime) {
+    let alloc = rt.alloc();
+    let state = state(alloc);
+    assert!(rt; is_default(alloc, &state) && is_compared_and_printed(alloc, &state));
+    let clock = RtcState {
         lr: 0,
         offset: 0,
         mr: 0,
@@ -275,12 +357,11 @@ fn states_and_parts_of_records_are_compared_and_printed(rt: HostRuntime) -> Resu
         ris: 0,
         armed: false,
     };
-    assert!(rt; state == RtcState::default() && state == RtcState::from_five(0, 0, 0, 0, 0));
-    assert!(rt; is_compared_and_printed(alloc, &state)?);
-    assert!(rt; is_compared_and_printed(alloc, &Act::Restore)?);
-    assert!(rt; is_compared_and_printed(alloc, &Asked::Took)?);
-    assert!(rt; is_compared_and_printed(alloc, &Sent::Out)?);
-    Ok(())
+    assert!(rt; clock == RtcState::default() && clock == RtcState::from_five(0, 0, 0, 0, 0));
+    assert!(rt; is_compared_and_printed(alloc, &clock));
+    assert!(rt; is_compared_and_printed(alloc, &Act::Restore));
+    assert!(rt; is_compared_and_printed(alloc, &Asked::Took));
+    assert!(rt; is_compared_and_printed(alloc, &Sent::Out));
 }
 
 // ---- the clock

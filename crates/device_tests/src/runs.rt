@@ -3,13 +3,14 @@
 use crate::runs::Plain::{CharacterTimeout, Enqueue, Read, Restore, Write};
 use crate::runs::Row::{Asks, Quiet, Sends};
 use crate::runs::Shown::{Byte, Enqueued, NotRestored, Restored, TimedOut, Wrote};
-use crate::serial_objects::{Fields, IER, IIR, LSR, Narrow, RBR, THR, TestSerial, fresh, restored};
+use crate::serial_objects::{
+    Fields, IER, IIR, LSR, Narrow, RBR, THR, TestSerial, is_fresh, made, remade, state_with,
+};
 use std::alloc::{AllocError, Global};
 use std::io;
 use std::io::ErrorKind;
-use std::test::Fail;
+use std::process::Abort;
 use superio_script::{Counts, Line, LineRefused};
-use vm_superio::SerialState;
 use vm_superio::run::{Act, Asked, Call, Done, Reply, Sent, run};
 use vm_superio::serial::Error;
 
@@ -159,8 +160,52 @@ fn first_wrong<W: io::Write>(done: &[Done<Line, Counts, W>], rows: &[Row]) -> Op
     None
 }
 
+/// Runs the calls of these rows, and asserts that each record shows what it has to, that there is no other, and how
+/// often the trigger was called by then.
+fn recorded<W: io::Write + Drop>(
+    rt: &impl Abort,
+    alloc: Global,
+    port: &mut TestSerial<W>,
+    rows: &[Row],
+    spare: Option<W>,
+    calls: u64,
+) -> Vec<Done<Line, Counts, W>> {
+    let done = records(alloc, port, rows, spare).ok().expect(rt, "records");
+    assert_eq!(rt; first_wrong(&done, rows), None);
+    assert!(rt; done.len() == rows.len() && port.interrupt_evt().calls() == calls);
+    done
+}
+
+/// The same, without the records.
+fn run_shows<W: io::Write + Drop>(
+    rt: &impl Abort,
+    alloc: Global,
+    port: &mut TestSerial<W>,
+    rows: &[Row],
+    spare: Option<W>,
+    calls: u64,
+) {
+    drop(recorded(rt, alloc, port, rows, spare, calls));
+}
+
+/// A record of a port over a [`Narrow`] writer.
+type NarrowDone = Done<Line, Counts, Narrow>;
+
 /// Whether a restore replaced a port that holds these bytes, has sent none, and has called its trigger so often.
-fn replaced(alloc: Global, reply: &Reply<Line, Counts, Narrow>, held: &[u8], calls: u64) -> bool {
+fn replaced(alloc: Global, record: Option<&NarrowDone>, held: &[u8], calls: u64) -> bool {
+    match record {
+        Some(record) => is_replaced(alloc, &record.reply, held, calls),
+        None => false,
+    }
+}
+
+/// Whether this is the reply of such a restore.
+fn is_replaced(
+    alloc: Global,
+    reply: &Reply<Line, Counts, Narrow>,
+    held: &[u8],
+    calls: u64,
+) -> bool {
     match reply {
         Reply::Restored(old) => match old.state(alloc) {
             Ok(state) => {
@@ -175,7 +220,15 @@ fn replaced(alloc: Global, reply: &Reply<Line, Counts, Narrow>, held: &[u8], cal
 }
 
 /// Whether a restore handed back a line of this mask that was called so often, and a writer with this room.
-fn handed_back(reply: &Reply<Line, Counts, Narrow>, mask: u64, calls: u64, room: usize) -> bool {
+fn handed_back(record: Option<&NarrowDone>, mask: u64, calls: u64, room: usize) -> bool {
+    match record {
+        Some(record) => is_handed_back(&record.reply, mask, calls, room),
+        None => false,
+    }
+}
+
+/// Whether this is the reply of such a restore.
+fn is_handed_back(reply: &Reply<Line, Counts, Narrow>, mask: u64, calls: u64, room: usize) -> bool {
     match reply {
         Reply::NotRestored(refused) => {
             refused.trigger.mask() == mask
@@ -186,83 +239,97 @@ fn handed_back(reply: &Reply<Line, Counts, Narrow>, mask: u64, calls: u64, room:
     }
 }
 
+/// How many records a run of no calls has. `None` if memory was refused.
+fn records_of_none<W: io::Write + Drop>(alloc: Global, port: &mut TestSerial<W>) -> Option<usize> {
+    match run(alloc, port, Vec::new(alloc)) {
+        Ok(done) => Some(done.len()),
+        Err(_) => None,
+    }
+}
+
 // ---- tests
 
 #[test]
-fn a_run_of_no_calls_changes_nothing(rt: HostRuntime) -> Result<(), Fail> {
-    let alloc = rt.alloc();
-    let mut port = fresh(alloc, 0, Vec::new(alloc))?;
-    assert!(rt; run(alloc, &mut port, Vec::new(alloc))?.is_empty());
-    assert!(rt; port.state(alloc)? == SerialState::default(alloc));
+fn a_run_of_no_calls_changes_nothing(rt: HostRuntime) {
+    let mut port = made(&rt, rt.alloc(), 0, Vec::new(rt.alloc()));
+    assert!(rt; records_of_none(rt.alloc(), &mut port) == Some(0));
+    assert!(rt; is_fresh(rt.alloc(), &port));
     assert!(rt; port.interrupt_evt().calls() == 0 && port.writer().is_empty());
-    Ok(())
 }
 
 #[test]
-fn a_run_records_each_read_write_and_enqueue(rt: HostRuntime) -> Result<(), Fail> {
-    let alloc = rt.alloc();
-    let mut port = fresh(alloc, 0, Vec::new(alloc))?;
-    let rows = [
-        Asks(Asked::Took, Write(IER, 0x03), Wrote(Ok(()))),
-        Sends(Sent::Out, Write(THR, 0x41), Wrote(Ok(()))),
-        Asks(Asked::Took, Enqueue(&[0x61, 0x62]), Enqueued(Ok(2))),
-        Quiet(Read(IIR), Byte(0xC6)),
-        Quiet(Read(RBR), Byte(0x61)),
-        Quiet(Read(LSR), Byte(0x61)),
-        Quiet(Read(IIR), Byte(0xC1)),
-    ];
-    let done = records(alloc, &mut port, &rows, None)?;
-    assert_eq!(rt; first_wrong(&done, &rows), None);
-    assert!(rt; done.len() == 7 && port.interrupt_evt().calls() == 2);
+fn a_run_records_each_read_write_and_enqueue(rt: HostRuntime) {
+    let mut port = made(&rt, rt.alloc(), 0, Vec::new(rt.alloc()));
+    run_shows(
+        &rt,
+        rt.alloc(),
+        &mut port,
+        &[
+            Asks(Asked::Took, Write(IER, 0x03), Wrote(Ok(()))),
+            Sends(Sent::Out, Write(THR, 0x41), Wrote(Ok(()))),
+            Asks(Asked::Took, Enqueue(&[0x61, 0x62]), Enqueued(Ok(2))),
+            Quiet(Read(IIR), Byte(0xC6)),
+            Quiet(Read(RBR), Byte(0x61)),
+            Quiet(Read(LSR), Byte(0x61)),
+            Quiet(Read(IIR), Byte(0xC1)),
+        ],
+        None,
+        2,
+    );
     assert!(rt; port.writer().as_slice() == [0x41].as_slice());
-    Ok(())
 }
 
 #[test]
-fn a_lost_byte_and_a_restore_change_no_read(rt: HostRuntime) -> Result<(), Fail> {
-    let alloc = rt.alloc();
-    let mut port = fresh(alloc, 0, Narrow::with_room(0))?;
-    let lost = Wrote(Err(Cause::Lost(ErrorKind::WriteZero)));
-    let rows = [
-        Asks(Asked::Took, Write(IER, 0x03), Wrote(Ok(()))),
-        Sends(Sent::Lost, Write(THR, 0x41), lost),
-        Asks(Asked::Took, Enqueue(&[0x61, 0x62]), Enqueued(Ok(2))),
-        Quiet(Restore(0), Restored),
-        Quiet(Read(IIR), Byte(0xC6)),
-        Quiet(Read(RBR), Byte(0x61)),
-        Quiet(Read(LSR), Byte(0x61)),
-        Quiet(Read(IIR), Byte(0xC1)),
-    ];
-    let done = records(alloc, &mut port, &rows, Some(Narrow::with_room(0)))?;
-    assert_eq!(rt; first_wrong(&done, &rows), None);
-    assert!(rt; done.len() == 8 && port.interrupt_evt().calls() == 2);
-    Ok(())
+fn a_lost_byte_and_a_restore_change_no_read(rt: HostRuntime) {
+    let mut port = made(&rt, rt.alloc(), 0, Narrow::with_room(0));
+    run_shows(
+        &rt,
+        rt.alloc(),
+        &mut port,
+        &[
+            Asks(Asked::Took, Write(IER, 0x03), Wrote(Ok(()))),
+            Sends(
+                Sent::Lost,
+                Write(THR, 0x41),
+                Wrote(Err(Cause::Lost(ErrorKind::WriteZero))),
+            ),
+            Asks(Asked::Took, Enqueue(&[0x61, 0x62]), Enqueued(Ok(2))),
+            Quiet(Restore(0), Restored),
+            Quiet(Read(IIR), Byte(0xC6)),
+            Quiet(Read(RBR), Byte(0x61)),
+            Quiet(Read(LSR), Byte(0x61)),
+            Quiet(Read(IIR), Byte(0xC1)),
+        ],
+        Some(Narrow::with_room(0)),
+        2,
+    );
 }
 
 #[test]
-fn a_restore_in_a_run_hands_out_the_old_port(rt: HostRuntime) -> Result<(), Fail> {
-    let alloc = rt.alloc();
-    let mut port = fresh(alloc, 0, Narrow::with_room(0))?;
-    let rows = [
-        Quiet(Write(IER, 0x01), Wrote(Ok(()))),
-        Asks(Asked::Took, Enqueue(&[0x61]), Enqueued(Ok(1))),
-        Quiet(Read(IIR), Byte(0xC4)),
-        Quiet(Restore(0), Restored),
-        Quiet(Read(RBR), Byte(0x61)),
-        Quiet(Read(LSR), Byte(0x60)),
-    ];
-    let done = records(alloc, &mut port, &rows, Some(Narrow::with_room(1)))?;
-    assert_eq!(rt; first_wrong(&done, &rows), None);
+fn a_restore_in_a_run_hands_out_the_old_port(rt: HostRuntime) {
+    let mut port = made(&rt, rt.alloc(), 0, Narrow::with_room(0));
     // The new port has the new objects.
-    assert!(rt; done.len() == 6 && port.interrupt_evt().calls() == 0);
+    let done = recorded(
+        &rt,
+        rt.alloc(),
+        &mut port,
+        &[
+            Quiet(Write(IER, 0x01), Wrote(Ok(()))),
+            Asks(Asked::Took, Enqueue(&[0x61]), Enqueued(Ok(1))),
+            Quiet(Read(IIR), Byte(0xC4)),
+            Quiet(Restore(0), Restored),
+            Quiet(Read(RBR), Byte(0x61)),
+            Quiet(Read(LSR), Byte(0x60)),
+        ],
+        Some(Narrow::with_room(1)),
+        0,
+    );
     assert!(rt; port.write(THR, 0x41).is_ok());
-    assert!(rt; replaced(alloc, &done[3].reply, &[0x61], 1));
-    Ok(())
+    assert!(rt; replaced(rt.alloc(), done.get(3), &[0x61], 1));
 }
 
 #[test]
-fn a_refused_restore_in_a_run_leaves_the_port(rt: HostRuntime) -> Result<(), Fail> {
-    let alloc = rt.alloc();
+fn a_refused_restore_in_a_run_leaves_the_port(rt: HostRuntime) {
     // Both conditions are pending and enabled.
     let fields = Fields {
         iir: 0x06,
@@ -270,44 +337,52 @@ fn a_refused_restore_in_a_run_leaves_the_port(rt: HostRuntime) -> Result<(), Fai
         lsr: 0x61,
         held: &[0x61],
     };
-    let mut port = restored(alloc, &fields.state(alloc)?, 0, Narrow::with_room(0))?;
-    let rows = [
-        Quiet(Restore(0b10), NotRestored(Cause::Refused)),
-        Quiet(Read(IIR), Byte(0xC6)),
-    ];
-    let done = records(alloc, &mut port, &rows, Some(Narrow::with_room(1)))?;
-    assert_eq!(rt; first_wrong(&done, &rows), None);
-    assert!(rt; done.len() == 2 && port.interrupt_evt().calls() == 2);
+    let state = state_with(&rt, rt.alloc(), fields);
+    let mut port = remade(&rt, rt.alloc(), &state, 0, Narrow::with_room(0));
+    let done = recorded(
+        &rt,
+        rt.alloc(),
+        &mut port,
+        &[
+            Quiet(Restore(0b10), NotRestored(Cause::Refused)),
+            Quiet(Read(IIR), Byte(0xC6)),
+        ],
+        Some(Narrow::with_room(1)),
+        2,
+    );
     // The port has its own objects, and the reply the new ones.
     assert!(rt; port.write(THR, 0x41).is_err());
-    assert!(rt; handed_back(&done[0].reply, 0b10, 2, 1));
-    Ok(())
+    assert!(rt; handed_back(done.first(), 0b10, 2, 1));
 }
 
 #[test]
-fn a_run_records_what_the_trigger_answered(rt: HostRuntime) -> Result<(), Fail> {
-    let alloc = rt.alloc();
+fn a_run_records_what_the_trigger_answered(rt: HostRuntime) {
     // The line refuses THRE once, and then RDA.
-    let mut port = fresh(alloc, 0b11000, Narrow::with_room(0))?;
-    let refused = Wrote(Err(Cause::Refused));
-    let rows = [
-        Quiet(Enqueue(&[0x61]), Enqueued(Ok(1))),
-        Asks(Asked::TookTook, Write(IER, 0x03), Wrote(Ok(()))),
-        Quiet(Read(IIR), Byte(0xC6)),
-        Asks(Asked::TookRefused, Write(IER, 0x03), refused),
-        Quiet(Read(IIR), Byte(0xC6)),
-        Asks(Asked::Refused, Write(IER, 0x03), refused),
-        Quiet(Read(IIR), Byte(0xC4)),
-    ];
-    let done = records(alloc, &mut port, &rows, None)?;
-    assert_eq!(rt; first_wrong(&done, &rows), None);
-    assert!(rt; done.len() == 7 && port.interrupt_evt().calls() == 5);
-    Ok(())
+    let mut port = made(&rt, rt.alloc(), 0b11000, Narrow::with_room(0));
+    run_shows(
+        &rt,
+        rt.alloc(),
+        &mut port,
+        &[
+            Quiet(Enqueue(&[0x61]), Enqueued(Ok(1))),
+            Asks(Asked::TookTook, Write(IER, 0x03), Wrote(Ok(()))),
+            Quiet(Read(IIR), Byte(0xC6)),
+            Asks(
+                Asked::TookRefused,
+                Write(IER, 0x03),
+                Wrote(Err(Cause::Refused)),
+            ),
+            Quiet(Read(IIR), Byte(0xC6)),
+            Asks(Asked::Refused, Write(IER, 0x03), Wrote(Err(Cause::Refused))),
+            Quiet(Read(IIR), Byte(0xC4)),
+        ],
+        None,
+        5,
+    );
 }
 
 #[test]
-fn a_run_records_character_timeouts(rt: HostRuntime) -> Result<(), Fail> {
-    let alloc = rt.alloc();
+fn a_run_records_character_timeouts(rt: HostRuntime) {
     // A byte is held for which the trigger was not called.
     let fields = Fields {
         iir: 0x01,
@@ -315,21 +390,25 @@ fn a_run_records_character_timeouts(rt: HostRuntime) -> Result<(), Fail> {
         lsr: 0x61,
         held: &[0x61],
     };
-    let mut port = restored(alloc, &fields.state(alloc)?, 0b10, Narrow::with_room(0))?;
-    let rows = [
-        Asks(Asked::Took, CharacterTimeout, TimedOut(Ok(()))),
-        // RDA is pending already.
-        Quiet(CharacterTimeout, TimedOut(Ok(()))),
-        Quiet(Read(IIR), Byte(0xC4)),
-        Asks(
-            Asked::Refused,
-            CharacterTimeout,
-            TimedOut(Err(Cause::Refused)),
-        ),
-        Quiet(Read(IIR), Byte(0xC4)),
-    ];
-    let done = records(alloc, &mut port, &rows, None)?;
-    assert_eq!(rt; first_wrong(&done, &rows), None);
-    assert!(rt; done.len() == 5 && port.interrupt_evt().calls() == 2);
-    Ok(())
+    let state = state_with(&rt, rt.alloc(), fields);
+    let mut port = remade(&rt, rt.alloc(), &state, 0b10, Narrow::with_room(0));
+    run_shows(
+        &rt,
+        rt.alloc(),
+        &mut port,
+        &[
+            Asks(Asked::Took, CharacterTimeout, TimedOut(Ok(()))),
+            // RDA is pending already.
+            Quiet(CharacterTimeout, TimedOut(Ok(()))),
+            Quiet(Read(IIR), Byte(0xC4)),
+            Asks(
+                Asked::Refused,
+                CharacterTimeout,
+                TimedOut(Err(Cause::Refused)),
+            ),
+            Quiet(Read(IIR), Byte(0xC4)),
+        ],
+        None,
+        2,
+    );
 }

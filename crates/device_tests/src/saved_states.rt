@@ -1,8 +1,8 @@
 // SPDX-License-Identifier: Apache-2.0 OR BSD-3-Clause
 //! Saved states go there and back, and each reason why bytes are refused. What the bytes are is in
 //! `tests/data/further/saved_states.txt`.
-use crate::serial_objects::{Fields, IER, SCR, fresh};
-use std::test::Fail;
+use crate::serial_objects::{Fields, IER, SCR, made, state_of, state_with};
+use std::alloc::Global;
 use vm_superio::saved::{LoadError, SavedStateError};
 use vm_superio::{RtcState, SerialState};
 
@@ -29,100 +29,127 @@ fn clock() -> RtcState {
     }
 }
 
+/// Whether a port's state is read back from its bytes.
+fn is_read_back(alloc: Global, state: &SerialState) -> bool {
+    match state.to_bytes() {
+        Ok(saved) => is_read(alloc, saved.as_bytes(), state),
+        Err(_) => false,
+    }
+}
+
+/// Whether this state is read from these bytes.
+fn is_read(alloc: Global, bytes: &[u8], state: &SerialState) -> bool {
+    match SerialState::from_bytes(alloc, bytes) {
+        Ok(read) => read == *state,
+        Err(_) => false,
+    }
+}
+
 #[test]
-fn a_port_is_saved_and_read_back(rt: HostRuntime) -> Result<(), Fail> {
-    let alloc = rt.alloc();
-    let mut port = fresh(alloc, 0, Vec::new(alloc))?;
-    port.write(IER, 0x01)?;
-    port.write(SCR, 0x5A)?;
+fn a_port_is_saved_and_read_back(rt: HostRuntime) {
+    let mut port = made(&rt, rt.alloc(), 0, Vec::new(rt.alloc()));
+    assert!(rt; port.write(IER, 0x01).is_ok() && port.write(SCR, 0x5A).is_ok());
     assert!(rt; port.enqueue_raw_bytes(b"ab").is_ok());
-    let state = port.state(alloc)?;
-    let saved = state.to_bytes()?;
-    assert!(rt; SerialState::from_bytes(alloc, saved.as_bytes())? == state);
-    Ok(())
+    let state = state_of(&rt, rt.alloc(), &port);
+    assert!(rt; is_read_back(rt.alloc(), &state));
 }
 
 #[test]
-fn a_clock_is_saved_and_read_back(rt: HostRuntime) -> Result<(), Fail> {
-    let saved = clock().to_bytes();
-    assert!(rt; RtcState::from_bytes(&saved)? == clock());
-    Ok(())
+fn a_clock_is_saved_and_read_back(rt: HostRuntime) {
+    assert!(rt; RtcState::from_bytes(&clock().to_bytes()) == Ok(clock()));
 }
 
 #[test]
-fn a_port_of_sixty_five_bytes_has_no_form(rt: HostRuntime) -> Result<(), Fail> {
+fn a_port_of_sixty_five_bytes_has_no_form(rt: HostRuntime) {
     let fields = Fields {
         iir: 0x01,
         ier: 0x00,
         lsr: 0x61,
         held: &[0x01; 65],
     };
-    let state = fields.state(rt.alloc())?;
+    let state = state_with(&rt, rt.alloc(), fields);
     assert!(rt; matches!(state.to_bytes(), Err(SavedStateError::TooManyBytes)));
-    Ok(())
+}
+
+/// The bytes of a saved clock, with these bytes at these places.
+fn clock_with(changes: &[(usize, u8)]) -> [u8; 33] {
+    let mut saved = clock().to_bytes();
+    for (place, byte) in changes {
+        if let Some(old) = saved.get_mut(*place) {
+            *old = *byte;
+        }
+    }
+    saved
+}
+
+/// The fault for which a port's state is not read from these bytes.
+fn fault_of_port(alloc: Global, bytes: &[u8]) -> Option<LoadError> {
+    SerialState::from_bytes(alloc, bytes).err()
+}
+
+/// The header of a port with these bytes at these places, and 74 bytes 0: nine registers and 65 received bytes.
+fn of_65_bytes() -> [u8; 82] {
+    let mut saved = [0; 82];
+    saved[..8].copy_from_slice(&clock_with(&[(KIND, PORT), (LENGTH, 74)])[..8]);
+    saved
 }
 
 #[test]
 fn bytes_of_no_port_are_refused_for_the_first_reason(rt: HostRuntime) {
-    let saved_clock = clock().to_bytes();
-    // As those of a port, these are nine registers and 16 received bytes.
-    let mut port = saved_clock;
-    port[KIND] = PORT;
-    let mut no_letter = saved_clock;
-    no_letter[LETTER] = b's';
-    no_letter[VERSION] = UNKNOWN;
-    let mut other_device = saved_clock;
-    other_device[VERSION] = UNKNOWN;
-    let mut other_version = port;
-    other_version[VERSION] = UNKNOWN;
-    other_version[LENGTH] = 0;
-    let mut of_eight_registers = port;
-    of_eight_registers[LENGTH] = 8;
-    let mut of_65_bytes = [0; 82];
-    of_65_bytes[..8].copy_from_slice(&port[..8]);
-    of_65_bytes[LENGTH] = 74;
-    let rows: [(&[u8], SavedStateError); 8] = [
-        (&port[..7], SavedStateError::TooShort),
-        (&no_letter, SavedStateError::NotASavedState),
-        (&other_device, SavedStateError::OtherDevice),
-        (&other_version, SavedStateError::UnknownVersion(UNKNOWN)),
-        (&port[..32], SavedStateError::WrongLength),
-        (&of_eight_registers[..16], SavedStateError::WrongLength),
-        (&saved_clock, SavedStateError::OtherDevice),
-        (&of_65_bytes, SavedStateError::TooManyBytes),
+    // Changes of a saved clock, and how many of its bytes are read. As those of a port, these are nine registers and 16
+    // received bytes.
+    let rows: [(&[(usize, u8)], usize, SavedStateError); 7] = [
+        (&[(KIND, PORT)], 7, SavedStateError::TooShort),
+        (
+            &[(LETTER, b's'), (VERSION, UNKNOWN)],
+            33,
+            SavedStateError::NotASavedState,
+        ),
+        (&[(VERSION, UNKNOWN)], 33, SavedStateError::OtherDevice),
+        (
+            &[(KIND, PORT), (VERSION, UNKNOWN), (LENGTH, 0)],
+            33,
+            SavedStateError::UnknownVersion(UNKNOWN),
+        ),
+        (&[(KIND, PORT)], 32, SavedStateError::WrongLength),
+        (
+            &[(KIND, PORT), (LENGTH, 8)],
+            16,
+            SavedStateError::WrongLength,
+        ),
+        (&[], 33, SavedStateError::OtherDevice),
     ];
-    for (bytes, fault) in rows {
-        let read = SerialState::from_bytes(rt.alloc(), bytes);
-        assert!(rt; read.err() == Some(LoadError::Invalid(fault)), "{fault:?}");
+    for (changes, length, fault) in rows {
+        let read = fault_of_port(rt.alloc(), &clock_with(changes)[..length.min(33)]);
+        assert!(rt; read == Some(LoadError::Invalid(fault)), "{fault:?}");
     }
+    let read = fault_of_port(rt.alloc(), &of_65_bytes());
+    assert!(rt; read == Some(LoadError::Invalid(SavedStateError::TooManyBytes)));
 }
 
 #[test]
 fn bytes_of_no_clock_are_refused_for_the_first_reason(rt: HostRuntime) {
-    let saved = clock().to_bytes();
-    let mut no_letter = saved;
-    no_letter[LETTER] = b's';
-    no_letter[KIND] = PORT;
-    let mut port = saved;
-    port[KIND] = PORT;
-    let mut other_version = saved;
-    other_version[VERSION] = UNKNOWN;
-    other_version[LENGTH] = 1;
-    // No clock has one byte after the header.
-    let mut of_one_byte = saved;
-    of_one_byte[LENGTH] = 1;
-    let mut armed_by_2 = saved;
-    armed_by_2[saved.len() - 1] = 2;
-    let rows: [(&[u8], SavedStateError); 7] = [
-        (b"", SavedStateError::TooShort),
-        (&no_letter, SavedStateError::NotASavedState),
-        (&port, SavedStateError::OtherDevice),
-        (&other_version, SavedStateError::UnknownVersion(UNKNOWN)),
-        (&saved[..32], SavedStateError::WrongLength),
-        (&of_one_byte[..9], SavedStateError::WrongLength),
-        (&armed_by_2, SavedStateError::InvalidArmed),
+    // Changes of a saved clock, and how many of its bytes are read.
+    let rows: [(&[(usize, u8)], usize, SavedStateError); 7] = [
+        (&[], 0, SavedStateError::TooShort),
+        (
+            &[(LETTER, b's'), (KIND, PORT)],
+            33,
+            SavedStateError::NotASavedState,
+        ),
+        (&[(KIND, PORT)], 33, SavedStateError::OtherDevice),
+        (
+            &[(VERSION, UNKNOWN), (LENGTH, 1)],
+            33,
+            SavedStateError::UnknownVersion(UNKNOWN),
+        ),
+        (&[], 32, SavedStateError::WrongLength),
+        // No clock has one byte after the header.
+        (&[(LENGTH, 1)], 9, SavedStateError::WrongLength),
+        (&[(32, 2)], 33, SavedStateError::InvalidArmed),
     ];
-    for (bytes, fault) in rows {
-        assert_eq!(rt; RtcState::from_bytes(bytes), Err(fault));
+    for (changes, length, fault) in rows {
+        let read = RtcState::from_bytes(&clock_with(changes)[..length.min(33)]);
+        assert_eq!(rt; read, Err(fault));
     }
 }

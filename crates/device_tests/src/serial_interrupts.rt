@@ -5,106 +5,117 @@ use crate::serial_objects::Step::{
     WriteRefused, Written,
 };
 use crate::serial_objects::{
-    IER, IIR, LSR, MCR, Narrow, RBR, THR, TestSerial, first_wrong, fresh, fresh_shows,
-    takes_sixty_four,
+    IER, IIR, LSR, MCR, Narrow, RBR, THR, TestSerial, fresh_shows, made, takes_sixty_four,
 };
-use std::alloc::Global;
-use std::test::Fail;
 
 // ---- received bytes
 
 #[test]
 fn rda_comes_once_for_bytes_that_arrive_together(rt: HostRuntime) {
-    let steps = [
-        Write(IER, 0x01),
-        Enqueue(&[], 0),
-        Calls(0),
-        Read(LSR, 0x60),
-        Enqueue(&[0x61, 0x62, 0x63], 3),
-        Calls(1),
-        Read(LSR, 0x61),
-        Read(RBR, 0x61),
-        Iir(1),
-        Read(LSR, 0x61),
-        Read(RBR, 0x62),
-        Iir(1),
-        Read(LSR, 0x61),
-        Read(RBR, 0x63),
-        Iir(1),
-        Read(LSR, 0x60),
-    ];
-    fresh_shows(&rt, 0, &steps);
+    fresh_shows(
+        &rt,
+        0,
+        &[
+            Write(IER, 0x01),
+            Enqueue(&[], 0),
+            Calls(0),
+            Read(LSR, 0x60),
+            Enqueue(&[0x61, 0x62, 0x63], 3),
+            Calls(1),
+            Read(LSR, 0x61),
+            Read(RBR, 0x61),
+            Iir(1),
+            Read(LSR, 0x61),
+            Read(RBR, 0x62),
+            Iir(1),
+            Read(LSR, 0x61),
+            Read(RBR, 0x63),
+            Iir(1),
+            Read(LSR, 0x60),
+        ],
+    );
 }
 
 #[test]
 fn a_read_of_one_byte_ends_rda_until_the_next_arrives(rt: HostRuntime) {
-    let steps = [
-        Write(IER, 0x01),
-        Enqueue(&[0x61, 0x62], 2),
-        Calls(1),
-        Read(RBR, 0x61),
-        Read(IIR, 0xC1),
-        Enqueue(&[0x63], 1),
-        Calls(2),
-        Read(IIR, 0xC4),
-    ];
-    fresh_shows(&rt, 0, &steps);
+    fresh_shows(
+        &rt,
+        0,
+        &[
+            Write(IER, 0x01),
+            Enqueue(&[0x61, 0x62], 2),
+            Calls(1),
+            Read(RBR, 0x61),
+            Read(IIR, 0xC1),
+            Enqueue(&[0x63], 1),
+            Calls(2),
+            Read(IIR, 0xC4),
+        ],
+    );
 }
 
 #[test]
 fn an_ier_write_raises_rda_again_while_bytes_are_held(rt: HostRuntime) {
-    let steps = [
-        Write(IER, 0x01),
-        Write(IER, 0x00),
-        Enqueue(&[0x61, 0x62, 0x63], 3),
-        Calls(0),
-        Read(LSR, 0x61),
-        Write(IER, 0x01),
-        Calls(1),
-        Read(IIR, 0xC4),
-        Write(IER, 0x01),
-        Calls(2),
-        Read(IIR, 0xC4),
-        Read(RBR, 0x61),
-        Read(RBR, 0x62),
-        Read(RBR, 0x63),
-        Write(IER, 0x01),
-        Calls(2),
-        Iir(1),
-    ];
-    fresh_shows(&rt, 0, &steps);
+    fresh_shows(
+        &rt,
+        0,
+        &[
+            Write(IER, 0x01),
+            Write(IER, 0x00),
+            Enqueue(&[0x61, 0x62, 0x63], 3),
+            Calls(0),
+            Read(LSR, 0x61),
+            Write(IER, 0x01),
+            Calls(1),
+            Read(IIR, 0xC4),
+            Write(IER, 0x01),
+            Calls(2),
+            Read(IIR, 0xC4),
+            Read(RBR, 0x61),
+            Read(RBR, 0x62),
+            Read(RBR, 0x63),
+            Write(IER, 0x01),
+            Calls(2),
+            Iir(1),
+        ],
+    );
 }
 
 #[test]
 fn loopback_bytes_raise_rda_once_until_one_is_read(rt: HostRuntime) {
-    let steps = [
-        Write(MCR, 0x10),
-        Write(IER, 0x01),
-        Calls(0),
-        Write(THR, 0x61),
-        Calls(1),
-        Write(THR, 0x62),
-        Calls(1),
-        Read(RBR, 0x61),
-        Write(THR, 0x63),
-        Calls(2),
-        Events([1, 0, 0, 0]),
-        Written(&[]),
-    ];
-    fresh_shows(&rt, 0, &steps);
+    fresh_shows(
+        &rt,
+        0,
+        &[
+            Write(MCR, 0x10),
+            Write(IER, 0x01),
+            Calls(0),
+            Write(THR, 0x61),
+            Calls(1),
+            Write(THR, 0x62),
+            Calls(1),
+            Read(RBR, 0x61),
+            Write(THR, 0x63),
+            Calls(2),
+            Events([1, 0, 0, 0]),
+            Written(&[]),
+        ],
+    );
+}
+
+/// Whether this byte, written in loopback after so many interrupts, raises one, is held alone, and is then read.
+fn gives_back(port: &mut TestSerial<Narrow>, byte: u8, calls: u64) -> bool {
+    port.interrupt_evt().calls() == calls
+        && port.write(THR, byte).is_ok()
+        && port.interrupt_evt().calls() == calls.saturating_add(1)
+        && port.fifo_capacity() == 63
+        && port.read(RBR) == byte
 }
 
 /// Whether each byte below 64 that is written in loopback raises one interrupt and is then read.
-fn gives_back_each(alloc: Global, port: &mut TestSerial<Narrow>) -> bool {
+fn gives_back_each(port: &mut TestSerial<Narrow>) -> bool {
     for byte in 0..=0x3F {
-        let steps = [
-            Calls(u64::from(byte)),
-            Write(THR, byte),
-            Calls(u64::from(byte) + 1),
-            Room(63),
-            Read(RBR, byte),
-        ];
-        if first_wrong(alloc, port, &steps).is_some() {
+        if !gives_back(port, byte, u64::from(byte)) {
             return false;
         }
     }
@@ -122,173 +133,201 @@ fn gives_sixty_four(port: &mut TestSerial<Narrow>) -> bool {
 }
 
 #[test]
-fn loopback_gives_back_each_byte_and_sixty_four_at_once(rt: HostRuntime) -> Result<(), Fail> {
-    let alloc = rt.alloc();
-    let mut port = fresh(alloc, 0, Narrow::with_room(256))?;
+fn loopback_gives_back_each_byte_and_sixty_four_at_once(rt: HostRuntime) {
+    let mut port = made(&rt, rt.alloc(), 0, Narrow::with_room(256));
     assert!(rt; port.write(MCR, 0x10).is_ok() && port.write(IER, 0x01).is_ok());
-    assert!(rt; gives_back_each(alloc, &mut port) && port.read(LSR) == 0x60);
+    assert!(rt; gives_back_each(&mut port) && port.read(LSR) == 0x60);
     assert!(rt; takes_sixty_four(&mut port) && port.fifo_capacity() == 0);
     assert!(rt; port.interrupt_evt().calls() == 65);
     assert!(rt; gives_sixty_four(&mut port) && port.read(LSR) == 0x60);
-    Ok(())
 }
 
 // ---- the transmitter
 
 #[test]
 fn an_iir_read_acknowledges_thre(rt: HostRuntime) {
-    let steps = [
-        Write(IER, 0x02),
-        Calls(1),
-        Write(THR, 0x61),
-        Calls(1),
-        Read(IIR, 0xC2),
-        Read(IIR, 0xC1),
-    ];
-    fresh_shows(&rt, 0, &steps);
+    fresh_shows(
+        &rt,
+        0,
+        &[
+            Write(IER, 0x02),
+            Calls(1),
+            Write(THR, 0x61),
+            Calls(1),
+            Read(IIR, 0xC2),
+            Read(IIR, 0xC1),
+        ],
+    );
 }
 
 #[test]
 fn a_sent_byte_leaves_ier_and_shows_thre(rt: HostRuntime) {
-    let steps = [
-        Write(IER, 0x02),
-        Write(THR, 0x61),
-        Calls(1),
-        Read(IER, 0x02),
-        Read(IIR, 0xC2),
-        Iir(1),
-    ];
-    fresh_shows(&rt, 0, &steps);
+    fresh_shows(
+        &rt,
+        0,
+        &[
+            Write(IER, 0x02),
+            Write(THR, 0x61),
+            Calls(1),
+            Read(IER, 0x02),
+            Read(IIR, 0xC2),
+            Iir(1),
+        ],
+    );
 }
 
 #[test]
 fn enabling_thre_raises_it(rt: HostRuntime) {
-    let steps = [
-        Write(IER, 0x02),
-        Calls(1),
-        Read(IIR, 0xC2),
-        Write(IER, 0x01),
-        Calls(1),
-        Iir(1),
-    ];
-    fresh_shows(&rt, 0, &steps);
+    fresh_shows(
+        &rt,
+        0,
+        &[
+            Write(IER, 0x02),
+            Calls(1),
+            Read(IIR, 0xC2),
+            Write(IER, 0x01),
+            Calls(1),
+            Iir(1),
+        ],
+    );
 }
 
 #[test]
 fn thre_stays_pending_when_it_is_disabled(rt: HostRuntime) {
-    let steps = [
-        Write(IER, 0x02),
-        Write(IER, 0x00),
-        Read(IIR, 0xC2),
-        Read(IIR, 0xC1),
-    ];
-    fresh_shows(&rt, 0, &steps);
+    fresh_shows(
+        &rt,
+        0,
+        &[
+            Write(IER, 0x02),
+            Write(IER, 0x00),
+            Read(IIR, 0xC2),
+            Read(IIR, 0xC1),
+        ],
+    );
 }
 
 #[test]
 fn ier_keeps_its_upper_two_bits_without_effect(rt: HostRuntime) {
-    let steps = [
-        Write(IER, 0x03),
-        Calls(1),
-        Read(IIR, 0xC2),
-        Write(IER, 0x0C),
-        Calls(1),
-        Read(IER, 0x0C),
-        Read(IIR, 0xC1),
-    ];
-    fresh_shows(&rt, 0, &steps);
+    fresh_shows(
+        &rt,
+        0,
+        &[
+            Write(IER, 0x03),
+            Calls(1),
+            Read(IIR, 0xC2),
+            Write(IER, 0x0C),
+            Calls(1),
+            Read(IER, 0x0C),
+            Read(IIR, 0xC1),
+        ],
+    );
 }
 
 // ---- refusals
 
 #[test]
 fn a_refused_rda_ends_the_ier_write(rt: HostRuntime) {
-    let steps = [
-        Enqueue(&[0x61], 1),
-        Calls(0),
-        WriteRefused(IER, 0x03),
-        Calls(1),
-        Read(IER, 0x03),
-        Write(IER, 0x03),
-        Calls(2),
-        Read(IIR, 0xC6),
-    ];
-    fresh_shows(&rt, 0b01, &steps);
+    fresh_shows(
+        &rt,
+        0b01,
+        &[
+            Enqueue(&[0x61], 1),
+            Calls(0),
+            WriteRefused(IER, 0x03),
+            Calls(1),
+            Read(IER, 0x03),
+            Write(IER, 0x03),
+            Calls(2),
+            Read(IIR, 0xC6),
+        ],
+    );
 }
 
 #[test]
 fn a_refused_thre_stays_pending_beside_rda(rt: HostRuntime) {
-    let steps = [
-        Enqueue(&[0x61], 1),
-        Calls(0),
-        WriteRefused(IER, 0x03),
-        Calls(2),
-        Read(IIR, 0xC6),
-    ];
-    fresh_shows(&rt, 0b10, &steps);
+    fresh_shows(
+        &rt,
+        0b10,
+        &[
+            Enqueue(&[0x61], 1),
+            Calls(0),
+            WriteRefused(IER, 0x03),
+            Calls(2),
+            Read(IIR, 0xC6),
+        ],
+    );
 }
 
 #[test]
 fn a_refused_rda_is_shown_and_raised_again_after_iir(rt: HostRuntime) {
-    let steps = [
-        Enqueue(&[0x61], 1),
-        Calls(0),
-        WriteRefused(IER, 0x03),
-        Calls(1),
-        Read(IIR, 0xC4),
-        Write(IER, 0x03),
-        Calls(3),
-        Read(IIR, 0xC6),
-    ];
-    fresh_shows(&rt, 0b01, &steps);
+    fresh_shows(
+        &rt,
+        0b01,
+        &[
+            Enqueue(&[0x61], 1),
+            Calls(0),
+            WriteRefused(IER, 0x03),
+            Calls(1),
+            Read(IIR, 0xC4),
+            Write(IER, 0x03),
+            Calls(3),
+            Read(IIR, 0xC6),
+        ],
+    );
 }
 
 #[test]
 fn a_refused_enqueue_keeps_its_bytes_and_is_not_asked_again(rt: HostRuntime) {
-    let steps = [
-        Write(IER, 0x01),
-        EnqueueRefused(&[0x61]),
-        Enqueue(&[0x62], 1),
-        Calls(1),
-        Read(RBR, 0x61),
-        Read(RBR, 0x62),
-        Read(LSR, 0x60),
-        Calls(1),
-    ];
-    fresh_shows(&rt, 0b01, &steps);
+    fresh_shows(
+        &rt,
+        0b01,
+        &[
+            Write(IER, 0x01),
+            EnqueueRefused(&[0x61]),
+            Enqueue(&[0x62], 1),
+            Calls(1),
+            Read(RBR, 0x61),
+            Read(RBR, 0x62),
+            Read(LSR, 0x60),
+            Calls(1),
+        ],
+    );
 }
 
 // ---- the character timeout
 
 #[test]
 fn a_character_timeout_raises_rda_for_bytes_left_after_iir(rt: HostRuntime) {
-    let steps = [
-        Write(IER, 0x01),
-        // No byte is held.
-        Timeout,
-        Calls(0),
-        Enqueue(&[0x61], 1),
-        Calls(1),
-        // RDA is pending already.
-        Timeout,
-        Calls(1),
-        Read(IIR, 0xC4),
-        Read(IIR, 0xC1),
-        TimeoutRefused,
-        Calls(2),
-        // The refused call leaves RDA pending.
-        Timeout,
-        Calls(2),
-        Read(IIR, 0xC4),
-        Timeout,
-        Calls(3),
-        Read(IIR, 0xC4),
-        // RDA is disabled.
-        Write(IER, 0x00),
-        Timeout,
-        Calls(3),
-        Read(IIR, 0xC1),
-        Read(RBR, 0x61),
-    ];
-    fresh_shows(&rt, 0b10, &steps);
+    fresh_shows(
+        &rt,
+        0b10,
+        &[
+            Write(IER, 0x01),
+            // No byte is held.
+            Timeout,
+            Calls(0),
+            Enqueue(&[0x61], 1),
+            Calls(1),
+            // RDA is pending already.
+            Timeout,
+            Calls(1),
+            Read(IIR, 0xC4),
+            Read(IIR, 0xC1),
+            TimeoutRefused,
+            Calls(2),
+            // The refused call leaves RDA pending.
+            Timeout,
+            Calls(2),
+            Read(IIR, 0xC4),
+            Timeout,
+            Calls(3),
+            Read(IIR, 0xC4),
+            // RDA is disabled.
+            Write(IER, 0x00),
+            Timeout,
+            Calls(3),
+            Read(IIR, 0xC1),
+            Read(RBR, 0x61),
+        ],
+    );
 }

@@ -57,6 +57,40 @@ pub fn restored<W: Write + Drop>(
     made.map_err(Refused::into_error)
 }
 
+/// A fresh port over a line that refuses the calls of this mask. The test ends if there is no memory.
+pub fn made<W: Write + Drop>(rt: &impl Abort, alloc: Global, mask: u64, out: W) -> TestSerial<W> {
+    fresh(alloc, mask, out).ok().expect(rt, "a port")
+}
+
+/// A port of a state, which has to be made, over a line that refuses the calls of this mask.
+pub fn remade<W: Write + Drop>(
+    rt: &impl Abort,
+    alloc: Global,
+    state: &SerialState,
+    mask: u64,
+    out: W,
+) -> TestSerial<W> {
+    restored(alloc, state, mask, out).ok().expect(rt, "a port")
+}
+
+/// The state of a port.
+pub fn state_of<W: Write>(rt: &impl Abort, alloc: Global, port: &TestSerial<W>) -> SerialState {
+    port.state(alloc).ok().expect(rt, "a state")
+}
+
+/// Whether a port has this state.
+pub fn has_state<W: Write>(alloc: Global, port: &TestSerial<W>, state: &SerialState) -> bool {
+    match port.state(alloc) {
+        Ok(found) => found == *state,
+        Err(_) => false,
+    }
+}
+
+/// Whether a port has the default state.
+pub fn is_fresh<W: Write>(alloc: Global, port: &TestSerial<W>) -> bool {
+    has_state(alloc, port, &SerialState::default(alloc))
+}
+
 /// Some fields of a state. The others are those of a fresh port.
 #[derive(Clone, Copy)]
 pub struct Fields {
@@ -78,6 +112,11 @@ impl Fields {
             ..SerialState::default(alloc)
         })
     }
+}
+
+/// The state with these fields. The test ends if there is no memory.
+pub fn state_with(rt: &impl Abort, alloc: Global, fields: Fields) -> SerialState {
+    fields.state(alloc).ok().expect(rt, "a state")
 }
 
 /// A writer that takes so many bytes and none after them, or whose flush fails.
@@ -205,38 +244,85 @@ fn restore(alloc: Global, port: &mut TestSerial<Narrow>) -> bool {
     }
 }
 
+/// Whether a write succeeds.
+fn writes(port: &mut TestSerial<Narrow>, offset: u8, value: u8) -> bool {
+    port.write(offset, value).is_ok()
+}
+
+/// Whether the trigger refuses in a write.
+fn is_refused(port: &mut TestSerial<Narrow>, offset: u8, value: u8) -> bool {
+    matches!(port.write(offset, value), Err(Error::Trigger(LineRefused)))
+}
+
+/// Whether the writer fails in a write, by a fault of this kind.
+fn fails(port: &mut TestSerial<Narrow>, offset: u8, value: u8, kind: ErrorKind) -> bool {
+    failed_by(&port.write(offset, value), kind)
+}
+
+/// Whether an enqueue accepts so many bytes.
+fn accepts(port: &mut TestSerial<Narrow>, bytes: &[u8], count: usize) -> bool {
+    matches!(port.enqueue_raw_bytes(bytes), Ok(accepted) if accepted == count)
+}
+
+/// Whether the trigger refuses in an enqueue.
+fn is_enqueue_refused(port: &mut TestSerial<Narrow>, bytes: &[u8]) -> bool {
+    matches!(
+        port.enqueue_raw_bytes(bytes),
+        Err(Error::Trigger(LineRefused))
+    )
+}
+
+/// Whether an enqueue finds the FIFO full.
+fn finds_full(port: &mut TestSerial<Narrow>, bytes: &[u8]) -> bool {
+    matches!(port.enqueue_raw_bytes(bytes), Err(Error::FullFifo))
+}
+
+/// Whether a character timeout succeeds.
+fn times_out(port: &mut TestSerial<Narrow>) -> bool {
+    port.character_timeout().is_ok()
+}
+
+/// Whether the trigger refuses in a character timeout.
+fn is_timeout_refused(port: &mut TestSerial<Narrow>) -> bool {
+    matches!(port.character_timeout(), Err(Error::Trigger(LineRefused)))
+}
+
+/// Whether the events object was told so often of each event.
+fn reports(port: &TestSerial<Narrow>, counts: [u64; 4]) -> bool {
+    events(port) == counts
+}
+
+/// Whether the writer holds these bytes.
+fn has_written(port: &TestSerial<Narrow>, bytes: &[u8]) -> bool {
+    port.writer().bytes() == bytes
+}
+
+/// Whether the state has this IIR.
+fn keeps_iir(alloc: Global, port: &TestSerial<Narrow>, iir: u8) -> bool {
+    match port.state(alloc) {
+        Ok(state) => state.interrupt_identification == iir,
+        Err(_) => false,
+    }
+}
+
 /// Takes a step, and returns whether it shows what it has to.
 fn shows(alloc: Global, port: &mut TestSerial<Narrow>, step: Step) -> bool {
     match step {
         Step::Read(offset, byte) => port.read(offset) == byte,
-        Step::Write(offset, value) => port.write(offset, value).is_ok(),
-        Step::WriteRefused(offset, value) => {
-            matches!(port.write(offset, value), Err(Error::Trigger(LineRefused)))
-        }
-        Step::WriteFails(offset, value, kind) => failed_by(&port.write(offset, value), kind),
-        Step::Enqueue(bytes, count) => port.enqueue_raw_bytes(bytes).ok() == Some(count),
-        Step::EnqueueRefused(bytes) => {
-            matches!(
-                port.enqueue_raw_bytes(bytes),
-                Err(Error::Trigger(LineRefused))
-            )
-        }
-        Step::EnqueueFull(bytes) => {
-            matches!(port.enqueue_raw_bytes(bytes), Err(Error::FullFifo))
-        }
-        Step::Timeout => port.character_timeout().is_ok(),
-        Step::TimeoutRefused => {
-            matches!(port.character_timeout(), Err(Error::Trigger(LineRefused)))
-        }
+        Step::Write(offset, value) => writes(port, offset, value),
+        Step::WriteRefused(offset, value) => is_refused(port, offset, value),
+        Step::WriteFails(offset, value, kind) => fails(port, offset, value, kind),
+        Step::Enqueue(bytes, count) => accepts(port, bytes, count),
+        Step::EnqueueRefused(bytes) => is_enqueue_refused(port, bytes),
+        Step::EnqueueFull(bytes) => finds_full(port, bytes),
+        Step::Timeout => times_out(port),
+        Step::TimeoutRefused => is_timeout_refused(port),
         Step::Restore => restore(alloc, port),
         Step::Room(room) => port.fifo_capacity() == room,
         Step::Calls(calls) => port.interrupt_evt().calls() == calls,
-        Step::Events(counts) => events(port) == counts,
-        Step::Written(bytes) => port.writer().bytes() == bytes,
-        Step::Iir(iir) => match port.state(alloc) {
-            Ok(state) => state.interrupt_identification == iir,
-            Err(_) => false,
-        },
+        Step::Events(counts) => reports(port, counts),
+        Step::Written(bytes) => has_written(port, bytes),
+        Step::Iir(iir) => keeps_iir(alloc, port, iir),
     }
 }
 
@@ -250,6 +336,15 @@ pub fn first_wrong(alloc: Global, port: &mut TestSerial<Narrow>, steps: &[Step])
     None
 }
 
+/// Takes these steps, each of which has to show what it has to.
+pub fn all_show(rt: &impl Abort, alloc: Global, port: &mut TestSerial<Narrow>, steps: &[Step]) {
+    assert_eq!(rt;
+        first_wrong(alloc, port, steps),
+        None,
+        "the step that is wrong"
+    );
+}
+
 /// Takes these steps with a fresh port over a line that refuses the calls of this mask and a writer with room.
 pub fn fresh_shows<R: Abort + AllocGlobal>(rt: &R, mask: u64, steps: &[Step]) {
     fresh_over_shows(rt, mask, Narrow::with_room(256), steps);
@@ -257,32 +352,21 @@ pub fn fresh_shows<R: Abort + AllocGlobal>(rt: &R, mask: u64, steps: &[Step]) {
 
 /// The same over this writer.
 pub fn fresh_over_shows<R: Abort + AllocGlobal>(rt: &R, mask: u64, out: Narrow, steps: &[Step]) {
-    let alloc = rt.alloc();
-    let mut port = fresh(alloc, mask, out).ok().expect(rt, "a port");
-    assert_eq!(rt;
-        first_wrong(alloc, &mut port, steps),
-        None,
-        "the step that is wrong"
-    );
+    let mut port = made(rt, rt.alloc(), mask, out);
+    all_show(rt, rt.alloc(), &mut port, steps);
 }
 
 /// Takes these steps with a port of a state with these fields, over objects that were not called and refuse nothing.
 pub fn restored_shows<R: Abort + AllocGlobal>(rt: &R, fields: Fields, steps: &[Step]) {
-    let alloc = rt.alloc();
-    let state = fields.state(alloc).ok().expect(rt, "a state");
-    let made = restored(alloc, &state, 0, Narrow::with_room(256));
-    let mut port = made.ok().expect(rt, "a port");
-    assert_eq!(rt;
-        first_wrong(alloc, &mut port, steps),
-        None,
-        "the step that is wrong"
-    );
+    let state = state_with(rt, rt.alloc(), fields);
+    let mut port = remade(rt, rt.alloc(), &state, 0, Narrow::with_room(256));
+    all_show(rt, rt.alloc(), &mut port, steps);
 }
 
 /// Whether the port takes each of the bytes 0x00 to 0x3F that a guest writes to THR.
 pub fn takes_sixty_four(port: &mut TestSerial<Narrow>) -> bool {
     for byte in 0..=0x3F {
-        if port.write(THR, byte).is_err() {
+        if !writes(port, THR, byte) {
             return false;
         }
     }

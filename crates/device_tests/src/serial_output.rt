@@ -3,105 +3,133 @@
 use crate::serial_objects::Step::{
     Calls, Enqueue, Events, Read, Write, WriteFails, WriteRefused, Written,
 };
-use crate::serial_objects::{IER, IIR, Narrow, RBR, THR, fresh, fresh_over_shows};
+use crate::serial_objects::{IER, IIR, Narrow, RBR, THR, fresh_over_shows, made};
+use std::alloc::{AllocError, Global};
 use std::io;
 use std::io::ErrorKind;
-use std::test::Fail;
 use superio_script::LineRefused;
 use vm_superio::serial::Error;
 
 #[test]
-fn sent_bytes_reach_a_vector_without_interrupt(rt: HostRuntime) -> Result<(), Fail> {
-    let alloc = rt.alloc();
-    let mut port = fresh(alloc, 0, Vec::new(alloc))?;
+fn sent_bytes_reach_a_vector_without_interrupt(rt: HostRuntime) {
+    let mut port = made(&rt, rt.alloc(), 0, Vec::new(rt.alloc()));
     for byte in [0x61, 0x62, 0x63] {
         assert!(rt; port.write(THR, byte).is_ok());
     }
     assert!(rt; port.writer().as_slice() == [0x61, 0x62, 0x63].as_slice());
     assert!(rt; port.interrupt_evt().calls() == 0);
-    Ok(())
 }
 
 #[test]
 fn a_lost_byte_leaves_thre_pending(rt: HostRuntime) {
-    let steps = [
-        Write(IER, 0x02),
-        Calls(1),
-        WriteFails(THR, 0x05, ErrorKind::WriteZero),
-        Events([0, 0, 1, 0]),
-        Read(IIR, 0xC2),
-    ];
-    fresh_over_shows(&rt, 0, Narrow::with_room(0), &steps);
+    fresh_over_shows(
+        &rt,
+        0,
+        Narrow::with_room(0),
+        &[
+            Write(IER, 0x02),
+            Calls(1),
+            WriteFails(THR, 0x05, ErrorKind::WriteZero),
+            Events([0, 0, 1, 0]),
+            Read(IIR, 0xC2),
+        ],
+    );
 }
 
 #[test]
 fn a_refusal_comes_before_the_fault_of_the_writer(rt: HostRuntime) {
-    let steps = [
-        Write(IER, 0x02),
-        Read(IIR, 0xC2),
-        WriteRefused(THR, 0x05),
-        Events([0, 0, 1, 0]),
-        Read(IIR, 0xC2),
-    ];
-    fresh_over_shows(&rt, 0b10, Narrow::with_room(0), &steps);
+    fresh_over_shows(
+        &rt,
+        0b10,
+        Narrow::with_room(0),
+        &[
+            Write(IER, 0x02),
+            Read(IIR, 0xC2),
+            WriteRefused(THR, 0x05),
+            Events([0, 0, 1, 0]),
+            Read(IIR, 0xC2),
+        ],
+    );
 }
 
 #[test]
 fn a_byte_that_is_not_flushed_is_lost(rt: HostRuntime) {
-    let steps = [
-        WriteFails(THR, 0x41, ErrorKind::Other),
-        Events([0, 0, 1, 0]),
-        Read(IIR, 0xC1),
-    ];
-    fresh_over_shows(&rt, 0, Narrow::without_flush(), &steps);
+    fresh_over_shows(
+        &rt,
+        0,
+        Narrow::without_flush(),
+        &[
+            WriteFails(THR, 0x41, ErrorKind::Other),
+            Events([0, 0, 1, 0]),
+            Read(IIR, 0xC1),
+        ],
+    );
 }
 
 #[test]
 fn a_writer_that_is_full_loses_the_next_byte(rt: HostRuntime) {
-    let steps = [
-        Write(THR, 0x41),
-        WriteFails(THR, 0x42, ErrorKind::WriteZero),
-        Events([0, 1, 1, 0]),
-        Written(&[0x41]),
-    ];
-    fresh_over_shows(&rt, 0, Narrow::with_room(1), &steps);
+    fresh_over_shows(
+        &rt,
+        0,
+        Narrow::with_room(1),
+        &[
+            Write(THR, 0x41),
+            WriteFails(THR, 0x42, ErrorKind::WriteZero),
+            Events([0, 1, 1, 0]),
+            Written(&[0x41]),
+        ],
+    );
 }
 
 #[test]
 fn each_event_is_reported_once(rt: HostRuntime) {
-    let steps = [
-        Read(RBR, 0x00),
-        Events([1, 0, 0, 1]),
-        Write(THR, 0x01),
-        Events([1, 1, 0, 1]),
-        WriteFails(THR, 0x01, ErrorKind::WriteZero),
-        Events([1, 1, 1, 1]),
-        Read(RBR, 0x00),
-        Events([2, 1, 1, 2]),
-        // A byte is left.
-        Enqueue(&[0x01, 0x02], 2),
-        Read(RBR, 0x01),
-        Events([3, 1, 1, 2]),
-    ];
-    fresh_over_shows(&rt, 0, Narrow::with_room(1), &steps);
+    fresh_over_shows(
+        &rt,
+        0,
+        Narrow::with_room(1),
+        &[
+            Read(RBR, 0x00),
+            Events([1, 0, 0, 1]),
+            Write(THR, 0x01),
+            Events([1, 1, 0, 1]),
+            WriteFails(THR, 0x01, ErrorKind::WriteZero),
+            Events([1, 1, 1, 1]),
+            Read(RBR, 0x00),
+            Events([2, 1, 1, 2]),
+            // A byte is left.
+            Enqueue(&[0x01, 0x02], 2),
+            Read(RBR, 0x01),
+            Events([3, 1, 1, 2]),
+        ],
+    );
+}
+
+/// Whether an error displays this text.
+fn displays(alloc: Global, error: &Error<LineRefused>, text: &str) -> bool {
+    match format!(in alloc; "{error}") {
+        Ok(displayed) => displayed.as_str() == text,
+        Err(_) => false,
+    }
+}
+
+/// What an error displays that has this fault of a writer.
+fn text_of_writer(alloc: Global, fault: io::Error) -> Result<String, AllocError> {
+    format!(in alloc; "Couldn't write/flush to the given destination: {fault}")
 }
 
 #[test]
-fn an_error_displays_what_failed_and_why(rt: HostRuntime) -> Result<(), Fail> {
-    let alloc = rt.alloc();
+fn an_error_displays_what_failed_and_why(rt: HostRuntime) {
+    let refused = Error::Trigger(LineRefused);
+    assert!(rt;
+        displays(
+            rt.alloc(),
+            &refused,
+            "Failed to trigger interrupt: line refused"
+        )
+    );
     let fault = io::Error::from(ErrorKind::WriteZero);
-    let of_writer = format!(in alloc; "Couldn't write/flush to the given destination: {fault}")?;
-    let texts = [
-        (
-            Error::Trigger(LineRefused),
-            "Failed to trigger interrupt: line refused",
-        ),
-        (Error::IOError(fault), of_writer.as_str()),
-        (Error::FullFifo, "No space left in FIFO"),
-        (Error::Memory, "Out of memory"),
-    ];
-    for (error, text) in texts {
-        assert!(rt; format!(in alloc; "{error}")?.as_str() == text);
-    }
-    Ok(())
+    let text = text_of_writer(rt.alloc(), fault).ok().expect(&rt, "a text");
+    assert!(rt; displays(rt.alloc(), &Error::IOError(fault), text.as_str()));
+    assert!(rt; displays(rt.alloc(), &Error::FullFifo, "No space left in FIFO"));
+    assert!(rt; displays(rt.alloc(), &Error::Memory, "Out of memory"));
 }

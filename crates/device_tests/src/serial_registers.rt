@@ -2,118 +2,138 @@
 //! The registers of a serial port and its receive FIFO, as a guest and a monitor see them.
 use crate::serial_objects::Step::{Enqueue, EnqueueFull, Events, Read, Room, Write, Written};
 use crate::serial_objects::{
-    DLL, DLM, IER, IIR, LCR, LSR, MCR, MSR, Narrow, RBR, SCR, THR, TestSerial, first_wrong, fresh,
-    fresh_shows, takes_sixty_four,
+    DLL, DLM, IER, IIR, LCR, LSR, MCR, MSR, Narrow, RBR, SCR, THR, TestSerial, all_show,
+    fresh_shows, made, takes_sixty_four,
 };
-use std::test::Fail;
+use std::alloc::Global;
 
 #[test]
 fn a_fresh_port_shows_its_registers(rt: HostRuntime) {
-    let steps = [
-        Read(RBR, 0x00),
-        Read(IER, 0x00),
-        Read(IIR, 0xC1),
-        Read(LCR, 0x03),
-        Read(MCR, 0x08),
-        Read(LSR, 0x60),
-        Read(MSR, 0xB0),
-        Read(SCR, 0x00),
-    ];
-    fresh_shows(&rt, 0, &steps);
+    fresh_shows(
+        &rt,
+        0,
+        &[
+            Read(RBR, 0x00),
+            Read(IER, 0x00),
+            Read(IIR, 0xC1),
+            Read(LCR, 0x03),
+            Read(MCR, 0x08),
+            Read(LSR, 0x60),
+            Read(MSR, 0xB0),
+            Read(SCR, 0x00),
+        ],
+    );
 }
 
 #[test]
 fn plain_registers_keep_what_is_written(rt: HostRuntime) {
-    let steps = [
-        Write(LCR, 0x12),
-        Read(LCR, 0x12),
-        Write(MCR, 0x12),
-        Read(MCR, 0x12),
-        Write(SCR, 0x12),
-        Read(SCR, 0x12),
-    ];
-    fresh_shows(&rt, 0, &steps);
+    fresh_shows(
+        &rt,
+        0,
+        &[
+            Write(LCR, 0x12),
+            Read(LCR, 0x12),
+            Write(MCR, 0x12),
+            Read(MCR, 0x12),
+            Write(SCR, 0x12),
+            Read(SCR, 0x12),
+        ],
+    );
 }
 
 #[test]
 fn dlab_shows_the_divisor_in_place_of_data_and_ier(rt: HostRuntime) {
     for without_dlab in [0x03, 0x00] {
-        let steps = [
-            Write(LCR, 0x80),
-            Write(DLM, 0x12),
-            Read(DLL, 0x0C),
-            Read(DLM, 0x12),
-            Write(DLL, 0x34),
-            Read(DLL, 0x34),
-            Read(DLM, 0x12),
-            Write(LCR, without_dlab),
-            Read(IER, 0x00),
-            Read(RBR, 0x00),
-        ];
-        fresh_shows(&rt, 0, &steps);
+        fresh_shows(
+            &rt,
+            0,
+            &[
+                Write(LCR, 0x80),
+                Write(DLM, 0x12),
+                Read(DLL, 0x0C),
+                Read(DLM, 0x12),
+                Write(DLL, 0x34),
+                Read(DLL, 0x34),
+                Read(DLM, 0x12),
+                Write(LCR, without_dlab),
+                Read(IER, 0x00),
+                Read(RBR, 0x00),
+            ],
+        );
     }
 }
 
 #[test]
 fn the_high_divisor_byte_is_not_ier(rt: HostRuntime) {
-    let steps = [
-        Write(LCR, 0x80),
-        Write(DLM, 0xFF),
-        Write(LCR, 0x03),
-        Read(IER, 0x00),
-        Write(SCR, 0x12),
-        Read(SCR, 0x12),
-    ];
-    fresh_shows(&rt, 0, &steps);
+    fresh_shows(
+        &rt,
+        0,
+        &[
+            Write(LCR, 0x80),
+            Write(DLM, 0xFF),
+            Write(LCR, 0x03),
+            Read(IER, 0x00),
+            Write(SCR, 0x12),
+            Read(SCR, 0x12),
+        ],
+    );
 }
 
 #[test]
 fn bytes_arrive_while_dlab_is_set(rt: HostRuntime) {
-    let steps = [
-        Write(LCR, 0x80),
-        Enqueue(&[0x61], 1),
-        Read(DLL, 0x0C),
-        Read(LSR, 0x61),
-        Write(LCR, 0x03),
-        Read(RBR, 0x61),
-        Read(LSR, 0x60),
-    ];
-    fresh_shows(&rt, 0, &steps);
+    fresh_shows(
+        &rt,
+        0,
+        &[
+            Write(LCR, 0x80),
+            Enqueue(&[0x61], 1),
+            Read(DLL, 0x0C),
+            Read(LSR, 0x61),
+            Write(LCR, 0x03),
+            Read(RBR, 0x61),
+            Read(LSR, 0x60),
+        ],
+    );
 }
 
 #[test]
 fn an_offset_without_register_takes_any_value_and_reads_zero(rt: HostRuntime) {
-    let steps = [Write(8, 0x05), Read(8, 0x00)];
-    fresh_shows(&rt, 0, &steps);
+    fresh_shows(&rt, 0, &[Write(8, 0x05), Read(8, 0x00)]);
 }
 
 #[test]
 fn loopback_shows_the_modem_outputs_as_inputs(rt: HostRuntime) {
-    let steps = [
-        Read(MSR, 0xB0),
-        Write(MCR, 0x10),
-        Read(MSR, 0x00),
-        Write(MCR, 0x18),
-        Read(MSR, 0x80),
-        Write(MCR, 0x14),
-        Read(MSR, 0x40),
-        Write(MCR, 0x13),
-        Read(MSR, 0x30),
-    ];
-    fresh_shows(&rt, 0, &steps);
+    fresh_shows(
+        &rt,
+        0,
+        &[
+            Read(MSR, 0xB0),
+            Write(MCR, 0x10),
+            Read(MSR, 0x00),
+            Write(MCR, 0x18),
+            Read(MSR, 0x80),
+            Write(MCR, 0x14),
+            Read(MSR, 0x40),
+            Write(MCR, 0x13),
+            Read(MSR, 0x30),
+        ],
+    );
 }
 
 #[test]
 fn enqueue_stops_at_sixty_four(rt: HostRuntime) {
-    let steps = [
-        Enqueue(&[0x01; 65], 64),
-        Enqueue(&[], 0),
-        EnqueueFull(&[0x01]),
-        Read(RBR, 0x01),
-        Enqueue(&[0x01, 0x01], 1),
-        Room(0),
-    ];
-    fresh_shows(&rt, 0, &steps);
+    fresh_shows(
+        &rt,
+        0,
+        &[
+            Enqueue(&[0x01; 65], 64),
+            Enqueue(&[], 0),
+            EnqueueFull(&[0x01]),
+            Read(RBR, 0x01),
+            Enqueue(&[0x01, 0x01], 1),
+            Room(0),
+        ],
+    );
 }
 
 /// The 40 bytes from 0x00 on, and the 50 from 0x64 on.
@@ -136,35 +156,48 @@ fn gives(port: &mut TestSerial<Narrow>, bytes: &[u8]) -> bool {
     true
 }
 
-#[test]
-fn bytes_stay_in_order_as_others_arrive(rt: HostRuntime) -> Result<(), Fail> {
-    let alloc = rt.alloc();
-    let mut port = fresh(alloc, 0, Narrow::with_room(256))?;
-    assert!(rt; port.enqueue_raw_bytes(&BYTES[..40]).ok() == Some(40));
-    assert!(rt; gives(&mut port, &BYTES[..30]));
-    assert!(rt; port.enqueue_raw_bytes(&BYTES[40..]).ok() == Some(50));
-    assert!(rt; port.fifo_capacity() == 4);
-    assert!(rt; port.state(alloc)?.in_buffer.as_slice() == &BYTES[30..]);
-    assert!(rt; port.enqueue_raw_bytes(&[0xAA; 10]).ok() == Some(4));
-    assert!(rt; gives(&mut port, &BYTES[30..]) && gives(&mut port, &[0xAA; 4]));
-    assert!(rt; port.read(LSR) == 0x60);
-    Ok(())
+/// Whether an enqueue accepts so many of these bytes.
+fn accepts(port: &mut TestSerial<Narrow>, bytes: &[u8], count: usize) -> bool {
+    matches!(port.enqueue_raw_bytes(bytes), Ok(accepted) if accepted == count)
+}
+
+/// Whether a port holds these bytes, as its state says.
+fn holds(alloc: Global, port: &TestSerial<Narrow>, bytes: &[u8]) -> bool {
+    match port.state(alloc) {
+        Ok(state) => state.in_buffer.as_slice() == bytes,
+        Err(_) => false,
+    }
 }
 
 #[test]
-fn loopback_drops_what_does_not_fit_and_receives_nothing_else(rt: HostRuntime) -> Result<(), Fail> {
-    let alloc = rt.alloc();
-    let mut port = fresh(alloc, 0, Narrow::with_room(256))?;
+fn bytes_stay_in_order_as_others_arrive(rt: HostRuntime) {
+    let mut port = made(&rt, rt.alloc(), 0, Narrow::with_room(256));
+    assert!(rt; accepts(&mut port, &BYTES[..40], 40));
+    assert!(rt; gives(&mut port, &BYTES[..30]));
+    assert!(rt; accepts(&mut port, &BYTES[40..], 50));
+    assert!(rt; port.fifo_capacity() == 4);
+    assert!(rt; holds(rt.alloc(), &port, &BYTES[30..]));
+    assert!(rt; accepts(&mut port, &[0xAA; 10], 4));
+    assert!(rt; gives(&mut port, &BYTES[30..]) && gives(&mut port, &[0xAA; 4]));
+    assert!(rt; port.read(LSR) == 0x60);
+}
+
+#[test]
+fn loopback_drops_what_does_not_fit_and_receives_nothing_else(rt: HostRuntime) {
+    let mut port = made(&rt, rt.alloc(), 0, Narrow::with_room(256));
     assert!(rt; port.write(MCR, 0x10).is_ok() && takes_sixty_four(&mut port));
-    let steps = [
-        Write(THR, 0xAA),
-        Enqueue(&[0xFF], 0),
-        Room(0),
-        Read(LSR, 0x61),
-        Read(RBR, 0x00),
-        Events([1, 0, 0, 0]),
-        Written(&[]),
-    ];
-    assert_eq!(rt; first_wrong(alloc, &mut port, &steps), None);
-    Ok(())
+    all_show(
+        &rt,
+        rt.alloc(),
+        &mut port,
+        &[
+            Write(THR, 0xAA),
+            Enqueue(&[0xFF], 0),
+            Room(0),
+            Read(LSR, 0x61),
+            Read(RBR, 0x00),
+            Events([1, 0, 0, 0]),
+            Written(&[]),
+        ],
+    );
 }
