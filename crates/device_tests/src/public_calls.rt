@@ -254,22 +254,28 @@ fn asks_and_sends(act: &Act, asked: Asked, sent: Sent) -> bool {
         && bytes_out(sent) == u8::from(*act == Act::Write(0, b'x'))
 }
 
-/// Whether this is the record of this call.
-fn is_record_of(
-    alloc: Global,
-    record: Done<Line, Counts, Vec<u8>>,
-    call: Call<Line, Counts, Vec<u8>>,
-) -> bool {
+/// Whether this is the record of the call of an act.
+fn is_record_of(alloc: Global, record: &Done<Line, Counts, Vec<u8>>, made: &Act) -> bool {
     let Done {
         act,
         asked,
         sent,
         reply,
     } = record;
-    is_reply_to(&reply, &act)
-        && asks_and_sends(&act, asked, sent)
-        && has_old_port(alloc, &reply)
-        && act == act_of(call)
+    is_reply_to(reply, act)
+        && asks_and_sends(act, *asked, *sent)
+        && has_old_port(alloc, reply)
+        && *act == *made
+}
+
+/// The acts of those calls.
+fn acts(rt: &impl Abort, alloc: Global) -> Vec<Act> {
+    let calls = calls(alloc).ok().expect(rt, "calls");
+    let mut acts = Vec::new(alloc);
+    for call in calls {
+        acts.push(act_of(call)).ok().expect(rt, "an act");
+    }
+    acts
 }
 
 /// The records of those calls, by a fresh port.
@@ -285,9 +291,10 @@ fn done(rt: &impl Abort, alloc: Global) -> Vec<Done<Line, Counts, Vec<u8>>> {
 fn a_record_has_the_act_of_its_call(rt: HostRuntime) {
     let done = done(&rt, rt.alloc());
     assert!(rt; done.len() == 7);
-    let calls = calls(rt.alloc()).ok().expect(&rt, "calls");
-    for (record, call) in done.into_iter().zip(calls) {
-        assert!(rt; is_record_of(rt.alloc(), record, call));
+    let acts = acts(&rt, rt.alloc());
+    assert!(rt; acts.len() == 7);
+    for (record, act) in done.iter().zip(acts.iter()) {
+        assert!(rt; is_record_of(rt.alloc(), record, act));
     }
 }
 
