@@ -259,47 +259,42 @@ fn a_run_of_no_calls_changes_nothing(rt: HostRuntime) {
 
 #[test]
 fn a_run_records_each_read_write_and_enqueue(rt: HostRuntime) {
+    static ROWS: [Row; 7] = [
+        Asks(Asked::Took, Write(IER, 0x03), Wrote(Ok(()))),
+        Sends(Sent::Out, Write(THR, 0x41), Wrote(Ok(()))),
+        Asks(Asked::Took, Enqueue(&[0x61, 0x62]), Enqueued(Ok(2))),
+        Quiet(Read(IIR), Byte(0xC6)),
+        Quiet(Read(RBR), Byte(0x61)),
+        Quiet(Read(LSR), Byte(0x61)),
+        Quiet(Read(IIR), Byte(0xC1)),
+    ];
     let mut port = made(&rt, rt.alloc(), 0, Vec::new(rt.alloc()));
-    run_shows(
-        &rt,
-        rt.alloc(),
-        &mut port,
-        &[
-            Asks(Asked::Took, Write(IER, 0x03), Wrote(Ok(()))),
-            Sends(Sent::Out, Write(THR, 0x41), Wrote(Ok(()))),
-            Asks(Asked::Took, Enqueue(&[0x61, 0x62]), Enqueued(Ok(2))),
-            Quiet(Read(IIR), Byte(0xC6)),
-            Quiet(Read(RBR), Byte(0x61)),
-            Quiet(Read(LSR), Byte(0x61)),
-            Quiet(Read(IIR), Byte(0xC1)),
-        ],
-        None,
-        2,
-    );
+    run_shows(&rt, rt.alloc(), &mut port, &ROWS, None, 2);
     assert!(rt; port.writer().as_slice() == [0x41].as_slice());
 }
 
 #[test]
 fn a_lost_byte_and_a_restore_change_no_read(rt: HostRuntime) {
+    static ROWS: [Row; 8] = [
+        Asks(Asked::Took, Write(IER, 0x03), Wrote(Ok(()))),
+        Sends(
+            Sent::Lost,
+            Write(THR, 0x41),
+            Wrote(Err(Cause::Lost(ErrorKind::WriteZero))),
+        ),
+        Asks(Asked::Took, Enqueue(&[0x61, 0x62]), Enqueued(Ok(2))),
+        Quiet(Restore(0), Restored),
+        Quiet(Read(IIR), Byte(0xC6)),
+        Quiet(Read(RBR), Byte(0x61)),
+        Quiet(Read(LSR), Byte(0x61)),
+        Quiet(Read(IIR), Byte(0xC1)),
+    ];
     let mut port = made(&rt, rt.alloc(), 0, Narrow::with_room(0));
     run_shows(
         &rt,
         rt.alloc(),
         &mut port,
-        &[
-            Asks(Asked::Took, Write(IER, 0x03), Wrote(Ok(()))),
-            Sends(
-                Sent::Lost,
-                Write(THR, 0x41),
-                Wrote(Err(Cause::Lost(ErrorKind::WriteZero))),
-            ),
-            Asks(Asked::Took, Enqueue(&[0x61, 0x62]), Enqueued(Ok(2))),
-            Quiet(Restore(0), Restored),
-            Quiet(Read(IIR), Byte(0xC6)),
-            Quiet(Read(RBR), Byte(0x61)),
-            Quiet(Read(LSR), Byte(0x61)),
-            Quiet(Read(IIR), Byte(0xC1)),
-        ],
+        &ROWS,
         Some(Narrow::with_room(0)),
         2,
     );
@@ -307,20 +302,21 @@ fn a_lost_byte_and_a_restore_change_no_read(rt: HostRuntime) {
 
 #[test]
 fn a_restore_in_a_run_hands_out_the_old_port(rt: HostRuntime) {
+    static ROWS: [Row; 6] = [
+        Quiet(Write(IER, 0x01), Wrote(Ok(()))),
+        Asks(Asked::Took, Enqueue(&[0x61]), Enqueued(Ok(1))),
+        Quiet(Read(IIR), Byte(0xC4)),
+        Quiet(Restore(0), Restored),
+        Quiet(Read(RBR), Byte(0x61)),
+        Quiet(Read(LSR), Byte(0x60)),
+    ];
     let mut port = made(&rt, rt.alloc(), 0, Narrow::with_room(0));
     // The new port has the new objects.
     let done = recorded(
         &rt,
         rt.alloc(),
         &mut port,
-        &[
-            Quiet(Write(IER, 0x01), Wrote(Ok(()))),
-            Asks(Asked::Took, Enqueue(&[0x61]), Enqueued(Ok(1))),
-            Quiet(Read(IIR), Byte(0xC4)),
-            Quiet(Restore(0), Restored),
-            Quiet(Read(RBR), Byte(0x61)),
-            Quiet(Read(LSR), Byte(0x60)),
-        ],
+        &ROWS,
         Some(Narrow::with_room(1)),
         0,
     );
@@ -330,6 +326,10 @@ fn a_restore_in_a_run_hands_out_the_old_port(rt: HostRuntime) {
 
 #[test]
 fn a_refused_restore_in_a_run_leaves_the_port(rt: HostRuntime) {
+    static ROWS: [Row; 2] = [
+        Quiet(Restore(0b10), NotRestored(Cause::Refused)),
+        Quiet(Read(IIR), Byte(0xC6)),
+    ];
     // Both conditions are pending and enabled.
     let fields = Fields {
         iir: 0x06,
@@ -343,10 +343,7 @@ fn a_refused_restore_in_a_run_leaves_the_port(rt: HostRuntime) {
         &rt,
         rt.alloc(),
         &mut port,
-        &[
-            Quiet(Restore(0b10), NotRestored(Cause::Refused)),
-            Quiet(Read(IIR), Byte(0xC6)),
-        ],
+        &ROWS,
         Some(Narrow::with_room(1)),
         2,
     );
@@ -357,32 +354,38 @@ fn a_refused_restore_in_a_run_leaves_the_port(rt: HostRuntime) {
 
 #[test]
 fn a_run_records_what_the_trigger_answered(rt: HostRuntime) {
+    static ROWS: [Row; 7] = [
+        Quiet(Enqueue(&[0x61]), Enqueued(Ok(1))),
+        Asks(Asked::TookTook, Write(IER, 0x03), Wrote(Ok(()))),
+        Quiet(Read(IIR), Byte(0xC6)),
+        Asks(
+            Asked::TookRefused,
+            Write(IER, 0x03),
+            Wrote(Err(Cause::Refused)),
+        ),
+        Quiet(Read(IIR), Byte(0xC6)),
+        Asks(Asked::Refused, Write(IER, 0x03), Wrote(Err(Cause::Refused))),
+        Quiet(Read(IIR), Byte(0xC4)),
+    ];
     // The line refuses THRE once, and then RDA.
     let mut port = made(&rt, rt.alloc(), 0b11000, Narrow::with_room(0));
-    run_shows(
-        &rt,
-        rt.alloc(),
-        &mut port,
-        &[
-            Quiet(Enqueue(&[0x61]), Enqueued(Ok(1))),
-            Asks(Asked::TookTook, Write(IER, 0x03), Wrote(Ok(()))),
-            Quiet(Read(IIR), Byte(0xC6)),
-            Asks(
-                Asked::TookRefused,
-                Write(IER, 0x03),
-                Wrote(Err(Cause::Refused)),
-            ),
-            Quiet(Read(IIR), Byte(0xC6)),
-            Asks(Asked::Refused, Write(IER, 0x03), Wrote(Err(Cause::Refused))),
-            Quiet(Read(IIR), Byte(0xC4)),
-        ],
-        None,
-        5,
-    );
+    run_shows(&rt, rt.alloc(), &mut port, &ROWS, None, 5);
 }
 
 #[test]
 fn a_run_records_character_timeouts(rt: HostRuntime) {
+    static ROWS: [Row; 5] = [
+        Asks(Asked::Took, CharacterTimeout, TimedOut(Ok(()))),
+        // RDA is pending already.
+        Quiet(CharacterTimeout, TimedOut(Ok(()))),
+        Quiet(Read(IIR), Byte(0xC4)),
+        Asks(
+            Asked::Refused,
+            CharacterTimeout,
+            TimedOut(Err(Cause::Refused)),
+        ),
+        Quiet(Read(IIR), Byte(0xC4)),
+    ];
     // A byte is held for which the trigger was not called.
     let fields = Fields {
         iir: 0x01,
@@ -392,23 +395,5 @@ fn a_run_records_character_timeouts(rt: HostRuntime) {
     };
     let state = state_with(&rt, rt.alloc(), fields);
     let mut port = remade(&rt, rt.alloc(), &state, 0b10, Narrow::with_room(0));
-    run_shows(
-        &rt,
-        rt.alloc(),
-        &mut port,
-        &[
-            Asks(Asked::Took, CharacterTimeout, TimedOut(Ok(()))),
-            // RDA is pending already.
-            Quiet(CharacterTimeout, TimedOut(Ok(()))),
-            Quiet(Read(IIR), Byte(0xC4)),
-            Asks(
-                Asked::Refused,
-                CharacterTimeout,
-                TimedOut(Err(Cause::Refused)),
-            ),
-            Quiet(Read(IIR), Byte(0xC4)),
-        ],
-        None,
-        2,
-    );
+    run_shows(&rt, rt.alloc(), &mut port, &ROWS, None, 2);
 }
