@@ -159,8 +159,8 @@
  * A snapshot. A saved port has neither the input and the output that wait, nor
  * whether the guest is ready: save these beside it. For a clock, save `now` too
  * if it is not the host's time. After a load, ask for the interrupt as often as
- * superio_serial_interrupts_due says, or set the level. This covers an interrupt
- * that was refused before the snapshot.
+ * superio_serial_interrupts_due says, or set the level. This covers an
+ * interrupt that was refused before the snapshot.
  *
  * Break. The port has none. A guest that sends a break, by bit 0x40 of LCR,
  * sends nothing, and no call gives it one: ignore a break of your terminal, and
@@ -356,8 +356,8 @@ superio_serial_read_effects superio_serial_read(superio_serial *port,
  * order unless you hold the guest until there is room:
  *
  * 1. If `sends` is true, send the value, without waiting for its reader. If
- *    you report events, report that of the byte: out_byte if it is sent, and
- *    tx_lost_byte if it is lost. The port is the same either way, and the
+ *    you report the events of vm-superio, report `out_byte` if it is sent, and
+ *    `tx_lost_byte` if it is lost. The port is the same either way, and the
  *    second step follows either way.
  * 2. Ask for the interrupt as often as `interrupts` says. Stop at the first
  *    refusal, such as a write to an eventfd that fails. You need not report a

@@ -274,6 +274,7 @@ fn states_and_parts_of_records_are_compared_and_printed(rt: HostRuntime) -> Resu
         imsc: 0,
         ris: 0,
         armed: false,
+        ..RtcState::default()
     };
     assert!(rt; state == RtcState::default() && state == RtcState::from_five(0, 0, 0, 0, 0));
     assert!(rt; is_compared_and_printed(alloc, &state)?);
