@@ -47,9 +47,9 @@ export const RECORDINGS = {
     ],
   },
   console: {
-    calls: 19_323,
+    calls: 19_299,
     introduction: "An unmodified kernel boots to a shell: typed commands, a paste of 4,096 bytes, an alarm and a " +
-      "reset. These 19,323 calls were recorded on the devices here. Each is made again, and the replies are compared.",
+      "reset. These 19,299 calls were recorded on the devices here. Each is made again, and the replies are compared.",
     beginning: "The kernel looks for option ROMs in the memory where the clock is, so it reads the clock every 16 " +
       "bytes. Then it prints by polling.",
     stops: [

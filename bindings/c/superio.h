@@ -364,8 +364,8 @@ superio_serial_read_effects superio_serial_read(superio_serial *port,
  * order unless you hold the guest until there is room:
  *
  * 1. If `sends` is true, send the value, without waiting for its reader. If
- *    you report events, report that of the byte: out_byte if it is sent, and
- *    tx_lost_byte if it is lost. The port is the same either way, and the
+ *    you report the events of vm-superio, report `out_byte` if it is sent, and
+ *    `tx_lost_byte` if it is lost. The port is the same either way, and the
  *    second step follows either way.
  * 2. Ask for the interrupt as often as `interrupts` says. Stop at the first
  *    refusal, such as a write to an eventfd that fails. You need not report a

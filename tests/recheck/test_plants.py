@@ -57,7 +57,7 @@ WRONG = [(DEVICES + file, old, new, proofs) for file, old, new, proofs in [
 ]]
 WRONG += [(SPECS + file, old, new, proofs) for file, old, new, proofs in [
     ("superio_core/specs/Serial/Step.antt", "if others == 0 then iir_none_bit", "if others == 0 then 0", {"PortHistory"}),
-    ("superio_core/specs/Rtc/Step.antt", "imsc = value % 2", "imsc = value % 4", {"ClockHistory", "ClockCode"}),
+    ("superio_core/specs/Rtc.antt", "imsc = value % 2", "imsc = value % 4", {"ClockHistory", "ClockCode"}),
     ("superio_core/specs/Serial/RegisterMap.antt", "iir_bit Thre = 0x02", "iir_bit Thre = 0x08", {"PortHistory"}),
     ("superio_laws/specs/Serial/History/Registers.antt", "take (64 - length held) bytes", "take (63 - length held) bytes", {"PortHistory"}),
     ("superio_laws/specs/Serial/History/Interrupts.antt", "acknowledges Rda kind = is_iir_read kind || is_rbr_read kind",

@@ -363,6 +363,7 @@ fn states_and_parts_of_records_are_compared_and_printed(rt: HostRuntime) {
         imsc: 0,
         ris: 0,
         armed: false,
+        ..RtcState::default()
     };
     assert!(rt; clock == RtcState::default() && clock == RtcState::from_five(0, 0, 0, 0, 0));
     assert!(rt; is_compared_and_printed(alloc, &clock));

@@ -1,9 +1,10 @@
 -- SPDX-License-Identifier: Apache-2.0 OR BSD-3-Clause
--- The clock PL031: its registers, what an access is, which register it reaches and what a read of it shows; and the
--- state of a clock. The step of an access and the history of all accesses both rest on this map.
+-- The clock PL031: its registers, what an access is, which register it reaches, what a read of it shows and what a write
+-- does to the state of a clock. The step of an access and the history of all accesses both rest on this map.
 pub mod Step
-use Rattle.std.specs.Prelude.{ℕ, ◌-◌, ◌/◌, ◌%◌, ◌^◌, ℤ, pos, negsuc, Bool, true, false, ◌==◌, ◌&&◌, nat_lt, nat_le, if◌then◌else◌, List, [], ◌∷◌, slice_index, Option, Some, None, bit_and, not}
+use Rattle.std.specs.Prelude.{ℕ, ◌-◌, ◌/◌, ◌%◌, ◌^◌, ℤ, pos, negsuc, ◌+ℤ◌, ◌-ℤ◌, Bool, true, false, ◌==◌, ◌&&◌, nat_lt, nat_le, if◌then◌else◌, List, [], ◌∷◌, slice_index, Option, Some, None, bit_and, not}
 use Rattle.std.specs.Int.{w32, to_le_bytes, from_le_bytes}
+use Rattle.superio_core.specs.Bits.{with_bits, without_bits}
 pub use Rattle.superio_core.specs.declared.rtc_pl031.encoding.RtcState.{RtcState}
 pub use Rattle.superio_core.specs.declared.rtc_pl031.registers.ClockRegister.{ClockRegister}
 pub use Rattle.superio_core.specs.declared.rtc_pl031.registers.ClockRegister.TheVariants.{Dr, Mr, Lr, Cr, Imsc, Ris, Mis, Icr, Id, Reserved}
@@ -99,3 +100,28 @@ state_of_clock clock = record {
   ris = clock.ris;
   armed = not (clock.armed == 0);
 }
+
+-- ---- what a write does
+
+-- guest time at a host's time
+abbrev pub guest_time_in : (state : RtcState) (time : ℕ) → ℕ
+guest_time_in state time = guest_time (pos time +ℤ state.offset) time
+
+-- a match write sets an alarm if guest time has still to reach the value, and raises at once if it is the value
+abbrev pub match_write : (state : RtcState) (value time : ℕ) → RtcState
+match_write state value time =
+    let guest = guest_time_in state time in
+    record state {
+      mr = value;
+      ris = if value == guest then with_bits state.ris 1 else state.ris;
+      armed = nat_lt guest value;
+    }
+
+-- the state that a write leaves, at the host's time
+abbrev pub after_write : (state : RtcState) (register : ClockRegister) (value time : ℕ) → RtcState
+after_write state Mr value time = match_write state value time
+after_write state Lr value time = record state { lr = value; offset = pos value -ℤ pos time }
+after_write state Cr value time = if value == 1 then record state { lr = 0; offset = pos 0 } else state
+after_write state Imsc value time = record state { imsc = value % 2 }
+after_write state Icr value time = record state { ris = without_bits state.ris value }
+after_write state _ value time = state

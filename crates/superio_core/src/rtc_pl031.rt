@@ -5,8 +5,8 @@
 //! clock of the host: you pass each access its moment, in seconds since 1970.
 ghost use Rattle.std.specs.Prelude.{◌≡◌, ◌<◌, ◌^◌, IfSome};
 ghost use Rattle.superio_core.specs.Bits.{with_bits};
-ghost use Rattle.superio_core.specs.Rtc.Step.{rtc_irq_level, IsAlarmDue, guest_time_in, after_alarm, match_write, clock_response, after_write, clock_step};
-ghost use Rattle.superio_core.specs.Rtc.{state_of_clock, read, write, fresh_clock, clock_register_at, is_writable, host_time, clock_register_read};
+ghost use Rattle.superio_core.specs.Rtc.Step.{rtc_irq_level, IsAlarmDue, after_alarm, clock_response, clock_step};
+ghost use Rattle.superio_core.specs.Rtc.{state_of_clock, read, write, fresh_clock, clock_register_at, is_writable, host_time, guest_time_in, clock_register_read, match_write, after_write};
 
 mod alarm;
 pub mod encoding;

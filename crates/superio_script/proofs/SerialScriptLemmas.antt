@@ -19,8 +19,8 @@ use Rattle.vm_superio.specs.declared.serial.errors.Error.{Error}
 use Rattle.vm_superio.specs.declared.serial.errors.Error.TheVariants.{Trigger, IOError, FullFifo, Memory}
 use Rattle.vm_superio.specs.Links.ForAnyObject.{FoldsCalls}
 use Rattle.superio_script.specs.Objects.{fresh_interrupt_line, InterruptLineLink, is_call_refused, saturated, no_counts, counts_after_event, written_bytes, Line, Counts, Output, LineRefused}
-use Rattle.superio_script.specs.Reply.{with_lf, response_reply, digits_reply, count_digits, counts_reply}
-use Rattle.superio_script.specs.SerialScript.{calls_of_entry, calls_made, interrupt_line_after, events_reported, is_event, counts_of, Outcome, Out, Lost, out_before_loss, outcome_of_sent, outcomes_of, next_outcome, next_printed, trigger_answers, sends, sent_with, call_entry, entry_reply, rbr_read_entry, after_rbr_reads, drained_bytes, restore_entry, is_restore_refused, serial_reply, trace_after_line, line_sends, prints_after_loss, serial_replies}
+use Rattle.superio_script.specs.Reply.{with_lf, response_reply, digits_reply}
+use Rattle.superio_script.specs.SerialScript.{calls_of_entry, calls_made, interrupt_line_after, events_reported, is_event, counts_of, Outcome, Out, Lost, out_before_loss, outcome_of_sent, outcomes_of, next_outcome, next_printed, trigger_answers, sends, sent_with, call_entry, entry_reply, rbr_read_entry, after_rbr_reads, drained_bytes, restore_entry, is_restore_refused, serial_reply, trace_after_line, line_sends, prints_after_loss, serial_replies, shown}
 use Rattle.superio_script.specs.Driver.{ReadsWhileReady, TakesAll}
 use Rattle.superio_script.specs.Board.{IsAfter, SerialLineStep, IsSerialLineStep}
 use Rattle.superio_script.specs.declared.command.SerialCommand.{SerialCommand}
@@ -286,29 +286,34 @@ drain-step steps calls states coherence bytes old new reads latch all mask trace
 
 -- ---- the lines that change nothing
 
-module _ (port : SerialView Line Counts Output) (reply : List ℕ) where
-  pub capacity-step : reply ≡ digits_reply ((64 - length port.state.in_buffer) ∷ []) → IsSerialLineStep line.Capacity reply port port
-  capacity-step is mask trace at = without_choice (is ∙ ap (λ (s : State). digits_reply ((64 - length s.in_buffer) ∷ [])) at.state) at
+-- a line that shows the port's state, its interrupt line or its counts
+pub shown-step :
+    (line : SerialCommand) (port : SerialView Line Counts Output) (reply : List ℕ) →
+    ((mask : ℕ) (trace : Trace) → serial_reply mask trace Lost [] line ≡ shown line (state_of_history fresh_state trace) (interrupt_line_after mask (calls_made trace)) (counts_of (events_reported trace))) →
+    ((mask : ℕ) (trace : Trace) → trace_after_line mask trace Lost line ≡ trace) →
+    reply ≡ shown line port.state port.trigger port.events →
+    IsSerialLineStep line reply port port
+shown-step line port reply replies same is mask trace at = without_choice
+    (is ∙ ap (λ (s : State). shown line s port.trigger port.events) at.state
+     ∙ ap (λ (l : Line). shown line (state_of_history fresh_state trace) l port.events) at.interrupt_line
+     ∙ ap (λ (counts : Counts). shown line (state_of_history fresh_state trace) (interrupt_line_after mask (calls_made trace)) counts) at.counts
+     ∙ sym (replies mask trace))
+    (subst (λ (after : Trace). IsAfter mask after port) (sym (same mask trace)) at)
 
-  pub calls-step : reply ≡ with_lf (count_digits port.trigger.calls) → IsSerialLineStep line.Calls reply port port
-  calls-step is mask trace at = without_choice (is ∙ ap (λ (l : Line). with_lf (count_digits l.calls)) at.interrupt_line) at
+pub output-step :
+    (port : SerialView Line Counts Output) (reply : List ℕ) → reply ≡ digits_reply (written_bytes port.out) → IsSerialLineStep line.Output reply port port
+output-step port reply is mask trace at = record {
+  outcome = Lost;
+  printed = written_bytes port.out;
+  short = port.out.few;
+  replied = is ∙ ap digits_reply (is-printed (none_lost trace) (written_bytes port.out) (output fresh_state [] trace) at.output);
+  after = at;
+}
+  where
+    is-printed : (kept : Bool) (bytes known : List ℕ) → (IsTrue kept → bytes ≡ known) → bytes ≡ (if kept then known else bytes)
+    is-printed kept bytes known was = grind arith
 
-  pub events-step : reply ≡ counts_reply port.events → IsSerialLineStep line.Events reply port port
-  events-step is mask trace at = without_choice (is ∙ ap counts_reply at.counts) at
-
-  pub output-step : reply ≡ digits_reply (written_bytes port.out) → IsSerialLineStep line.Output reply port port
-  output-step is mask trace at = record {
-    outcome = Lost;
-    printed = written_bytes port.out;
-    short = port.out.few;
-    replied = is ∙ ap digits_reply (is-printed (none_lost trace) (written_bytes port.out) (output fresh_state [] trace) at.output);
-    after = at;
-  }
-    where
-      is-printed : (kept : Bool) (bytes known : List ℕ) → (IsTrue kept → bytes ≡ known) → bytes ≡ (if kept then known else bytes)
-      is-printed kept bytes known was = grind arith
-
-pub ruleset unchanged_lines = (capacity-step, calls-step, events-step, output-step)
+pub ruleset unchanged_lines = (shown-step, output-step)
 
 -- ---- a restore
 

@@ -3,8 +3,8 @@
 -- the mask, and on what a script leaves open: which bytes are lost, and what `so` prints once one was.
 use Rattle.std.specs.Prelude.{ℕ, zero, suc, ◌+◌, ◌-◌, Bool, true, false, not, if◌then◌else◌, List, [], ◌∷◌, ◌++◌, length, drop, count_by, codes, nat_le}
 use Rattle.std.specs.List.{list_all}
-use Rattle.vm_superio.specs.Serial.{Asked, Sent, Op, Read, Write, Enqueue, Restore, TraceEntry, Trace, answer_count, ends_in_refusal, sent_by, Event, buffer_read, out_byte, tx_lost_byte, in_buffer_empty, fresh_state, not_empty}
-use Rattle.superio_laws.specs.Serial.History.{decode_at, dlab_after, held_bytes, guest_read, none_lost, output, history_events, history_response, calls_due, conditions_due_after}
+use Rattle.vm_superio.specs.Serial.{State, Asked, Sent, Op, Read, Write, Enqueue, Restore, TraceEntry, Trace, answer_count, ends_in_refusal, sent_by, Event, buffer_read, out_byte, tx_lost_byte, in_buffer_empty, fresh_state, not_empty}
+use Rattle.superio_laws.specs.Serial.History.{decode_at, dlab_after, held_bytes, guest_read, none_lost, output, history_events, history_response, calls_due, conditions_due_after, state_of_history}
 use Rattle.superio_script.specs.Objects.{is_call_refused, saturated, Line, Counts}
 use Rattle.superio_script.specs.Reply.{with_lf, response_reply, digits_reply, count_digits, counts_reply}
 use Rattle.superio_script.specs.declared.command.SerialCommand.{SerialCommand}
@@ -142,6 +142,14 @@ is_restore_refused mask trace =
 
 -- ---- the lines
 
+-- what a line that makes no call shows: of the port's state how many more bytes fit, of the interrupt line how often it
+-- was called, or the counts of events. Of the other lines serial_reply says it
+abbrev pub shown : (line : SerialCommand) (state : State) (interrupt_line : Line) (counts : Counts) → List ℕ
+shown serial.Capacity state interrupt_line counts = digits_reply ((64 - length state.in_buffer) ∷ [])
+shown serial.Calls state interrupt_line counts = with_lf (count_digits interrupt_line.calls)
+shown serial.Events state interrupt_line counts = counts_reply counts
+shown _ state interrupt_line counts = []
+
 -- the reply to a line after a trace. If the line sends a byte, this is its outcome; if it is an `so` after a loss, it
 -- prints these bytes
 abbrev pub serial_reply :
@@ -152,15 +160,14 @@ serial_reply mask trace outcome printed (serial.Write offset value) =
     entry_reply trace (call_entry mask trace outcome (Write offset value))
 serial_reply mask trace outcome printed (serial.Enqueue bytes) =
     entry_reply trace (call_entry mask trace outcome (Enqueue bytes))
-serial_reply mask trace outcome printed serial.Capacity =
-    digits_reply ((64 - length (held_bytes fresh_state trace)) ∷ [])
 serial_reply mask trace outcome printed serial.Drain = digits_reply (drained_bytes trace)
 serial_reply mask trace outcome printed serial.Restore =
     with_lf (if is_restore_refused mask trace then codes "trigger" else codes "ok")
 serial_reply mask trace outcome printed serial.Output =
     digits_reply (if none_lost trace then output fresh_state [] trace else printed)
-serial_reply mask trace outcome printed serial.Calls = with_lf (count_digits (saturated (calls_made trace)))
-serial_reply mask trace outcome printed serial.Events = counts_reply (counts_of (events_reported trace))
+serial_reply mask trace outcome printed line =
+    shown line (state_of_history fresh_state trace) (interrupt_line_after mask (calls_made trace))
+    (counts_of (events_reported trace))
 
 -- the trace after a line. A refused restore changes nothing
 abbrev pub trace_after_line : (mask : ℕ) (trace : Trace) (outcome : Outcome) (line : SerialCommand) → Trace

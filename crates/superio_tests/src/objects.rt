@@ -48,13 +48,12 @@ pub fn drawn_state(alloc: Global, seed: u64, held: usize) -> Result<SerialState,
 pub fn drawn_clock(seed: u64) -> RtcState {
     let [l0, l1, l2, l3, m0, m1, m2, m3] = drawn(seed).to_le_bytes();
     let [i0, i1, i2, i3, r0, r1, r2, r3] = drawn(!seed).to_le_bytes();
+    let (lr, mr) = (u32::from_le_bytes([l0, l1, l2, l3]), u32::from_le_bytes([m0, m1, m2, m3]));
+    let (imsc, ris) = (u32::from_le_bytes([i0, i1, i2, i3]), u32::from_le_bytes([r0, r1, r2, r3]));
+    let offset = i64::from_le_bytes(drawn(drawn(seed)).to_le_bytes());
     RtcState {
-        lr: u32::from_le_bytes([l0, l1, l2, l3]),
-        offset: i64::from_le_bytes(drawn(drawn(seed)).to_le_bytes()),
-        mr: u32::from_le_bytes([m0, m1, m2, m3]),
-        imsc: u32::from_le_bytes([i0, i1, i2, i3]),
-        ris: u32::from_le_bytes([r0, r1, r2, r3]),
         armed: seed % 2 == 0,
+        ..RtcState::from_five(lr, offset, mr, imsc, ris)
     }
 }
 
@@ -76,8 +75,8 @@ pub fn size_of(number: u64) -> usize {
 /// How many faults there are.
 pub const FAULTS: i32 = 544;
 
-/// The fault of a number below [`FAULTS`]: by each number of the system but that of an interrupted call, which is
-/// repeated; by each kind alone; by a kind with any text; and by any number.
+/// The fault of a number below [`FAULTS`]: by each number of the system, by each kind alone, by a kind with any text, and
+/// by any number. An interrupted call is repeated, so it is left out.
 pub fn fault_of(number: i32) -> io::Error {
     match number {
         4 => io::Error::from_raw_os_error(4_095),
@@ -94,7 +93,8 @@ fn drawn_code(seed: i32) -> i32 {
     i32::from_le_bytes([b0, b1, b2, b3])
 }
 
-/// A kind: those of the system's numbers, but that of an interrupted call, and those that no number has.
+/// The kinds of the system's numbers, and the kinds that no number has. An interrupted call is repeated, so its kind is
+/// left out.
 fn kind_of(number: i32) -> ErrorKind {
     match number {
         4 => ErrorKind::UnexpectedEof,

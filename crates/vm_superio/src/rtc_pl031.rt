@@ -12,10 +12,10 @@ ghost use Rattle.std.specs.Prelude.{◌≡◌, ◌↔◌, ◌<◌, ◌^◌, ◌=
 ghost use Rattle.std.specs.Bool.{OnTrue, OnFalse};
 ghost use Rattle.std.proofs.Common.{◌∙◌};
 ghost use Rattle.std.specs.Int.{w32, to_le_bytes};
-ghost use Rattle.superio_core.specs.Rtc.Step.{guest_time_in, rtc_irq_level, IsAlarmDue, after_alarm, clock_response, clock_step};
+ghost use Rattle.superio_core.specs.Rtc.Step.{rtc_irq_level, IsAlarmDue, after_alarm, clock_response, clock_step};
 ghost use Rattle.vm_superio.specs.Rtc.{RtcEvent, invalid_read, invalid_write, ClockDevice, clock_events};
 ghost use Rattle.superio_laws.specs.Rtc.{GoesOnFrom, ReadsByHistory, GoesOnByHistory};
-ghost use Rattle.superio_core.specs.Rtc.{state_of_clock, read, write, write_of, clock_register_at, is_readable, is_writable, host_time, bytes_left, fresh_clock};
+ghost use Rattle.superio_core.specs.Rtc.{state_of_clock, read, write, write_of, clock_register_at, is_readable, is_writable, host_time, guest_time_in, bytes_left, fresh_clock};
 
 use std::marker::Model;
 pub use superio_core::rtc_pl031::{ClockRegister, Pl031, RtcState, encoding};
@@ -199,14 +199,8 @@ impl<EV: RtcEvents> Rtc<EV> {
     /// First, if an alarm is set and guest time has reached it, the alarm raises bit 0 of the raw interrupt status and
     /// is cleared.
     ///
-    /// RTCMR (0x004) stores the value and drops any alarm set before. If the value is greater than guest time, it sets
-    /// the alarm. If they are equal, it raises bit 0 at once. If the value is past, it does neither. RTCLR (0x008)
-    /// stores the value and makes it guest time. RTCCR (0x00C) on 1 clears RTCLR and makes guest time the host's; other
-    /// values have no effect. RTCIMSC (0x010) stores bit 0 only. RTCICR (0x01C) clears the raw interrupt status bits
-    /// that the value has set.
-    ///
-    /// A write at any other offset stores nothing and calls the events object's `invalid_write` once, before it
-    /// returns. No write makes another call.
+    /// [`ClockRegister`] says what each register takes. A write at an offset that takes none stores nothing and calls
+    /// the events object's `invalid_write` once, before it returns. No write makes another call.
     pub fn write(&mut self, offset: u16, bytes: &[u8; 4], now: u64)
         ensures state { self.new.state ≡ clock_step self.old.state (write_of offset bytes.now now) }
         ensures invalid { OnFalse (is_writable (clock_register_at offset))
@@ -244,12 +238,8 @@ impl<EV: RtcEvents> Rtc<EV> {
     /// 1970. Only the low 32 bits of `now` count. A read changes a register only if it finds the alarm due, as a write
     /// does first.
     ///
-    /// RTCDR (0x000) shows guest time, and RTCCR (0x00C) shows 1. RTCMIS (0x018) shows the bits that the raw interrupt
-    /// status and the mask both have. RTCMR (0x004), RTCLR (0x008), RTCIMSC (0x010) and RTCRIS (0x014) show their
-    /// fields. Offsets 0xFE0 to 0xFFF show the identification, each byte at four offsets.
-    ///
-    /// A read at any other offset, including RTCICR (0x01C), leaves `bytes` unchanged and calls the events object's
-    /// `invalid_read` once, before it returns. No read makes another call.
+    /// [`ClockRegister`] says what each register shows. A read at an offset that shows nothing leaves `bytes` unchanged
+    /// and calls the events object's `invalid_read` once, before it returns. No read makes another call.
     pub fn read(&mut self, offset: u16, bytes: &mut [u8; 4], now: u64)
         ensures response { bytes.new ≡ bytes_left (clock_response self.old.state (read offset now)) bytes.old }
         ensures invalid { OnFalse (is_readable (clock_register_at offset)) (bytes.new ≡ bytes.old) }

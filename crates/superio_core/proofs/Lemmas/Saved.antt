@@ -1,20 +1,14 @@
 -- SPDX-License-Identifier: Apache-2.0 OR BSD-3-Clause
 -- Lemmas on the encoding of a saved state. Other crates' proofs use the public ones too.
-use Rattle.std.proofs.Common.{◌≡◌, ℕ, suc, ◌<◌, ◌^◌, Bool, true, false, ap, sym, ◌∙◌, arith, refl, List, drop, ◌==◌, Some, None, IfOk, Result, Ok, Err, ℤ, pos, negsuc, FitsSigned, length, [], ◌∷◌, take, ◌++◌, replicate}
+use Rattle.std.proofs.Common.{◌≡◌, ℕ, suc, ◌-◌, ◌<◌, ◌^◌, Bool, true, false, ap, sym, ◌∙◌, arith, refl, List, drop, ◌==◌, Some, None, IfOk, Result, Ok, Err, ℤ, pos, negsuc, FitsSigned, length, [], ◌∷◌, take, ◌++◌, replicate}
 use Rattle.std.specs.Result.{result_err}
-use Rattle.std.specs.Int.{w64, w16, to_le_bytes, from_le_bytes, cast_unsigned, cast_signed}
+use Rattle.std.specs.Int.{w64, w32, w16, to_le_bytes, from_le_bytes, cast_unsigned, cast_signed}
 use Rattle.std.proofs.lemmas.Int.{to_z-of_z}
 use Rattle.std.proofs.lemmas.Nat.{from_le_bytes-to_le_bytes_4, from_le_bytes-to_le_bytes_8}
 use Rattle.superio_core.specs.declared.rtc_pl031.encoding.RtcState.{RtcState}
 use Rattle.superio_core.specs.Saved.{SavedStateError, magic, serial_kind, version, header, flag, numbers_in, clock_encoding, clock_fault, IsClock, SerialEncodingLaw, ClockEncodingLaw, OneSerialStateLaw, OneClockStateLaw, serial_encoding, serial_fault, TooShort, NotASavedState, OtherDevice, UnknownVersion, WrongLength, TooManyBytes, InvalidArmed}
+use Rattle.superio_core.specs.Rtc.{fresh_clock}
 use Rattle.superio_core.specs.Serial.{state_of_bytes, fresh_state, State}
-
-of-same : (lr mr imsc ris lr' mr' imsc' ris' : ℕ) (offset offset' : ℤ) (armed armed' : Bool) →
-    lr ≡ lr' → mr ≡ mr' → imsc ≡ imsc' → ris ≡ ris' → offset ≡ offset' → armed ≡ armed' →
-    let a : RtcState = record { lr = lr; offset = offset; mr = mr; imsc = imsc; ris = ris; armed = armed } in
-    let b : RtcState = record { lr = lr'; offset = offset'; mr = mr'; imsc = imsc'; ris = ris'; armed = armed' } in
-    a ≡ b
-of-same lr mr imsc ris lr' mr' imsc' ris' offset offset' armed armed' e f g h i j = cc
 
 flag-back : (set : Bool) → (flag set == 1) ≡ set
 flag-back true = refl
@@ -24,19 +18,19 @@ offset-bits : (offset : ℤ) → FitsSigned w64 offset → cast_unsigned w64 off
 offset-bits (pos n) fits = let small : n < 2 ^ 63 = fits.sfits in omega arith
 offset-bits (negsuc n) fits = omega arith
 
-offset-back : (offset : ℤ) (n : ℕ) → n ≡ cast_unsigned w64 offset → n < 2 ^ 64 → cast_signed w64 (from_le_bytes w64 (to_le_bytes w64 n)) ≡ cast_signed w64 (cast_unsigned w64 offset)
-offset-back offset n e h = ap (cast_signed w64) (from_le_bytes-to_le_bytes_8 n h ∙ e)
+-- a number is read from its place, whatever comes after it
+number-back : (n : ℕ) (rest : List ℕ) → n < 2 ^ 32 → from_le_bytes w32 (to_le_bytes w32 n ++ rest) ≡ n
+number-back n rest fits = from_le_bytes-to_le_bytes_4 n fits
 
--- they are those of the state that has this encoding
+offset-back : (offset : ℤ) (rest : List ℕ) → FitsSigned w64 offset
+    → cast_signed w64 (from_le_bytes w64 (to_le_bytes w64 (cast_unsigned w64 offset) ++ rest)) ≡ offset
+offset-back offset rest fits =
+    ap (cast_signed w64) (from_le_bytes-to_le_bytes_8 (cast_unsigned w64 offset) (offset-bits offset fits))
+    ∙ to_z-of_z w64 offset fits
+
+-- so the numbers are those of the state that has this encoding
 pub numbers_in-encoding : (state : RtcState) → IsClock state → numbers_in (clock_encoding state) ≡ state
-numbers_in-encoding state fits =
-    of-same _ _ _ _ _ _ _ _ _ _ _ _
-    (from_le_bytes-to_le_bytes_4 state.lr fits.lr)
-    (from_le_bytes-to_le_bytes_4 state.mr fits.mr)
-    (from_le_bytes-to_le_bytes_4 state.imsc fits.imsc)
-    (from_le_bytes-to_le_bytes_4 state.ris fits.ris)
-    (offset-back state.offset (cast_unsigned w64 state.offset) refl (offset-bits state.offset fits.offset) ∙ to_z-of_z w64 state.offset fits.offset)
-    (flag-back state.armed)
+numbers_in-encoding state fits = search (number-back, offset-back, flag-back)
 
 pub one_clock_state : OneClockStateLaw
 one_clock_state a b a_fits b_fits same =
@@ -83,7 +77,11 @@ two_held = record fresh_state {
 
 -- guest time is an hour behind, and an alarm is set
 abbrev hour_behind : RtcState
-hour_behind = record { lr = 0x65920080; offset = negsuc 3599; mr = 0x659200BC; imsc = 1; ris = 0; armed = true }
+hour_behind = record fresh_clock { lr = 0x65920080; offset = negsuc 3599; mr = 0x659200BC; imsc = 1; armed = true }
+
+-- all bytes but the last
+abbrev without_last : (bytes : List ℕ) → List ℕ
+without_last bytes = take (length bytes - 1) bytes
 
 good : serial_fault (serial_encoding two_held) ≡ None
 good = refl
@@ -123,5 +121,5 @@ full_encoding law state full = law state (omega (arith, full))
 one_more_byte : serial_fault (header serial_kind 74 ++ replicate 74 0) ≡ Some TooManyBytes
 one_more_byte = refl
 
-armed_twice : clock_fault (take 32 (clock_encoding hour_behind) ++ 0x02 ∷ []) ≡ Some InvalidArmed
+armed_twice : clock_fault (without_last (clock_encoding hour_behind) ++ 0x02 ∷ []) ≡ Some InvalidArmed
 armed_twice = refl

@@ -1,13 +1,9 @@
 -- SPDX-License-Identifier: Apache-2.0 OR BSD-3-Clause
 -- The step of one access to the clock, in any state: its response and the state that it leaves. And when the alarm is
 -- due.
-use Rattle.std.specs.Prelude.{ℕ, ◌%◌, pos, ◌+ℤ◌, ◌-ℤ◌, ◌==◌, ◌&&◌, Bool, nat_lt, nat_le, false, if◌then◌else◌, List, [], ◌∷◌, Option, None, ◌≡◌, ◌+◌, ◌^◌, ◌<◌, ◌≤◌, ℤ, true, Some, bit_and}
-use Rattle.superio_core.specs.Rtc.{RtcState, Access, read, write, ClockRegister, Mr, Lr, Cr, Imsc, Icr, clock_register_at, host_time, guest_time, clock_register_read}
-use Rattle.superio_core.specs.Bits.{with_bits, without_bits}
-
--- guest time at a host's time
-abbrev pub guest_time_in : (state : RtcState) (time : ℕ) → ℕ
-guest_time_in state time = guest_time (pos time +ℤ state.offset) time
+use Rattle.std.specs.Prelude.{ℕ, ◌%◌, pos, ◌+ℤ◌, ◌==◌, ◌&&◌, Bool, nat_le, false, if◌then◌else◌, List, [], ◌∷◌, Option, None, ◌≡◌, ◌+◌, ◌^◌, ◌<◌, ◌≤◌, ℤ, true, Some, bit_and}
+use Rattle.superio_core.specs.Rtc.{RtcState, Access, read, write, clock_register_at, host_time, guest_time, guest_time_in, clock_register_read, after_write}
+use Rattle.superio_core.specs.Bits.{with_bits}
 
 -- an alarm is set, and guest time has reached the match
 abbrev pub is_alarm_reached : (state : RtcState) (time : ℕ) → Bool
@@ -26,25 +22,6 @@ clock_response state (read offset now) =
     let found = after_alarm state (host_time now) in
     clock_register_read (clock_register_at offset) (guest_time_in found (host_time now)) found
 clock_response state (write _ _ _) = None
-
--- a match write sets an alarm if guest time has still to reach the value, and raises at once if it is the value
-abbrev pub match_write : (state : RtcState) (value time : ℕ) → RtcState
-match_write state value time =
-    let guest = guest_time_in state time in
-    record state {
-      mr = value;
-      ris = if value == guest then with_bits state.ris 1 else state.ris;
-      armed = nat_lt guest value;
-    }
-
--- the state that a write leaves, at the host's time
-abbrev pub after_write : (state : RtcState) (register : ClockRegister) (value time : ℕ) → RtcState
-after_write state Mr value time = match_write state value time
-after_write state Lr value time = record state { lr = value; offset = pos value -ℤ pos time }
-after_write state Cr value time = if value == 1 then record state { lr = 0; offset = pos 0 } else state
-after_write state Imsc value time = record state { imsc = value % 2 }
-after_write state Icr value time = record state { ris = without_bits state.ris value }
-after_write state _ value time = state
 
 -- the state that an access leaves: a read changes no register itself
 abbrev pub clock_step : (state : RtcState) (access : Access) → RtcState
