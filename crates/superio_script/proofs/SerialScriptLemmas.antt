@@ -295,9 +295,9 @@ pub shown-step :
     IsSerialLineStep line reply port port
 shown-step line port reply replies same is mask trace at = without_choice
     (is ∙ ap (λ (s : State). shown line s port.trigger port.events) at.state
-     ∙ ap (λ (l : Line). shown line (state_of_history fresh_state trace) l port.events) at.interrupt_line
-     ∙ ap (λ (counts : Counts). shown line (state_of_history fresh_state trace) (interrupt_line_after mask (calls_made trace)) counts) at.counts
-     ∙ sym (replies mask trace))
+    ∙ ap (λ (l : Line). shown line (state_of_history fresh_state trace) l port.events) at.interrupt_line
+    ∙ ap (λ (counts : Counts). shown line (state_of_history fresh_state trace) (interrupt_line_after mask (calls_made trace)) counts) at.counts
+    ∙ sym (replies mask trace))
     (subst (λ (after : Trace). IsAfter mask after port) (sym (same mask trace)) at)
 
 pub output-step :

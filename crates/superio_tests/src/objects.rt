@@ -48,8 +48,14 @@ pub fn drawn_state(alloc: Global, seed: u64, held: usize) -> Result<SerialState,
 pub fn drawn_clock(seed: u64) -> RtcState {
     let [l0, l1, l2, l3, m0, m1, m2, m3] = drawn(seed).to_le_bytes();
     let [i0, i1, i2, i3, r0, r1, r2, r3] = drawn(!seed).to_le_bytes();
-    let (lr, mr) = (u32::from_le_bytes([l0, l1, l2, l3]), u32::from_le_bytes([m0, m1, m2, m3]));
-    let (imsc, ris) = (u32::from_le_bytes([i0, i1, i2, i3]), u32::from_le_bytes([r0, r1, r2, r3]));
+    let (lr, mr) = (
+        u32::from_le_bytes([l0, l1, l2, l3]),
+        u32::from_le_bytes([m0, m1, m2, m3]),
+    );
+    let (imsc, ris) = (
+        u32::from_le_bytes([i0, i1, i2, i3]),
+        u32::from_le_bytes([r0, r1, r2, r3]),
+    );
     let offset = i64::from_le_bytes(drawn(drawn(seed)).to_le_bytes());
     RtcState {
         armed: seed % 2 == 0,
