@@ -1,9 +1,9 @@
 -- SPDX-License-Identifier: Apache-2.0 OR BSD-3-Clause
 -- A whole machine as one value: what an event does to it, what is replied, and what a list of events does.
-use Rattle.std.specs.Prelude.{◌≡◌, ◌≤◌, ℕ, ◌+◌, ◌-◌, Bool, true, false, ◌&&◌, ◌||◌, not, nat_lt, if◌then◌else◌, List, [], ◌∷◌, ◌++◌, length, drop, Option, Some, None, unwrap_or, ⊤}
+use Rattle.std.specs.Prelude.{◌≡◌, ◌≤◌, ℕ, ◌+◌, ◌-◌, Bool, true, false, ◌==◌, ◌&&◌, ◌||◌, not, nat_lt, if◌then◌else◌, List, [], ◌∷◌, ◌++◌, length, drop, Option, Some, None, unwrap_or, ⊤}
 use Rattle.std.specs.Option.{option_map, option_map_or}
 use Rattle.circular_buffer.specs.Buffer.{Buffer, buffer}
-use Rattle.vm_superio.specs.Serial.{Asked, Sent, State, fresh_state, not_empty, Op, Read, Write, Enqueue, CharacterTimeout, sent_by, state_of_uart, step, step_response, decode_in, step_calls, conditions_due}
+use Rattle.vm_superio.specs.Serial.{Asked, Sent, State, fresh_state, has_bits, not_empty, Op, Read, Write, Enqueue, CharacterTimeout, sent_by, state_of_uart, step, step_response, decode_in, step_calls, conditions_due}
 use Rattle.superio_laws.specs.Rtc.{RtcState, rtc_irq_level, clock_step, clock_response, Access, read, write, fresh_clock, state_of_clock}
 use Rattle.superio_laws.specs.Serial.History.{byte_read, accepted_by}
 use Rattle.superio_examples.specs.Bus.{serial_offset, other_byte, is_reset, Keyboard}
@@ -28,7 +28,7 @@ pub record Machine : Type 0 where
   pub output : Waiting
   -- the host's time, in seconds since 1970
   pub moment : ℕ
-  -- an interrupt was refused since the last timer
+  -- an interrupt was refused, and no timer has asked for it since
   pub is_refused : Bool
   -- input need not wait until the guest is ready
   pub is_early : Bool
@@ -111,9 +111,16 @@ abbrev pub moment_after : (event : MachineEvent) (m : Machine) → ℕ
 moment_after (Moment moment) m = moment
 moment_after _ m = m.moment
 
+-- a condition is pending, and IER enables none that is
+abbrev pub is_disabled : (s : State) → Bool
+is_disabled s =
+    (length (conditions_due s) == 0)
+    && (has_bits s.interrupt_identification 0x02 || has_bits s.interrupt_identification 0x04)
+
+-- a timer asks for what was refused, unless IER disables it
 abbrev pub refused_after : (event : MachineEvent) (m : Machine) → Bool
 refused_after Refused m = true
-refused_after Timer m = false
+refused_after Timer m = m.is_refused && is_disabled (serial_after Timer m)
 refused_after _ m = m.is_refused
 
 -- the event alone

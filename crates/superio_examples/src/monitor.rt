@@ -4,6 +4,8 @@
 //! A loop around it makes [`MachineEvent`]s of what its hypervisor, its terminal and its timers report, passes them to
 //! [`Monitor::run`], and carries out the replies. `run` calls no object, so its claims depend on none.
 ghost use Rattle.std.specs.Prelude.{◌≡◌, ◌≤◌, map, OnOk, OnErr, IfOk};
+ghost use Rattle.vm_superio.specs.Serial.{state_of_uart};
+ghost use Rattle.superio_examples.specs.Monitor.{is_disabled};
 
 use crate::bus::{COM1, I8042_COMMAND, I8042_DATA, serial_offset};
 use crate::mmio::offset_in;
@@ -85,6 +87,15 @@ pub struct Monitor {
     pub is_early: bool,
     /// The guest has enabled RDA and not THRE since the last reset. No test of a port does so.
     pub is_ready: bool,
+}
+
+/// Whether a condition is pending, and IER enables none that is.
+#[tactic(auto, unfolding(superio_core::specs::Bits::has_bits))]
+fn is_disabled(port: &Uart) -> bool
+    ensures { result ≡ is_disabled (state_of_uart port.now) }
+{
+    let identification = port.registers.interrupt_identification;
+    port.interrupts_due() == 0 && (identification & 0x02 == 0x02 || identification & 0x04 == 0x04)
 }
 
 impl Monitor {
@@ -254,7 +265,8 @@ impl Monitor {
         (Answer::Done, 0)
     }
 
-    /// A timer: the clock finds its alarm, bytes that are held interrupt the guest, and refused interrupts are retried.
+    /// A timer: the clock finds its alarm, bytes that are held interrupt the guest, and refused interrupts are retried,
+    /// later if IER disables them now.
     fn time_out(&mut self) -> (Answer, u8)
         ensures acts { Acts MachineEvent.Timer result.0 result.1 (machine_of self.old) (machine_of self.new) }
     {
@@ -265,7 +277,7 @@ impl Monitor {
         } else {
             raised
         };
-        self.is_refused = false;
+        self.is_refused = self.is_refused && is_disabled(&self.port);
         (Answer::Done, interrupts)
     }
 

@@ -171,7 +171,7 @@ const CLOCK: u64 = 0x0901_0000;
 
 /// Events, and to each the answer, how often the interrupt is raised, and whether the clock's line is up. At most one
 /// byte waits.
-const SESSION: [(MachineEvent, Answer, u8, bool); 48] = [
+const SESSION: [(MachineEvent, Answer, u8, bool); 54] = [
     // What is typed waits while the guest tests its port.
     (Typed(b'a'), Done, 0, false),
     (PortWrite(0x3F9, 0x0F), Done, 1, false),
@@ -189,6 +189,13 @@ const SESSION: [(MachineEvent, Answer, u8, bool); 48] = [
     // It leaves the byte in the FIFO.
     (PortRead(0x3FA), Shows(0xC1), 1, false),
     (Refused, Done, 0, false),
+    (Timer, Done, 1, false),
+    (Timer, Done, 0, false),
+    // What IER disables is asked for after the write that enables it.
+    (Refused, Done, 0, false),
+    (PortWrite(0x3F9, 0x00), Done, 0, false),
+    (Timer, Done, 0, false),
+    (PortWrite(0x3F9, 0x01), Done, 0, false),
     (Timer, Done, 1, false),
     (Timer, Done, 0, false),
     (PortRead(0x3F8), Shows(0x62), 0, false),

@@ -3,16 +3,34 @@
 // These are the lines that the prover checks, without their contracts. Change them there.
 //! The PL031's register map.
 
-// The offsets of the registers. `ClockRegister` says what each is.
+/// The data register.
 pub(super) const RTCDR: u16 = 0x000;
+
+/// The match register.
 pub(super) const RTCMR: u16 = 0x004;
+
+/// The load register.
 pub(super) const RTCLR: u16 = 0x008;
+
+/// The control register.
 pub(super) const RTCCR: u16 = 0x00C;
+
+/// The interrupt mask.
 pub(super) const RTCIMSC: u16 = 0x010;
+
+/// The raw interrupt status.
 pub(super) const RTCRIS: u16 = 0x014;
+
+/// The masked interrupt status.
 pub(super) const RTCMIS: u16 = 0x018;
+
+/// The interrupt clear register.
 pub(super) const RTCICR: u16 = 0x01C;
+
+/// The first offset of the peripheral and PrimeCell identification.
 pub(super) const AMBA_ID_LOW: u16 = 0xFE0;
+
+/// The last offset of the identification.
 pub(super) const AMBA_ID_HIGH: u16 = 0xFFF;
 
 /// The identification bytes, each at four offsets.
