@@ -475,10 +475,9 @@ bool superio_serial_interrupt_line(const superio_serial *port)
  * held. The other fields are free. A new port is coherent. Every call but a
  * load keeps a port coherent.
  *
- * If you restore a port from an untrusted source, you may refuse one that is
- * not coherent. This is optional: every call is memory-safe and well defined,
- * whatever the struct holds. To refuse only too many bytes, as the Rust crate
- * vm-superio does, compare `len` with 64.
+ * If you do not trust the source of a saved port, refuse one that is not
+ * coherent: an interrupt may be missing in it, or come without a byte. Every
+ * call is memory-safe and well defined in any case, whatever the struct holds.
  */
 bool superio_serial_is_coherent(const superio_serial *port)
     SUPERIO_MUST_USE SUPERIO_NONNULL SUPERIO_ACCESS(read_only, 1);

@@ -64,7 +64,8 @@ impl SerialState {
     /// 1, 2, 4 or 6, and RDA is pending only if bytes are held. Every state of a port that began as a new one is
     /// coherent.
     ///
-    /// Restoring any other state is safe too. You may refuse an incoherent one from an untrusted source.
+    /// Restoring any other state is safe too. If you do not trust its source, refuse an incoherent one: in it an
+    /// interrupt may be missing, or come without a byte.
     pub fn is_coherent(&self) -> bool {
         self.port().map_or(false, |port| port.is_coherent())
     }
