@@ -98,7 +98,10 @@ export class Serial {
   characterTimeout(): number;
   /** How many bytes there is room for: 64 less those that are held. */
   fifoCapacity(): number;
-  /** How often to ask for the interrupt now: once for each condition that is pending and enabled, 0 to 2 times. */
+  /**
+   * How often to ask for the interrupt now: once for each condition that is pending and enabled, 0 to 2 times. While
+   * IER disables what is pending, it is 0: ask again after each write at offset 1.
+   */
   interruptsDue(): number;
   /**
    * Whether the interrupt line is up: while a condition is pending that IER enables. For an interrupt controller that
