@@ -1,5 +1,7 @@
 # SPDX-License-Identifier: Apache-2.0 OR BSD-3-Clause
 """What the tests of the proofs share."""
+import re
+
 import pytest
 from harness import ROOT, check
 
@@ -15,10 +17,9 @@ def checked(tmp_path_factory):
 
 @pytest.fixture
 def computed(tmp_path):
-    """What Coq prints for some lines after the words that translations use."""
-    def run(lines):
-        words = [(ROOT / f"recheck/{name}.v").read_text() for name in ("Prelude", "Machine")]
-        text = "\n".join([*words, lines]).replace("Require Import Recheck.Prelude.\n", "")
-        (tmp_path / "Cases.v").write_text(text)
+    """What Coq prints for some lines after the words that translations use, all in one file."""
+    def run(lines, words=("Prelude", "Machine")):
+        text = "\n".join([*((ROOT / f"recheck/{name}.v").read_text() for name in words), lines])
+        (tmp_path / "Cases.v").write_text(re.sub(r"^Require Import Recheck\..*\n", "", text, flags=re.M))
         return rerun.coqc(tmp_path, "Cases")
     return run
