@@ -12,7 +12,7 @@ import rerun
 def checked(tmp_path_factory):
     """The folder with all files, after tools/recheck has passed, and what it printed."""
     folder = tmp_path_factory.mktemp("recheck")
-    return folder, check([ROOT / "tools/recheck", "--keep", folder])
+    return folder, check([ROOT / "tools/recheck", "--keep", folder], timeout=1800)
 
 
 @pytest.fixture
