@@ -52,8 +52,13 @@ def translated(root):
     return files, [rust2coq.coq_name(name) for name in functions] + [shell2coq.coq_name(name) for name in of_shell]
 
 
+# coqc fills 256 MB with new values before it collects any. With 32 MB it takes half the memory, and less time.
+HEAP = {"OCAMLRUNPARAM": "s=4M,o=1000"}
+
+
 def coqc(folder, name):
-    run = subprocess.run(["coqc", "-w", "none", "-Q", ".", "Recheck", f"{name}.v"], cwd=folder, capture_output=True, text=True)
+    run = subprocess.run(["coqc", "-w", "none", "-Q", ".", "Recheck", f"{name}.v"], cwd=folder, env=os.environ | HEAP,
+                         capture_output=True, text=True)
     if run.returncode:
         raise Failed(f"{name}.v is not proved:\n{run.stdout}{run.stderr}")
     return run.stdout

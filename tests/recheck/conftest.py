@@ -1,5 +1,7 @@
 # SPDX-License-Identifier: Apache-2.0 OR BSD-3-Clause
 """What the tests of the proofs share."""
+import re
+
 import pytest
 from harness import ROOT, check
 
@@ -11,15 +13,14 @@ def checked(tmp_path_factory):
     """The folder with all files, after tools/recheck has passed as a new user runs it, and what it printed."""
     folder = tmp_path_factory.mktemp("recheck")
     environment = {"HOME": str(folder.parent), "PATH": "/usr/bin:/bin"}
-    return folder, check([ROOT / "tools/recheck", "--keep", folder], env=environment)
+    return folder, check([ROOT / "tools/recheck", "--keep", folder], env=environment, timeout=1800)
 
 
 @pytest.fixture
 def computed(tmp_path):
-    """What Coq prints for some lines after the words that translations use."""
-    def run(lines):
-        words = [(ROOT / f"recheck/{name}.v").read_text() for name in ("Prelude", "Machine")]
-        text = "\n".join([*words, lines]).replace("Require Import Recheck.Prelude.\n", "")
-        (tmp_path / "Cases.v").write_text(text)
+    """What Coq prints for some lines after the words that translations use, all in one file."""
+    def run(lines, words=("Prelude", "Machine")):
+        text = "\n".join([*((ROOT / f"recheck/{name}.v").read_text() for name in words), lines])
+        (tmp_path / "Cases.v").write_text(re.sub(r"^Require Import Recheck\..*\n", "", text, flags=re.M))
         return rerun.coqc(tmp_path, "Cases")
     return run

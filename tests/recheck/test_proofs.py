@@ -48,14 +48,10 @@ def functions():
     return rerun.translated(ROOT)[1]
 
 
-def changed(checked, functions, folder, changes):
-    """What the run says after changes of Claims.v."""
+def said(checked, functions, folder, claims):
+    """What the run says of another Claims.v."""
     shutil.copytree(checked[0], folder)
-    text = (folder / "Claims.v").read_text()
-    for old, new in changes:
-        text, count = re.subn(old, new, text, count=1)
-        assert count == 1, old
-    (folder / "Claims.v").write_text(text)
+    (folder / "Claims.v").write_text(claims)
     rerun.coqc(folder, "Claims")
     with pytest.raises(rerun.Failed) as failed:
         rerun.audit(folder, functions)
@@ -64,7 +60,11 @@ def changed(checked, functions, folder, changes):
 
 @pytest.fixture(scope="module")
 def said_of_gaps(checked, functions, tmp_path_factory):
-    return changed(checked, functions, tmp_path_factory.mktemp("gaps") / "all", [(old, new) for old, new, _ in GAPS.values()])
+    text = (checked[0] / "Claims.v").read_text()
+    for old, new, _ in GAPS.values():
+        text, count = re.subn(old, new, text, count=1)
+        assert count == 1, old
+    return said(checked, functions, tmp_path_factory.mktemp("gaps") / "all", text)
 
 
 @pytest.mark.parametrize("name", GAPS)
@@ -73,6 +73,10 @@ def test_a_gap_fails(name, said_of_gaps):
 
 
 def test_a_law_of_the_same_name_fails(checked, functions, tmp_path):
-    said = changed(checked, functions, tmp_path / "changed", [(
-        r"Theorem retries : RetryLaw\. .*", "Definition RetryLaw := True.\nTheorem retries : RetryLaw. Proof. exact I. Qed.")])
-    assert said.startswith("Audit.v is not proved")
+    """A theorem about another law that is named the same. The file has this theorem alone."""
+    found = said(checked, functions, tmp_path / "changed", """Require Import Recheck.Definitions.
+Definition RetryLaw := True.
+Theorem retries : RetryLaw. Proof. exact I. Qed.
+""")
+    assert found.startswith("Audit.v is not proved")
+    assert 'has type "Claims.RetryLaw" while it is expected to have type "Definitions.RetryLaw"' in " ".join(found.split())

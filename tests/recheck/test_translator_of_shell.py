@@ -1,10 +1,9 @@
 # SPDX-License-Identifier: Apache-2.0 OR BSD-3-Clause
 """The translator of the shell refuses what it does not know, and is right about the calls and results of what it knows."""
 import re
-import subprocess
 
 import pytest
-from harness import ROOT, check
+from harness import check
 from shell_cases import REFUSED, RIGHT
 
 import rust2coq
@@ -103,7 +102,7 @@ def test_what_is_not_asked_for_may_be_unknown(tmp_path):
 
 
 @pytest.mark.needs("coq", "cargo")
-def test_right(tmp_path):
+def test_right(computed, tmp_path):
     """For eight scripts of answers, both make the same calls and return the same number, or panic."""
     modules = "".join(f"mod case_{i} {{ {source} {OBJECTS} }}\n" for i, source in enumerate(RIGHT.values()))
     calls = "".join(f"    for answers in 0..{len(SCRIPTS)} {{ case_{i}::show(answers); }}\n" for i in range(len(RIGHT)))
@@ -111,17 +110,12 @@ def test_right(tmp_path):
     check(["rustc", "--edition", "2021", "-C", "debug-assertions=on", "-o", tmp_path / "main", tmp_path / "main.rs"])
     expected = check([tmp_path / "main"]).splitlines()
 
-    text = "Require Import Recheck.Prelude Recheck.Machine Recheck.Acts.\n"
+    text = ""
     for i, source in enumerate(RIGHT.values()):
         body = "\n".join(line for line in translated(tmp_path / str(i), source).splitlines() if not line.startswith("Require"))
         shows = "".join(f"Compute show {script}.\n" for script in SCRIPTS)
         text += f"Module Case{i}.\n{body}\n{COQ}{shows}End Case{i}.\n"
-    for name in ("Prelude", "Machine", "Acts"):
-        (tmp_path / f"{name}.v").write_text((ROOT / f"recheck/{name}.v").read_text())
-    (tmp_path / "Cases.v").write_text(text)
-    for name in ("Prelude", "Machine", "Acts", "Cases"):
-        run = subprocess.run(["coqc", "-w", "none", "-Q", ".", "Recheck", f"{name}.v"], cwd=tmp_path, capture_output=True, text=True)
-        assert run.returncode == 0, run.stdout + run.stderr
-    found = [re.sub(r"\s+", " ", part) for part in re.findall(r"^ +=\s+(\(.*?\))\s+:", run.stdout, re.M | re.S)]
+    printed = computed(text, ("Prelude", "Machine", "Acts"))
+    found = [re.sub(r"\s+", " ", part) for part in re.findall(r"^ +=\s+(\(.*?\))\s+:", printed, re.M | re.S)]
     names = [f"{name}, {script}" for name in RIGHT for script in SCRIPTS]
     assert dict(zip(names, found)) == dict(zip(names, expected))
