@@ -21,6 +21,8 @@ const RTCDR: u16 = 0x000;
 const RTCMR: u16 = 0x004;
 /// The offset of RTCLR, which sets guest time.
 const RTCLR: u16 = 0x008;
+/// The moment of an access to which it makes no difference.
+const ANY_MOMENT: u64 = 0;
 
 /// Receives a clock's invalid accesses. The clock calls it for nothing else. An `Arc` of an events object is an events
 /// object too.
@@ -306,12 +308,12 @@ impl<EV: RtcEvents> Rtc<EV> {
         let is_valid = if self.is_armed() {
             write_now(&mut self.clock, offset, value)
         } else if offset > RTCLR {
-            self.clock.write(offset, value, 0) // the registers of guest time come first
+            self.clock.write(offset, value, ANY_MOMENT) // the registers of guest time come first
         } else {
             match offset {
                 RTCMR => write_match_now(&mut self.clock, value),
                 RTCLR => write_load_now(&mut self.clock, value),
-                _ => self.clock.write(offset, value, 0),
+                _ => self.clock.write(offset, value, ANY_MOMENT),
             }
         };
         self.report_write(is_valid);
@@ -338,7 +340,7 @@ impl<EV: RtcEvents> Rtc<EV> {
     /// [`read_at`](Rtc::read_at).
     pub fn read(&mut self, offset: u16, data: &mut [u8; 4]) {
         if offset != RTCDR && !self.is_armed() {
-            return self.read_at(offset, data, 0);
+            return self.read_at(offset, data, ANY_MOMENT);
         }
         let value = match offset {
             RTCDR => read_guest_time_now(&mut self.clock),
