@@ -72,7 +72,7 @@
  *     // What `retry` does.
  *     if (is_refused) // `times` are among these
  *         times = superio_serial_interrupts_due(&port);
- *     if (times > 0) // 0 while IER disables what was refused
+ *     if (times > 0) // 0 if IER disables all that is pending
  *         is_refused = false;
  *     interrupt(times);
  *
@@ -134,9 +134,9 @@
  * time drop bytes at once, until the reader takes some.
  *
  * Turns. A turn of the event loop comes after each return of its poll. Bound
- * the poll to some milliseconds in two cases: while an interrupt is refused;
- * and while bytes are held, if the guest's handler does not read IIR until
- * nothing is pending. If a guest's access begins such a case, wake the loop. A
+ * the poll to some milliseconds in two cases: after each refusal, as `retry_in`
+ * does; and while bytes are held, if the guest's handler does not read IIR
+ * until nothing is pending. If one begins in a guest's access, wake the loop. A
  * refusal in a turn must not end the next poll at once, or the loop spins. The
  * handler of such a guest runs about once in each turn. A timeout that comes
  * while the handler is running may interrupt the guest once more, with nothing
@@ -164,10 +164,10 @@
  *
  * A snapshot. A saved port has neither the input and the output that wait, nor
  * whether the guest is ready: save these beside it. For a clock, save `now` too
- * if it is not the host's time. After a load, ask for the interrupt as often as
- * superio_serial_interrupts_due says, or set the level. If it says 0, IER may
- * disable what is pending: set `is_refused` of the sketch above. So you need
- * not save whether an interrupt was refused.
+ * if it is not the host's time. After a load, set the level, or set
+ * `is_refused` of the sketch above and call `retry(0)`: this asks for what the
+ * guest has not taken, and later for what IER disables now. So you need not
+ * save whether an interrupt was refused.
  *
  * Break. The port has none. A guest that sends a break, by bit 0x40 of LCR,
  * sends nothing, and no call gives it one: ignore a break of your terminal, and
@@ -374,8 +374,12 @@ superio_serial_read_effects superio_serial_read(superio_serial *port,
  * The condition of a refused interrupt stays pending, so no later access asks
  * for it until the guest has acknowledged it. A guest that waits for the
  * interrupt may never do so. If your interrupt can be refused, ask again
- * later, as often as superio_serial_interrupts_due says. While it says 0, IER
- * may disable the condition: then ask again after each write at offset 1, too.
+ * later, as often as superio_serial_interrupts_due says. It does not count what
+ * IER disables: ask again after each write at offset 1, too, until an interrupt
+ * is taken. One that is taken for the other condition is enough for a driver
+ * whose handler reads IIR, since the read shows and ends both. For a driver
+ * that never reads IIR, and edges, ask that often after every write at offset
+ * 1, whether or not an interrupt was refused.
  *
  * A write to IER does not ask for a condition that was pending before it. If
  * you raise edges and your controller may lose one, such as at a masked input,
@@ -450,9 +454,9 @@ size_t superio_serial_fifo_capacity(const superio_serial *port)
  *
  * After a restore, ask that often, so that interrupts that the guest has not
  * taken reach it from their new source. Some milliseconds after a refused
- * interrupt, ask that often from your event loop, and if the result is 0, again
- * after each write at offset 1. The guest may then be interrupted again for a
- * condition that it knows of.
+ * interrupt, ask that often from your event loop, and again after writes at
+ * offset 1, as superio_serial_write says. The guest may then be interrupted
+ * again for a condition that it knows of, also long afterwards.
  */
 uint8_t superio_serial_interrupts_due(const superio_serial *port)
     SUPERIO_MUST_USE SUPERIO_NONNULL SUPERIO_ACCESS(read_only, 1);

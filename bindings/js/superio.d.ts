@@ -99,8 +99,8 @@ export class Serial {
   /** How many bytes there is room for: 64 less those that are held. */
   fifoCapacity(): number;
   /**
-   * How often to ask for the interrupt now: once for each condition that is pending and enabled, 0 to 2 times. While
-   * IER disables what is pending, it is 0: ask again after each write at offset 1.
+   * How often to ask for the interrupt now: once for each condition that is pending and enabled, 0 to 2 times. What IER
+   * disables does not count: ask again after each write at offset 1.
    */
   interruptsDue(): number;
   /**

@@ -65,7 +65,7 @@ static void interrupt(struct machine *machine, unsigned times) {
 static void retry(struct machine *machine, unsigned times) {
     if (machine->was_refused)
         times = superio_serial_interrupts_due(&machine->serial); /* these `times` among them */
-    if (times > 0) /* 0 while IER disables what was refused */
+    if (times > 0) /* 0 if IER disables all that is pending */
         machine->was_refused = false;
     interrupt(machine, times);
 }

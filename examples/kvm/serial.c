@@ -20,7 +20,7 @@ static void interrupt(unsigned times) {
         monitor_wake();
 }
 
-/* Asks also for what was refused, once IER enables it. */
+/* Asks also for what was refused, as far as IER enables it. */
 static void retry(unsigned times) {
     if (is_refused)
         times = superio_serial_interrupts_due(&port); /* these `times` among them */

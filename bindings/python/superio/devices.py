@@ -127,8 +127,8 @@ class Serial(Saved):
     def interrupts_due(self) -> int:
         """How often to ask for the interrupt now: once for each condition that is pending and enabled, 0 to 2 times.
 
-        Ask that often after a restore, and again some milliseconds after a refusal. While IER disables what is pending,
-        it is 0: ask again after each write at offset 1. The port does not change.
+        Ask that often after a restore, and again some milliseconds after a refusal. What IER disables does not count:
+        ask again after each write at offset 1. The port does not change.
         """
         return self._library.superio_serial_interrupts_due(self._pointer)
 

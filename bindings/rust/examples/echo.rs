@@ -111,7 +111,7 @@ impl<L: Trigger> Machine<L> {
         }
     }
 
-    /// Asks again for what was refused, once IER enables it.
+    /// Asks again for what was refused, as far as IER enables it.
     fn retry(&mut self) {
         if self.must_retry && self.port.interrupt_line() {
             self.must_retry = self.port.retry_interrupts().is_err();

@@ -123,7 +123,7 @@ impl<T: Trigger, W: Write> Serial<T, NoEvents, W> {
 impl<T: Trigger, EV: SerialEvents, W: Write> Serial<T, EV, W> {
     /// Makes a port from a saved state. Calls the trigger once for each condition that is both pending and enabled, so
     /// that the interrupts that the guest has not taken reach the new trigger. For one that IER disables, call
-    /// [`retry_interrupts`](Serial::retry_interrupts) after each write at offset 1.
+    /// [`retry_interrupts`](Serial::retry_interrupts) later.
     ///
     /// # Errors
     ///
@@ -236,9 +236,9 @@ impl<T: Trigger, EV: SerialEvents, W: Write> Serial<T, EV, W> {
     /// does not change.
     ///
     /// vm-superio 0.8.2 has no such call. If your trigger can refuse, make the call some milliseconds after a refusal,
-    /// and repeat it until it returns `Ok`. Otherwise a refused interrupt may never reach the guest. While IER disables
-    /// the condition, the call does nothing and returns `Ok`: then repeat it after each write at offset 1. The guest
-    /// may be interrupted again for a condition that it already knows of.
+    /// and repeat it until it returns `Ok`. It does not ask for what IER disables: make it after each write at offset
+    /// 1, too, until it returns `Ok` while the port's line is up. Otherwise a refused interrupt may never reach the
+    /// guest. The guest may be interrupted again for a condition that it already knows of.
     ///
     /// # Errors
     ///
