@@ -44,7 +44,8 @@ endef
 all: $(if $(filter $(BUILT),$(LIBRARIES)),from-source)
 	@$(find)
 	echo "Built: $$1 and $$2"
-	echo "Next: make check-library, and make install, which writes below $(PREFIX) if you give no PREFIX and no DESTDIR"
+	echo "Next, with the same variables: make check-library, and make install,"
+	echo "which writes below $(PREFIX) if you give no PREFIX and no DESTDIR"
 
 # Compiles the erased sources.
 from-source:

@@ -38,7 +38,7 @@ def test_properties(target):
 def test_plain_make_installs_nothing(words, tmp_path):
     tree = tmp_path / "a tree"
     said = check(["make", "-s", f"DESTDIR={tree}", *words], cwd=ROOT)
-    assert "Next: make check-library, and make install" in said
+    assert "Next, with the same variables: make check-library, and make install" in said
     assert "install -" not in said and not tree.exists()
 
 
