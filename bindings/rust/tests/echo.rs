@@ -59,7 +59,7 @@ enum Step {
 type Script = (&'static str, &'static [(Step, usize, usize)]);
 
 #[rustfmt::skip] // several steps a line
-const SCRIPTS: [Script; 9] = [
+const SCRIPTS: [Script; 10] = [
     ("bytes that are left interrupt again once the guest has read that nothing is pending", &[
         (Write(IER, 1), 0, 64), (Input(3), 1, 61), (Read(IIR, 0xC4), 0, 61), (ReadOut(1), 0, 62),
         (Read(LSR, 0x61), 0, 62), (Read(IIR, 0xC1), 1, 62), (Read(IIR, 0xC4), 0, 62),
