@@ -336,7 +336,7 @@ pub fn first_wrong(alloc: Global, port: &mut TestSerial<Narrow>, steps: &[Step])
     None
 }
 
-/// Takes these steps, each of which has to show what it has to.
+/// Takes these steps, and fails at the first that shows something else than it should.
 pub fn all_show(rt: &impl Abort, alloc: Global, port: &mut TestSerial<Narrow>, steps: &[Step]) {
     assert_eq!(rt;
         first_wrong(alloc, port, steps),

@@ -1,6 +1,6 @@
 -- SPDX-License-Identifier: Apache-2.0 OR BSD-3-Clause
--- The clock PL031: its registers, what an access is, which register it reaches, what a read of it shows and what a write
--- does to the state of a clock. The step of an access and the history of all accesses both rest on this map.
+-- The clock PL031: its registers, what an access is, which register it reaches, what a read of it shows, and what a
+-- write does to the state of a clock. The step of an access and the history of all accesses both rest on this map.
 pub mod Step
 use Rattle.std.specs.Prelude.{ℕ, ◌-◌, ◌/◌, ◌%◌, ◌^◌, ℤ, pos, negsuc, ◌+ℤ◌, ◌-ℤ◌, Bool, true, false, ◌==◌, ◌&&◌, nat_lt, nat_le, if◌then◌else◌, List, [], ◌∷◌, slice_index, Option, Some, None, bit_and, not}
 use Rattle.std.specs.Int.{w32, to_le_bytes, from_le_bytes}

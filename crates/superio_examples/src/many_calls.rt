@@ -27,8 +27,8 @@ pub enum Access {
     Write(u8, u8),
 }
 
-/// Makes the accesses in order, whatever the calls answer. However many they are, at most two more interrupts wait, and
-/// one more for each condition that a read acknowledges. LSR goes on showing the transmitter as it was.
+/// Makes the accesses in order, whatever the calls answer. However many they are, at most two more interrupts wait, two
+/// more for each read of IIR, and one more for each read at offset 0. LSR goes on showing the transmitter as it was.
 pub fn make_all<EV: SerialEvents, W: Write>(
     serial: &mut Serial<InterruptLine, EV, W>,
     accesses: &[Access],

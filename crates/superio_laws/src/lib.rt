@@ -33,8 +33,8 @@ pub fn held_bytes()
 {}
 
 /// The interrupt law, from a start whose IIR is 1, 2, 4 or 6: IIR shows the conditions raised and not acknowledged
-/// since, an entry is fitting exactly if it is fitting, and a restore makes the trigger calls that are due. The
-/// trace may contain refused trigger calls and IER writes that end early.
+/// since. The step admits the answers and the outcome of an entry exactly if the entry is fitting. A restore makes the
+/// trigger calls that are due. The trace may contain refused trigger calls and IER writes that end early.
 pub fn interrupts()
     ensures { InterruptLaw }
 {
@@ -141,8 +141,8 @@ pub fn interrupt_driver()
 
 /// From any start, an IER write that enables THRE, and each THR write outside loopback while IER enables it, raise
 /// THRE, and call the trigger once if it was not pending. The exception is an IER write whose call for RDA is refused.
-/// Then RDA is pending, and a retry calls the trigger for it, as for each condition that is pending and enabled. If a
-/// condition is pending after a read of IIR, the trigger was called for it since that read.
+/// Then RDA is pending, and is among the conditions for which a retry calls the trigger, as is each that is pending and
+/// enabled. If a condition is pending after a read of IIR, the trigger was called for it since that read.
 pub fn transmitter_interrupt()
     ensures ier_write { IerWriteAsksLaw }
     ensures thr_write { ThrWriteAsksLaw }
@@ -163,15 +163,15 @@ pub fn transmitter_interrupt()
 ///   one between its last read and the timeout, unless it has none left at some moment there, or is stopped.
 /// - It gets bytes while it has none, or goes on after a stop, only at such a THR write, or at an IER write that
 ///   enables THRE and whose call for RDA is not refused.
-/// - The monitor makes a character timeout after each read of IIR that shows nothing pending, and in each turn of its
-///   event loop.
+/// - The monitor makes a character timeout as the next call after each read of IIR that shows nothing pending, and in
+///   each turn of its event loop.
 ///
 /// Then the interrupt is asked for after each run if bytes are held and IER enables RDA, or if bytes are left to send
 /// and flow control does not stop the driver. Each run takes at least one more of the held bytes, in order, and each
 /// run without a stop sends at least one more. So a byte with i before it in its direction is through within i + 1 such
 /// runs, whatever arrives meanwhile, and whatever the driver is given.
 ///
-/// If a driver ends its run with a read of IIR that shows THRE, and has bytes left, it is not asked again. A 16550A
+/// If a driver ends its run with a read of IIR that shows THRE, and has bytes left, it may not be asked again. A 16550A
 /// does not ask it either.
 pub fn console_driver()
     ensures asked_to_take { InterruptToReadLaw }

@@ -354,8 +354,8 @@ impl<T: Trigger, EV: SerialEvents, W: Write> Serial<T, EV, W> {
     ///
     /// A refused condition stays pending, and no access calls the trigger for it again until the guest has acknowledged
     /// it. If your trigger can refuse, repeat this call after a refusal until it returns `Ok`. While IER disables the
-    /// condition, it calls nothing and returns `Ok`: then repeat it after each write at offset 1. The guest may be
-    /// interrupted again for a condition that it knows of.
+    /// condition, this call does not call the trigger for it, and may return `Ok`: then repeat it after each write at
+    /// offset 1. The guest may be interrupted again for a condition that it knows of.
     ///
     /// # Errors
     ///

@@ -35,7 +35,8 @@ LineStatusLaw = (start : State) (trace : Trace)
     → (state_after start trace).line_status ≡ lsr_after start trace
 
 -- the interrupt law, from a start whose IIR is 1, 2, 4 or 6, and over any trace: IIR shows the conditions that are
--- pending, an entry is fitting exactly if it is fitting, and a restore makes the calls that are due
+-- pending, the step admits an entry's answers and outcome exactly if the entry is fitting, and a restore makes the
+-- calls that are due
 pub record InterruptsAgree (start : State) (trace : Trace) (s : State) : Type 0 where
   pub pending : s.interrupt_identification ≡ iir_after start trace
   pub calls :
