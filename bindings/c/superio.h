@@ -4,7 +4,7 @@
  *
  * A 16550 serial port, a PL031 real-time clock, and an i8042 controller that
  * resets the machine. What a call does to a device is proved, for every
- * argument and whatever its struct holds.
+ * argument and whatever its struct holds. README.md says of which builds.
  *
  * How it works
  * ------------
@@ -104,7 +104,8 @@
  *
  * Accesses. A serial port takes one byte: split a wider access into bytes, the
  * lowest port first. The clock takes four bytes at a multiple of four: answer a
- * narrower read from the four bytes around it, and ignore a narrower write.
+ * narrower read from the four bytes around it, and ignore a narrower write and
+ * each wider access. No driver that we know makes a wider one.
  *
  * Input. A driver tests the port before it uses it, and throws away some or
  * all of what it finds in the FIFO. So keep input in a queue of your own until
@@ -116,10 +117,9 @@
  * ready from the start, also after a reset. Bound the queue. While it is full,
  * do not read from its source. Wake the event loop once it has room.
  *
- * Offer input at the moments that the sketch shows and at no others: once when
- * it arrives, and once when the guest becomes ready, has read the last byte or
- * may have left loopback. Do not offer in a loop, since the guest need not
- * read.
+ * Offer input once at each moment that the sketch shows, and at no other: when
+ * it arrives, after a write of IER or MCR, after a read of the last byte, and
+ * after a reset. Do not offer in a loop, since the guest need not read.
  *
  * Output. Sending a byte must not wait for its reader, neither in the event
  * loop nor under the lock that input needs. Otherwise two monitors that are
@@ -136,8 +136,8 @@
  * Turns. A turn of the event loop comes after each return of its poll. Bound
  * the poll to some milliseconds in two cases: after each refusal, as `retry_in`
  * does; and while bytes are held, if the guest's handler does not read IIR
- * until nothing is pending. If one begins in a guest's access, wake the loop. A
- * refusal in a turn must not end the next poll at once, or the loop spins. The
+ * until nothing is pending, or you do not know what it does. If such a case
+ * begins in a guest's access, wake the loop. A refusal in a turn must not end the next poll at once, or the loop spins. The
  * handler of such a guest runs about once in each turn. A timeout that comes
  * while the handler is running may interrupt the guest once more, with nothing
  * left to do. Linux counts such an interrupt as unhandled, and goes on.
@@ -145,8 +145,8 @@
  * A line that takes levels. Set it after every call on the port, also after
  * `new` and a load: the port before it may have left the line up. Call your
  * interrupt controller only when the level changes, since some take each call
- * for an interrupt. After your interrupt controller is reset, call it once more
- * with the levels of the port and of the clock, changed or not.
+ * for an interrupt. After your interrupt controller is reset or restored, call
+ * it once more with the levels of the port and of the clock, changed or not.
  *
  *     // In place of `interrupt`.
  *     bool is_up = superio_serial_interrupt_line(&port);
@@ -162,12 +162,15 @@
  * reset controller has no state. A port that is not made anew may look to a
  * firmware as if there were none.
  *
- * A snapshot. A saved port has neither the input and the output that wait, nor
- * whether the guest is ready: save these beside it. For a clock, save `now` too
- * if it is not the host's time. After a load, set the level, or set
- * `is_refused` of the sketch above and call `retry(0)`: this asks for what the
- * guest has not taken, and later for what IER disables now. So you need not
- * save whether an interrupt was refused.
+ * A snapshot. Let each access end before you save: a byte whose access is held
+ * is in no queue. A saved port has neither the input and the output that wait,
+ * nor whether the guest is ready: save these beside it. For a clock, save `now`
+ * too if it is not the host's time. Restore your interrupt controller first,
+ * since its state would overwrite what you ask for. After a load, set the
+ * level, or set `is_refused` of the sketch above and call `retry(0)`: this asks
+ * for what the guest has not taken. If IER disables all of it, the sketch asks
+ * after the write that enables some. So you need not save whether an interrupt
+ * was refused.
  *
  * Break. The port has none. A guest that sends a break, by bit 0x40 of LCR,
  * sends nothing, and no call gives it one: ignore a break of your terminal, and
@@ -176,13 +179,13 @@
  * What the object code of prebuilt lacks
  * --------------------------------------
  *
- * - unwind tables: a backtrace from within a call ends there;
+ * - unwind tables: a backtrace from within a call may end there;
  * - CET marks: a program linked with it is not marked for shadow stacks or
  *   indirect branch tracking;
  * - hidden symbols: a shared library that links the static one exports its
  *   functions too, unless it is linked with -Wl,--exclude-libs,ALL;
- * - instrumentation: a sanitizer sees the caller's accesses to a struct, and
- *   not the library's.
+ * - instrumentation: a sanitizer sees the caller's accesses to a struct, and of
+ *   the library's only those in memcpy, memmove and memset.
  */
 #ifndef SUPERIO_H
 #define SUPERIO_H

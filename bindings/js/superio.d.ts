@@ -2,8 +2,8 @@
 /**
  * Emulated legacy devices for virtual machine monitors, over proved code. A call returns its effects: what is left for
  * you to do. There are no callbacks. A wrong argument throws a TypeError or a RangeError that names it, and changes
- * nothing. Each access may take the name of a register in place of its offset, and then throws a RegisterError if it
- * would reach another one.
+ * nothing. Each access of the port and of the clock may take the name of a register in place of its offset, and then
+ * throws a RegisterError if it would reach another one.
  */
 
 /** What a read of the serial port did. */

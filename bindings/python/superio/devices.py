@@ -21,45 +21,60 @@ _OR_NAME = ", or the name of a register,"
 
 
 class ReadEffects(NamedTuple):
-    """What a read of the serial port did."""
+    """What a read of the serial port did.
 
-    byte: int              # what the guest reads
-    buffer_read: bool      # event: the guest read the data register
-    in_buffer_empty: bool  # event: it did, and no byte is held now
+    `byte` is what the guest reads. The events are `buffer_read`, if the guest read the data register, and
+    `in_buffer_empty`, if it did and no byte is held now.
+    """
+
+    byte: int
+    buffer_read: bool
+    in_buffer_empty: bool
 
 
 class WriteEffects(NamedTuple):
-    """What a write to the serial port leaves to you."""
+    """What a write to the serial port leaves to you.
 
-    sends: bool      # the written value goes out
-    interrupts: int  # how often to ask for the interrupt: 0 to 2 times
+    `sends` is whether the written value goes out, and `interrupts` how often to ask for the interrupt: 0 to 2 times.
+    """
+
+    sends: bool
+    interrupts: int
 
 
 class EnqueueEffects(NamedTuple):
-    """What an enqueue did, and leaves to you."""
+    """What an enqueue did, and leaves to you.
 
-    accepted: int    # how many of the bytes, first ones first
-    fifo_full: bool  # there were bytes, but room for none
-    interrupts: int  # how often to ask for the interrupt: 0 or 1 times
+    `accepted` is how many of the bytes went in, from the first on. `fifo_full` is whether there were bytes, but room
+    for none. `interrupts` is how often to ask for the interrupt: 0 or 1 times.
+    """
+
+    accepted: int
+    fifo_full: bool
+    interrupts: int
 
 
 class RtcReadEffects(NamedTuple):
-    """What a read of the clock did."""
+    """What a read of the clock did.
 
-    value: int          # the number whose bytes are read, lowest first
-    invalid_read: bool  # event: there is nothing to read here; `value` is 0
+    `value` is the number whose bytes the guest reads, lowest first. The event `invalid_read` says that there is nothing
+    to read here; then `value` is 0.
+    """
+
+    value: int
+    invalid_read: bool
 
 
 class RtcWriteEffects(NamedTuple):
-    """What a write to the clock did."""
+    """What a write to the clock did. The event `invalid_write` says that this offset takes no write."""
 
-    invalid_write: bool  # event: this offset takes no write
+    invalid_write: bool
 
 
 class I8042WriteEffects(NamedTuple):
-    """What a write to the reset controller leaves to you."""
+    """What a write to the reset controller leaves to you. `resets` is whether the guest asks to reset the machine."""
 
-    resets: bool  # the guest asks to reset the machine
+    resets: bool
 
 
 class Serial(Saved):

@@ -236,7 +236,8 @@ class State:
 class SerialState(State):
     """The state of a serial port: nine registers, and the bytes that it received and the guest has not read.
 
-    The defaults are those of a new port. `dataclasses.replace` makes a changed copy.
+    The defaults are those of a new port. `dataclasses.replace` makes a changed copy. `docs/SAVED-STATES.md` has the
+    meaning of each field.
     """
 
     baud_divisor_low: int = _kept(c_uint8, 0x0C)          # DLL
@@ -263,7 +264,10 @@ FIELDS = dict(zip(("DLL", "DLM", "IER", "IIR", "LCR", "LSR", "MCR", "MSR", "SCR"
 
 @dataclass(frozen=True)
 class RtcState(State):
-    """The state of a clock. The defaults are those of a new one."""
+    """The state of a clock.
+
+    The defaults are those of a new one. `docs/SAVED-STATES.md` has the meaning of each field.
+    """
 
     lr: int = _kept(c_uint32)     # RTCLR: the value that was loaded last, or 0
     mr: int = _kept(c_uint32)     # RTCMR: the guest time that an alarm waits for

@@ -78,7 +78,7 @@ _GROUPS: Dict[str, Tuple[Help, ...]] = {
              "The port goes on over the board's own line and output. If the line refuses an interrupt that is due, the "
              "port stays as it was.", ("file",)),
         Help("source FILE", "as load", "", ("file",)),
-        Help("reset", "a fresh board, as after a reset of the machine"),
+        Help("reset", "a fresh board, on which every device is new, also the clock"),
         Help("help [NAME]", "this list, or more about one command", "", ("command",)),
         Help("quit", "ends, as exit and Ctrl-D do"),
     ),

@@ -56,6 +56,7 @@ pub trait Trigger {
     /// Why a call was refused.
     type E: core::fmt::Debug;
 
-    /// Notifies once, or returns an error if nobody was notified.
+    /// Notifies once, or returns an error if nobody was notified. A trigger may instead note that by itself, and return
+    /// `Ok`.
     fn trigger(&self) -> Result<(), Self::E>;
 }

@@ -286,8 +286,8 @@ impl<EV: RtcEvents> Rtc<EV> {
     }
 
     /// The seconds from the moment `now`, in seconds since 1970, until an access finds the alarm reached, if the guest
-    /// makes none before: less than 2^32. `None` if no alarm is set, or if guest time never reaches the match. The mask
-    /// plays no part.
+    /// makes none before: less than 2^32, and 0 if an access at `now` finds it. `None` if no alarm is set, or if guest
+    /// time never reaches the match. The mask plays no part.
     pub fn alarm_due(&self, now: u64) -> Option<u64> {
         self.clock.alarm_due(now)
     }

@@ -57,7 +57,7 @@ abbrev pub is_cleared : (trace : List Access) (bit : ℕ) → Bool
 is_cleared trace bit = list_any (λ access. bit_at (cleared_by access) bit == 1) trace
 
 -- a raw interrupt bit is that of the start, unless an access of the trace cleared it. Bit 0 is also set if the alarm
--- raised it
+-- raised it, and no access cleared it then or later
 abbrev pub RawBitsByHistory : Type 0
 RawBitsByHistory =
     (start : RtcState) (trace : List Access) (bit : ℕ)

@@ -120,7 +120,8 @@ pub fn waiting_bytes()
 {}
 
 /// From any start, right after a character timeout no byte waits without an interrupt: if bytes are held and IER
-/// enables RDA, it is pending. If it was not pending before, the trigger is called once, and otherwise not at all.
+/// enables RDA, it is pending. If it was not pending before, the trigger is called once, and otherwise not at all. In a
+/// trace this needs that the trace is fitting.
 #[tactic(auto, using(crate::proofs::Lemmas::Serial::Laws::InterruptDriver::no_byte_waits_laws))]
 pub fn no_byte_waits()
     ensures pending { NoByteWaitsLaw }
@@ -140,9 +141,10 @@ pub fn interrupt_driver()
 {}
 
 /// From any start, an IER write that enables THRE, and each THR write outside loopback while IER enables it, raise
-/// THRE, and call the trigger once if it was not pending. The exception is an IER write whose call for RDA is refused.
-/// Then RDA is pending, and is among the conditions for which a retry calls the trigger, as is each that is pending and
-/// enabled. If a condition is pending after a read of IIR, the trigger was called for it since that read.
+/// THRE, and call the trigger once for it if it was not pending. The exception is an IER write whose call for RDA is
+/// refused. Then RDA is pending, and is among the conditions for which a retry calls the trigger, as is each that is
+/// pending and enabled. If a condition is pending after a read of IIR, a call for it was due since that read, and was
+/// made if the entry is fitting. The first two are about fitting entries.
 pub fn transmitter_interrupt()
     ensures ier_write { IerWriteAsksLaw }
     ensures thr_write { ThrWriteAsksLaw }
@@ -181,9 +183,10 @@ pub fn console_driver()
 {}
 
 /// From any start, for a handler like Linux's. It reads IIR until nothing is pending. After each read it sends, and it
-/// takes bytes until none is left or it has taken as many as a limit. Its runs are those of [`console_driver`]. When it
-/// reads that nothing is pending, it has sent all its bytes, unless it is stopped. If IER then enables RDA, it has also
-/// taken all bytes, unless its last turn came to the limit: the others wait for the character timeout.
+/// takes bytes until none is left or it has taken as many as a limit. It gets bytes to send, or goes on after a stop, as
+/// a driver of [`console_driver`] does. Then its runs are those of such a driver. When it reads that nothing is pending,
+/// it has sent all its bytes, unless it is stopped. If IER then enables RDA, it has also taken all bytes, unless its
+/// last turn came to the limit: the others wait for the character timeout.
 pub fn console_handler()
     ensures run { HandlerRunLaw }
     ensures ends { HandlerEndsLaw }
