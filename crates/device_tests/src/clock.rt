@@ -468,7 +468,7 @@ fn an_alarm_for_the_past_never_fires(rt: HostRuntime) {
 fn an_invalid_access_fires_an_alarm(rt: HostRuntime) {
     let mut clock = fresh();
     make(&rt, &mut clock, &[Write(100, RTCMR, 200)]);
-    assert!(rt; read_into(&mut clock, 200, 0x020, 123) == 123);
+    assert!(rt; read_into(&mut clock, 200, 0x021, 123) == 123);
     assert!(rt; reports(&clock, 1, 0));
     make(&rt, &mut clock, &[Read(150, RTCRIS, 1)]);
 }
