@@ -1,6 +1,7 @@
 // SPDX-License-Identifier: Apache-2.0 OR BSD-3-Clause
-//! First claims about the devices. Each states one sentence as a contract, and its proof is empty: the calls and their
-//! contracts are enough. Copy the one that is nearest to yours. A plain `#[tactic(auto)]` is on those that open no bit.
+//! First claims about the devices. Each states one sentence as a contract, and the calls and their contracts are its
+//! proof; `read_all` also has an invariant. Copy the one that is nearest to yours. A function with a plain
+//! `#[tactic(auto)]` opens no bit.
 #![tactic(auto, unfolding(superio_core::specs::Bits::has_bits, superio_core::specs::Bits::only_bits, superio_core::specs::Bits::with_bits))]
 
 ghost use Rattle.std.specs.Prelude.{◌≡◌, ◌+◌, ◌-◌, ◌<◌, ◌^◌, [], ◌∷◌, ◌++◌, take, length, true, false, IsTrue, IfOk, IfErr, OnOk};
