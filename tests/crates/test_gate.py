@@ -15,7 +15,7 @@ def test_crates():
 
 
 def test_numbers():
-    assert number_of_edits() >= 66
+    assert number_of_edits() >= 65
     assert number_of_tests() >= 169
 
 

@@ -69,6 +69,7 @@ fn accesses_in_a_loop_reach_the_port(rt: HostRuntime) -> Result<(), Fail> {
     make_all(&mut serial, &accesses);
     assert!(rt; serial.interrupt_evt().waiting() == 2);
     assert!(rt; serial.writer().as_slice() == b"x".as_slice());
+    assert!(rt; serial.read(2) == 0xC2);
     Ok(())
 }
 
