@@ -1,6 +1,6 @@
 -- SPDX-License-Identifier: Apache-2.0 OR BSD-3-Clause
 -- Lemmas on the encoding of a saved state. Other crates' proofs use the public ones too.
-use Rattle.std.proofs.Common.{◌≡◌, ℕ, suc, ◌-◌, ◌<◌, ◌^◌, Bool, true, false, ap, sym, ◌∙◌, arith, refl, List, drop, ◌==◌, Some, None, IfOk, Result, Ok, Err, ℤ, pos, negsuc, FitsSigned, length, [], ◌∷◌, take, ◌++◌, replicate}
+use Rattle.std.proofs.Common.{◌≡◌, ℕ, suc, ◌-◌, ◌<◌, ◌^◌, Bool, true, false, ap, sym, ◌∙◌, arith, refl, List, drop, ◌==◌, Some, None, IfOk, Result, Ok, Err, ℤ, pos, negsuc, FitsSigned, length, [], ◌∷◌, take, ◌++◌, replicate, slice_index_or}
 use Rattle.std.specs.Result.{result_err}
 use Rattle.std.specs.Int.{w64, w32, w16, to_le_bytes, from_le_bytes, cast_unsigned, cast_signed}
 use Rattle.std.proofs.lemmas.Int.{to_z-of_z}
@@ -56,6 +56,24 @@ pub clock_encoding_read : (bytes : List ℕ) (result : Result RtcState SavedStat
 clock_encoding_read bytes (Ok found) numbers encoding fault state fits is = ap Ok (one_clock_state found state numbers fits (sym encoding ∙ is))
 clock_encoding_read bytes (Err error) numbers encoding fault state fits is =
     let none : Some error ≡ None = fault ∙ ap clock_fault is ∙ clock_encoding_has_no_fault state in cc
+
+-- ---- bytes that are made of arrays. The search joins only some at once without these lemmas
+
+-- an array of four bytes, and what follows it
+pub four_bytes-then : (a : List ℕ) (a0 a1 a2 a3 : ℕ) (rest more : List ℕ) → a ≡ a0 ∷ a1 ∷ a2 ∷ a3 ∷ [] → rest ≡ more →
+    ◌≡◌ {A = List ℕ} (slice_index_or a 0 0 ∷ slice_index_or a 1 0 ∷ slice_index_or a 2 0 ∷ slice_index_or a 3 0 ∷ rest)
+    (a0 ∷ a1 ∷ a2 ∷ a3 ∷ more)
+four_bytes-then a a0 a1 a2 a3 rest more is is_rest = rw (is, is_rest) refl
+
+-- an array of eight
+pub eight_bytes-then : (a : List ℕ) (a0 a1 a2 a3 a4 a5 a6 a7 : ℕ) (rest more : List ℕ) →
+    a ≡ a0 ∷ a1 ∷ a2 ∷ a3 ∷ a4 ∷ a5 ∷ a6 ∷ a7 ∷ [] → rest ≡ more →
+    ◌≡◌ {A = List ℕ} (slice_index_or a 0 0 ∷ slice_index_or a 1 0 ∷ slice_index_or a 2 0 ∷ slice_index_or a 3 0
+    ∷ slice_index_or a 4 0 ∷ slice_index_or a 5 0 ∷ slice_index_or a 6 0 ∷ slice_index_or a 7 0 ∷ rest)
+    (a0 ∷ a1 ∷ a2 ∷ a3 ∷ a4 ∷ a5 ∷ a6 ∷ a7 ∷ more)
+eight_bytes-then a a0 a1 a2 a3 a4 a5 a6 a7 rest more is is_rest = rw (is, is_rest) refl
+
+pub ruleset bytes_of_arrays = (four_bytes-then, eight_bytes-then)
 
 -- ---- what the laws rest on
 

@@ -74,6 +74,7 @@ impl RtcState {
     ///
     /// They are a header of eight bytes, `lr`, `mr`, `imsc` and `ris` of four bytes each, `offset` of eight, and 1 if
     /// an alarm is set, else 0. Numbers are little-endian.
+    #[tactic(auto, using(crate::proofs::Lemmas::Saved::bytes_of_arrays))]
     pub fn to_bytes(&self) -> [u8; SAVED_SIZE]
         ensures { result ≡ clock_encoding self.now }
     {
