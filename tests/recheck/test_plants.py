@@ -12,7 +12,7 @@ import rerun
 JOBS = len(os.sched_getaffinity(0))
 DEVICES, SHELL, SPECS = "bindings/superio/src/devices/", "bindings/rust/src/", "crates/"
 C_FUNCTIONS = "bindings/c/from-source/src/lib.rs"
-FIFO, CODE, SAVED, CLOCK = {"Fifo"}, {"PortCode"}, {"SavedPort", "SavedClock"}, {"ClockCode", "AlarmDue"}
+FIFO, CODE, SAVED, CLOCK = {"Fifo"}, {"PortCode"}, {"Saved"}, {"ClockCode"}
 
 # A file, what stands there, what is planted, and the files of proofs of which one has to fail.
 WRONG = [(DEVICES + file, old, new, proofs) for file, old, new, proofs in [
