@@ -66,7 +66,7 @@ WRONG += [(SPECS + file, old, new, proofs) for file, old, new, proofs in [
     ("superio_laws/specs/Rtc/History.antt", "if at == offset then Some value else None", "None", {"ClockHistory"}),
     ("superio_laws/specs/Serial/Laws/Console.antt", "take (length runs) (held_bytes", "take (1 + length runs) (held_bytes", {"Console"}),
 ]]
-WRONG += [(C_FUNCTIONS, old, new, {"CFunctions", "Claims"}) for old, new in [
+WRONG += [(C_FUNCTIONS, old, new, {"Saved", "Claims"}) for old, new in [
     ("invalid_read: value.is_none()", "invalid_read: value.is_some()"),
     ("invalid_write: !is_taken", "invalid_write: is_taken"),
     ("SavedStateError::OtherDevice => 3", "SavedStateError::OtherDevice => 2"),
