@@ -57,7 +57,7 @@ HEAP = {"OCAMLRUNPARAM": "s=4M,o=1000"}
 
 
 def coqc(folder, name):
-    run = subprocess.run(["coqc", "-w", "none", "-Q", ".", "Recheck", f"{name}.v"], cwd=folder, env=os.environ | HEAP,
+    run = subprocess.run(["coqc", "-noglob", "-w", "none", "-Q", ".", "Recheck", f"{name}.v"], cwd=folder, env=os.environ | HEAP,
                          capture_output=True, text=True)
     if run.returncode:
         raise Failed(f"{name}.v is not proved:\n{run.stdout}{run.stderr}")

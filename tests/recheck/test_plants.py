@@ -12,7 +12,7 @@ import rerun
 JOBS = len(os.sched_getaffinity(0))
 DEVICES, SHELL, SPECS = "bindings/superio/src/devices/", "bindings/rust/src/", "crates/"
 C_FUNCTIONS = "bindings/c/from-source/src/lib.rs"
-FIFO, CODE, SAVED, CLOCK = {"Fifo"}, {"PortCode"}, {"SavedPort", "SavedClock"}, {"ClockCode", "AlarmDue"}
+FIFO, CODE, SAVED, CLOCK = {"Fifo"}, {"PortCode"}, {"Saved"}, {"Clock"}
 
 # A file, what stands there, what is planted, and the files of proofs of which one has to fail.
 WRONG = [(DEVICES + file, old, new, proofs) for file, old, new, proofs in [
@@ -57,16 +57,16 @@ WRONG = [(DEVICES + file, old, new, proofs) for file, old, new, proofs in [
 ]]
 WRONG += [(SPECS + file, old, new, proofs) for file, old, new, proofs in [
     ("superio_core/specs/Serial/Step.antt", "if others == 0 then iir_none_bit", "if others == 0 then 0", {"PortHistory"}),
-    ("superio_core/specs/Rtc.antt", "imsc = value % 2", "imsc = value % 4", {"ClockHistory", "ClockCode"}),
+    ("superio_core/specs/Rtc.antt", "imsc = value % 2", "imsc = value % 4", CLOCK),
     ("superio_core/specs/Serial/RegisterMap.antt", "iir_bit Thre = 0x02", "iir_bit Thre = 0x08", {"PortHistory"}),
     ("superio_laws/specs/Serial/History/Registers.antt", "take (64 - length held) bytes", "take (63 - length held) bytes", {"PortHistory"}),
     ("superio_laws/specs/Serial/History/Interrupts.antt", "acknowledges Rda kind = is_iir_read kind || is_rbr_read kind",
      "acknowledges Rda kind = is_iir_read kind", {"PortHistory"}),
     ("superio_laws/specs/Serial/Laws/UartRun.antt", "≤ 2 + 2 *", "≤ 1 + 2 *", {"PortLaws"}),
-    ("superio_laws/specs/Rtc/History.antt", "if at == offset then Some value else None", "None", {"ClockHistory"}),
-    ("superio_laws/specs/Serial/Laws/Console.antt", "take (length runs) (held_bytes", "take (1 + length runs) (held_bytes", {"Console"}),
+    ("superio_laws/specs/Rtc/History.antt", "if at == offset then Some value else None", "None", CLOCK),
+    ("superio_laws/specs/Serial/Laws/Console.antt", "take (length runs) (held_bytes", "take (1 + length runs) (held_bytes", {"PortLaws"}),
 ]]
-WRONG += [(C_FUNCTIONS, old, new, {"CFunctions", "Claims"}) for old, new in [
+WRONG += [(C_FUNCTIONS, old, new, {"Saved", "Claims"}) for old, new in [
     ("invalid_read: value.is_none()", "invalid_read: value.is_some()"),
     ("invalid_write: !is_taken", "invalid_write: is_taken"),
     ("SavedStateError::OtherDevice => 3", "SavedStateError::OtherDevice => 2"),

@@ -419,6 +419,9 @@ pub fn clock_read(accesses: &[Access]) -> Option<u32> {
     }
 }
 
+/// How many of the 65,536 offsets of a clock cannot be read, and how many take no write.
+pub const INVALID_OFFSETS: [u64; 2] = [65_497, 65_531];
+
 /// Whether an offset of a clock takes writes.
 pub fn clock_takes_writes(offset: u16) -> bool {
     matches!(offset, 0x004 | 0x008 | 0x00C | 0x010 | 0x01C)
