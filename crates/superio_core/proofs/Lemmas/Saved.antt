@@ -1,12 +1,12 @@
 -- SPDX-License-Identifier: Apache-2.0 OR BSD-3-Clause
 -- Lemmas on the encoding of a saved state. Other crates' proofs use the public ones too.
-use Rattle.std.proofs.Common.{◌≡◌, ℕ, suc, ◌-◌, ◌<◌, ◌^◌, Bool, true, false, ap, sym, ◌∙◌, arith, refl, List, drop, ◌==◌, Some, None, IfOk, Result, Ok, Err, ℤ, pos, negsuc, FitsSigned, length, [], ◌∷◌, take, ◌++◌, replicate, slice_index_or}
+use Rattle.std.proofs.Common.{◌≡◌, ℕ, suc, ◌-◌, ◌<◌, ◌^◌, Bool, true, false, ap, sym, ◌∙◌, arith, refl, List, drop, ◌==◌, Some, None, IfOk, Result, Ok, Err, ℤ, pos, negsuc, FitsSigned, length, [], ◌∷◌, take, ◌++◌, replicate, slice_index_or, ◌%◌, ◌/◌, to_z, of_z}
 use Rattle.std.specs.Result.{result_err}
 use Rattle.std.specs.Int.{w64, w32, w16, to_le_bytes, from_le_bytes, cast_unsigned, cast_signed}
 use Rattle.std.proofs.lemmas.Int.{to_z-of_z}
 use Rattle.std.proofs.lemmas.Nat.{from_le_bytes-to_le_bytes_4, from_le_bytes-to_le_bytes_8}
 use Rattle.superio_core.specs.declared.rtc_pl031.encoding.RtcState.{RtcState}
-use Rattle.superio_core.specs.Saved.{SavedStateError, magic, serial_kind, version, header, flag, numbers_in, clock_encoding, clock_fault, IsClock, SerialEncodingLaw, ClockEncodingLaw, OneSerialStateLaw, OneClockStateLaw, serial_encoding, serial_fault, TooShort, NotASavedState, OtherDevice, UnknownVersion, WrongLength, TooManyBytes, InvalidArmed}
+use Rattle.superio_core.specs.Saved.{SavedStateError, magic, serial_kind, version, header, encoding, flag, numbers_in, clock_encoding, clock_fault, IsClock, SerialEncodingLaw, ClockEncodingLaw, OneSerialStateLaw, OneClockStateLaw, serial_encoding, serial_fault, TooShort, NotASavedState, OtherDevice, UnknownVersion, WrongLength, TooManyBytes, InvalidArmed}
 use Rattle.superio_core.specs.Rtc.{fresh_clock}
 use Rattle.superio_core.specs.Serial.{state_of_bytes, fresh_state, State}
 
@@ -74,6 +74,36 @@ pub eight_bytes-then : (a : List ℕ) (a0 a1 a2 a3 a4 a5 a6 a7 : ℕ) (rest more
 eight_bytes-then a a0 a1 a2 a3 a4 a5 a6 a7 rest more is is_rest = rw (is, is_rest) refl
 
 pub ruleset bytes_of_arrays = (four_bytes-then, eight_bytes-then)
+
+-- ---- bytes that are taken apart piece by piece. The search goes from one to the next by these lemmas
+
+-- an encoding, if what follows its header is known
+pub encoding-then : (kind : ℕ) (bytes contents more : List ℕ) (low high : ℕ) → bytes ≡ encoding kind contents → contents ≡ more →
+    length more % 256 ≡ low → length more / 256 % 256 ≡ high →
+    bytes ≡ 0x53 ∷ 0x49 ∷ 0x4F ∷ 0x53 ∷ kind ∷ 1 ∷ low ∷ high ∷ more
+encoding-then kind bytes contents more low high is_encoding is is_low is_high =
+    is_encoding ∙ ap (encoding kind) is
+    ∙ ap (λ n. 0x53 ∷ 0x49 ∷ 0x4F ∷ 0x53 ∷ kind ∷ 1 ∷ n ∷ length more / 256 % 256 ∷ more) is_low
+    ∙ ap (λ n. 0x53 ∷ 0x49 ∷ 0x4F ∷ 0x53 ∷ kind ∷ 1 ∷ low ∷ n ∷ more) is_high
+
+-- a number, and what follows it
+pub number-then : (bytes rest more : List ℕ) (n same : ℕ) → bytes ≡ to_le_bytes w32 n ++ rest → n ≡ same → rest ≡ more →
+    bytes ≡ to_le_bytes w32 same ++ more
+number-then bytes rest more n same split is_same is = split ∙ ap (λ l. to_le_bytes w32 n ++ l) is ∙ ap (λ k. to_le_bytes w32 k ++ more) is_same
+
+-- an offset that was stored in 64 bits, and what follows it
+pub offset-then : (bytes rest more : List ℕ) (offset : ℤ) → FitsSigned w64 offset →
+    bytes ≡ to_le_bytes w64 (cast_unsigned w64 offset) ++ rest → rest ≡ more →
+    bytes ≡ to_le_bytes w64 (cast_unsigned w64 (to_z w64 (of_z w64 offset))) ++ more
+offset-then bytes rest more offset fits split is =
+    split ∙ ap (λ l. to_le_bytes w64 (cast_unsigned w64 offset) ++ l) is
+    ∙ ap (λ x. to_le_bytes w64 (cast_unsigned w64 x) ++ more) (sym (to_z-of_z w64 offset fits))
+
+-- a slice of one byte
+pub one_byte : (bytes : List ℕ) → length bytes ≡ 1 → bytes ≡ slice_index_or bytes 0 0 ∷ []
+one_byte [] is = grind arith
+one_byte (byte ∷ []) is = refl
+one_byte (byte ∷ next ∷ more) is = grind arith
 
 -- ---- what the laws rest on
 
