@@ -52,7 +52,7 @@ WRONG = [(DEVICES + file, old, new, proofs) for file, old, new, proofs in [
     ("rtc_pl031.rs", "u64::from(guest_time < value)", "u64::from(guest_time <= value)", CLOCK),
     ("rtc_pl031.rs", "i64::from(value) - i64::from(time)", "i64::from(time) - i64::from(value)", CLOCK),
     ("rtc_pl031.rs", "self.ris & self.imsc & 1 == 1", "self.ris & 1 == 1", CLOCK),
-    ("rtc_pl031/registers.rs", "- AMBA_ID_LOW) / 4", "- AMBA_ID_LOW) / 2", CLOCK),
+    ("rtc_pl031.rs", "- AMBA_ID_LOW) / 4", "- AMBA_ID_LOW) / 2", CLOCK),
     ("i8042.rs", "CMD_RESET_CPU: u8 = 0xFE", "CMD_RESET_CPU: u8 = 0xFF", {"Claims", "Shell"}),
 ]]
 WRONG += [(SPECS + file, old, new, proofs) for file, old, new, proofs in [

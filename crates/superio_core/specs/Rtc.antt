@@ -6,8 +6,8 @@ use Rattle.std.specs.Prelude.{ℕ, ◌-◌, ◌/◌, ◌%◌, ◌^◌, ℤ, pos,
 use Rattle.std.specs.Int.{w32, to_le_bytes, from_le_bytes}
 use Rattle.superio_core.specs.Bits.{with_bits, without_bits}
 pub use Rattle.superio_core.specs.declared.rtc_pl031.encoding.RtcState.{RtcState}
-pub use Rattle.superio_core.specs.declared.rtc_pl031.registers.ClockRegister.{ClockRegister}
-pub use Rattle.superio_core.specs.declared.rtc_pl031.registers.ClockRegister.TheVariants.{Dr, Mr, Lr, Cr, Imsc, Ris, Mis, Icr, Id, Reserved}
+pub use Rattle.superio_core.specs.declared.rtc_pl031.ClockRegister.{ClockRegister}
+pub use Rattle.superio_core.specs.declared.rtc_pl031.ClockRegister.TheVariants.{Dr, Mr, Lr, Cr, Imsc, Ris, Mis, Icr, Id, Reserved}
 pub use Rattle.superio_core.specs.declared.rtc_pl031.Pl031.{Pl031}
 
 -- the state of a fresh clock
