@@ -16,8 +16,8 @@ const FIFO_SIZE = 64;
 const LINE_CONTROL = PORT_FIELDS.indexOf("lineControl");
 const [HEAD, COUNT, RING] = [0, 1, 2].map((place) => PORT_FIELDS.length + place);
 const PORT_SIZE = RING + FIFO_SIZE;
-// More bytes than this are refused as those are: a header gives a length of 16 bits.
-const LONGEST = 8 + 0xffff + 1;
+// More bytes than this are refused as those are: a header of eight bytes gives a length of 16 bits.
+const LONGEST = 0x10008;
 
 const bytesOfModule = Uint8Array.from(atob(text), (character) => character.charCodeAt(0));
 const { instance } = await WebAssembly.instantiate(bytesOfModule);
@@ -29,7 +29,7 @@ const memory = new Uint8Array(calls.memory.buffer);
 const view = new DataView(calls.memory.buffer);
 // Where a device is during its call, the struct that the call returns, and the bytes that it is passed or writes. A
 // clock has numbers of eight bytes.
-const DEVICE = (calls.__heap_base.value + 7) & ~7;
+const DEVICE = calls.__heap_base.value;
 const EFFECTS = DEVICE + 128;
 const PASSED = EFFECTS + 16;
 

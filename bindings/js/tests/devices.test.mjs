@@ -58,11 +58,25 @@ test("each field of a state has its place", () => {
   assert.deepEqual(Rtc.fromBytes(fromHex(CLOCK_SAVED)).state, CLOCK);
 });
 
+test("new devices", () => {
+  assert.deepEqual(new Serial().state, {
+    baudDivisorLow: 0x0c, baudDivisorHigh: 0, interruptEnable: 0, interruptIdentification: 0x01, lineControl: 0x03,
+    lineStatus: 0x60, modemControl: 0x08, modemStatus: 0xb0, scratch: 0, inBuffer: new Uint8Array(),
+  });
+  assert.deepEqual(new Rtc().state, { lr: 0, mr: 0, imsc: 0, ris: 0, offset: 0n, armed: false });
+});
+
+test("one command resets the machine", () => {
+  const resets = (offset, value) => new I8042().write(offset, value).resets;
+  assert.deepEqual([resets(4, 0xfe), resets(4, 0xff), resets(0, 0xfe)], [true, false, false]);
+});
+
 test("a clock's alarm", () => {
   const clock = new Rtc();
   clock.write("MR", 1005, 1000);
   clock.write("RTCIMSC", 1, 1000n);
   assert.deepEqual([clock.alarmDue(1000), clock.interruptLine()], [5, false]);
+  assert.equal(clock.alarmDue(1005), 0);
   clock.read("MIS", 1005);
   assert.deepEqual([clock.alarmDue(1005), clock.interruptLine()], [null, true]);
 });
