@@ -111,7 +111,6 @@ const FIFO_SIZE = 64;
 const LINE_CONTROL = PORT_FIELDS.indexOf("lineControl");
 const [HEAD, COUNT, RING] = [0, 1, 2].map((place) => PORT_FIELDS.length + place);
 const PORT_SIZE = RING + FIFO_SIZE;
-const LONGEST = 0x10008;
 const bytesOfModule = Uint8Array.from(atob(text), (character) => character.charCodeAt(0));
 const instance = new WebAssembly.Instance(new WebAssembly.Module(bytesOfModule));
 const calls = instance.exports;
@@ -123,6 +122,7 @@ const view = new DataView(calls.memory.buffer);
 const DEVICE = calls.__heap_base.value;
 const EFFECTS = DEVICE + 128;
 const PASSED = EFFECTS + 16;
+const LONGEST = memory.length - PASSED;
 function onDevice(bytes, call, ...parameters) {
   memory.set(bytes, DEVICE);
   const result = call(...parameters);

@@ -16,8 +16,6 @@ const FIFO_SIZE = 64;
 const LINE_CONTROL = PORT_FIELDS.indexOf("lineControl");
 const [HEAD, COUNT, RING] = [0, 1, 2].map((place) => PORT_FIELDS.length + place);
 const PORT_SIZE = RING + FIFO_SIZE;
-// More bytes than this are refused as those are: a header of eight bytes gives a length of 16 bits.
-const LONGEST = 0x10008;
 
 const bytesOfModule = Uint8Array.from(atob(text), (character) => character.charCodeAt(0));
 const { instance } = await WebAssembly.instantiate(bytesOfModule);
@@ -32,6 +30,8 @@ const view = new DataView(calls.memory.buffer);
 const DEVICE = calls.__heap_base.value;
 const EFFECTS = DEVICE + 128;
 const PASSED = EFFECTS + 16;
+// As many bytes as the memory holds. A longer array gets the answer that these get: a header gives a length of 16 bits.
+const LONGEST = memory.length - PASSED;
 
 /** Makes a call of the module with the bytes of a device at DEVICE, which the call may change. */
 function onDevice(bytes, call, ...parameters) {

@@ -145,7 +145,7 @@ test("any Uint8Array is taken as bytes, and nothing else is", () => {
   }
   refused(() => new Serial().enqueue([65]), "TypeError", "bytes is of class Array, and a Uint8Array is wanted");
   refused(() => Serial.fromBytes("53"), "TypeError", 'bytes is "53", and a Uint8Array is wanted');
-  assert.deepEqual(new Serial().enqueue(new Uint8Array(70_000)), { accepted: 64, fifoFull: false, interrupts: 0 });
+  assert.deepEqual(new Serial().enqueue(new Uint8Array(200_000)), { accepted: 64, fifoFull: false, interrupts: 0 });
   const shared = new Uint8Array(new SharedArrayBuffer(encoding.length));
   shared.set(encoding);
   for (const taken of [Buffer.from(encoding), shared]) {
