@@ -57,8 +57,8 @@ HEAP = {"OCAMLRUNPARAM": "s=4M,o=1000"}
 
 
 def coqc(folder, name):
-    run = subprocess.run(["coqc", "-noglob", "-w", "none", "-Q", ".", "Recheck", f"{name}.v"], cwd=folder, env=os.environ | HEAP,
-                         capture_output=True, text=True)
+    run = subprocess.run(["coqc", "-noglob", "-w", "none", "-Q", ".", "Recheck", f"{name}.v"], cwd=folder,
+                         env=os.environ | HEAP, capture_output=True, text=True)
     if run.returncode:
         raise Failed(f"{name}.v is not proved:\n{run.stdout}{run.stderr}")
     return run.stdout
