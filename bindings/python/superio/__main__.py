@@ -35,8 +35,9 @@ def _parser() -> argparse.ArgumentParser:
 
 
 def _viewer_parser() -> argparse.ArgumentParser:
-    parser = argparse.ArgumentParser("python3 -m superio view", usage="%(prog)s [-h] TRACE [--table [FILE]] [--svg FILE]",
-                                     description="Steps through a recorded trace, call by call.")
+    parser = argparse.ArgumentParser(
+        "python3 -m superio view", usage="%(prog)s [-h] TRACE [--table [FILE]] [--svg FILE]",
+        description="Steps through a recorded trace, call by call.")
     parser.add_argument("trace", metavar="TRACE",
                         help="a script, or a recording as in examples/linux-boot; - is standard input")
     parser.add_argument("--table", nargs="?", const="", metavar="FILE",
