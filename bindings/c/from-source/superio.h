@@ -104,8 +104,8 @@
  *
  * Accesses. A serial port takes one byte: split a wider access into bytes, the
  * lowest port first. The clock takes four bytes at a multiple of four: answer a
- * narrower read from the four bytes around it, and ignore a narrower write and
- * each wider access. No driver that we know makes a wider one.
+ * narrower read from the four bytes around it, and a wider one with ones, and
+ * ignore such writes. No driver that we know makes a wider access.
  *
  * Input. A driver tests the port before it uses it, and throws away some or
  * all of what it finds in the FIFO. So keep input in a queue of your own until
@@ -136,11 +136,12 @@
  * Turns. A turn of the event loop comes after each return of its poll. Bound
  * the poll to some milliseconds in two cases: after each refusal, as `retry_in`
  * does; and while bytes are held, if the guest's handler does not read IIR
- * until nothing is pending, or you do not know what it does. If such a case
- * begins in a guest's access, wake the loop. A refusal in a turn must not end the next poll at once, or the loop spins. The
- * handler of such a guest runs about once in each turn. A timeout that comes
- * while the handler is running may interrupt the guest once more, with nothing
- * left to do. Linux counts such an interrupt as unhandled, and goes on.
+ * until nothing is pending, or you do not know what it does. While such a
+ * handler leaves bytes, it runs about once in each turn. A character timeout
+ * that comes while a handler is running may interrupt the guest once more, with
+ * nothing left to do. Linux counts such an interrupt as unhandled, and goes on.
+ * If one of the two cases begins in a guest's access, wake the loop. A refusal
+ * in a turn must not end the next poll at once, or the loop spins.
  *
  * A line that takes levels. Set it after every call on the port, also after
  * `new` and a load: the port before it may have left the line up. Call your
@@ -172,9 +173,9 @@
  * after the write that enables some. So you need not save whether an interrupt
  * was refused.
  *
- * Break. The port has none. A guest that sends a break, by bit 0x40 of LCR,
- * sends nothing, and no call gives it one: ignore a break of your terminal, and
- * do not enqueue a zero for it.
+ * Break. The port has none. A guest that sets bit 0x40 of LCR, for a break,
+ * sends none by it, and no call gives it one: ignore a break of your terminal,
+ * and do not enqueue a zero for it.
  *
  * What the object code of prebuilt lacks
  * --------------------------------------
@@ -438,9 +439,11 @@ superio_serial_enqueue_effects superio_serial_enqueue(superio_serial *port,
  *   read IIR until nothing is pending, a timer has to make turns while bytes
  *   are held.
  *
- * With these calls, and if refused interrupts are asked for again, no byte
- * waits for ever in either direction, for a driver that meets the conditions of
- * the law console_driver in docs/THEOREM.md, as Linux's and Xen's do. A driver
+ * With these calls, and if refused interrupts are asked for again, no byte that
+ * is held waits for ever, nor one to send unless flow control stops the driver,
+ * for a driver that meets the conditions of the law console_driver in
+ * docs/THEOREM.md, as Linux's and Xen's do, and if each interrupt that is taken
+ * reaches the guest, which runs its handler to the end. A driver
  * that ends a run with a read of IIR that shows THRE, and has bytes left to
  * send, is not asked again. A 16550A does not ask it either.
  */
@@ -518,7 +521,8 @@ bool superio_serial_is_coherent(const superio_serial *port)
  * superio_rtc_interrupt_line after each access and after a restore. Also set a
  * timer for superio_rtc_alarm_due. When the timer goes off, make an access of
  * your own, such as a read at 0x018 (RTCMIS): a guest that sleeps until the
- * interrupt makes no access.
+ * interrupt makes no access. If it is 0, make that access at once: a timer of
+ * Linux that is set to 0 is stopped.
  */
 typedef struct superio_rtc {
     uint32_t lr;    /* RTCLR, the last loaded value, or 0 */

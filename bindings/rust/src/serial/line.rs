@@ -7,8 +7,8 @@ use crate::Trigger;
 
 /// Returns the level of the interrupt line, for an interrupt controller that takes levels.
 ///
-/// A PCI interrupt and level-triggered inputs of an I/O APIC or a GIC are levels. There a trigger that pulses loses
-/// interrupts. Let the trigger do nothing, and set the line to this level after every call of the port, reads among
+/// A PCI interrupt and level-triggered inputs of an I/O APIC or a GIC are levels. There a trigger that pulses may
+/// lose interrupts. Let the trigger do nothing, and set the line to this level after every call of the port, reads among
 /// them.
 ///
 /// This is a trait of its own, so that it cannot collide with a method of a program that was written for vm-superio:
