@@ -203,6 +203,13 @@ class Words(FolderTest):
                 self.assertIn(reason, reason_of(caught.exception))
                 self.assertEqual(calls, self.session.commands)
 
+    def test_a_refused_alarm_leaves_the_clock(self):
+        self.afresh("clock write LR 100 1000", "clock write MR 110 1000")
+        before = self.session.board.clock.state
+        with self.assertRaises(Exception):
+            self.said("alarm +4294967290 5000")
+        self.assertEqual(before, self.session.board.clock.state)
+
     def test_dialogues(self):
         for lines, replies in DIALOGUES:
             self.afresh(*lines)

@@ -3,6 +3,7 @@
 //! `tests/data/further/saved_states.txt`.
 use crate::serial_objects::{Fields, IER, SCR, made, state_of, state_with};
 use std::alloc::Global;
+use vm_superio::rtc_pl031::encoding::SAVED_SIZE;
 use vm_superio::saved::{LoadError, SavedStateError};
 use vm_superio::{RtcState, SerialState};
 
@@ -72,7 +73,7 @@ fn a_port_of_sixty_five_bytes_has_no_form(rt: HostRuntime) {
 }
 
 /// The bytes of a saved clock, with these bytes at these places.
-fn clock_with(changes: &[(usize, u8)]) -> [u8; 33] {
+fn clock_with(changes: &[(usize, u8)]) -> [u8; SAVED_SIZE] {
     let mut saved = clock().to_bytes();
     for (place, byte) in changes {
         if let Some(old) = saved.get_mut(*place) {
@@ -102,25 +103,33 @@ fn bytes_of_no_port_are_refused_for_the_first_reason(rt: HostRuntime) {
         (&[(KIND, PORT)], 7, SavedStateError::TooShort),
         (
             &[(LETTER, b's'), (VERSION, UNKNOWN)],
-            33,
+            SAVED_SIZE,
             SavedStateError::NotASavedState,
         ),
-        (&[(VERSION, UNKNOWN)], 33, SavedStateError::OtherDevice),
+        (
+            &[(VERSION, UNKNOWN)],
+            SAVED_SIZE,
+            SavedStateError::OtherDevice,
+        ),
         (
             &[(KIND, PORT), (VERSION, UNKNOWN), (LENGTH, 0)],
-            33,
+            SAVED_SIZE,
             SavedStateError::UnknownVersion(UNKNOWN),
         ),
-        (&[(KIND, PORT)], 32, SavedStateError::WrongLength),
+        (
+            &[(KIND, PORT)],
+            SAVED_SIZE - 1,
+            SavedStateError::WrongLength,
+        ),
         (
             &[(KIND, PORT), (LENGTH, 8)],
             16,
             SavedStateError::WrongLength,
         ),
-        (&[], 33, SavedStateError::OtherDevice),
+        (&[], SAVED_SIZE, SavedStateError::OtherDevice),
     ];
     for (changes, length, fault) in rows {
-        let read = fault_of_port(rt.alloc(), &clock_with(changes)[..length.min(33)]);
+        let read = fault_of_port(rt.alloc(), &clock_with(changes)[..length.min(SAVED_SIZE)]);
         assert!(rt; read == Some(LoadError::Invalid(fault)), "{fault:?}");
     }
     let read = fault_of_port(rt.alloc(), &of_65_bytes());
@@ -134,22 +143,26 @@ fn bytes_of_no_clock_are_refused_for_the_first_reason(rt: HostRuntime) {
         (&[], 0, SavedStateError::TooShort),
         (
             &[(LETTER, b's'), (KIND, PORT)],
-            33,
+            SAVED_SIZE,
             SavedStateError::NotASavedState,
         ),
-        (&[(KIND, PORT)], 33, SavedStateError::OtherDevice),
+        (&[(KIND, PORT)], SAVED_SIZE, SavedStateError::OtherDevice),
         (
             &[(VERSION, UNKNOWN), (LENGTH, 1)],
-            33,
+            SAVED_SIZE,
             SavedStateError::UnknownVersion(UNKNOWN),
         ),
-        (&[], 32, SavedStateError::WrongLength),
+        (&[], SAVED_SIZE - 1, SavedStateError::WrongLength),
         // No clock has one byte after the header.
         (&[(LENGTH, 1)], 9, SavedStateError::WrongLength),
-        (&[(32, 2)], 33, SavedStateError::InvalidArmed),
+        (
+            &[(SAVED_SIZE - 1, 2)],
+            SAVED_SIZE,
+            SavedStateError::InvalidArmed,
+        ),
     ];
     for (changes, length, fault) in rows {
-        let read = RtcState::from_bytes(&clock_with(changes)[..length.min(33)]);
+        let read = RtcState::from_bytes(&clock_with(changes)[..length.min(SAVED_SIZE)]);
         assert_eq!(rt; read, Err(fault));
     }
 }
