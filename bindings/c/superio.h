@@ -4,7 +4,8 @@
  *
  * A 16550 serial port, a PL031 real-time clock, and an i8042 controller that
  * resets the machine. What a call does to a device is proved, for every
- * argument and whatever its struct holds. README.md says of which builds.
+ * argument and whatever its struct holds. README.md names the builds that this
+ * covers.
  *
  * How it works
  * ------------
