@@ -1,7 +1,11 @@
 -- SPDX-License-Identifier: Apache-2.0 OR BSD-3-Clause
 -- A guest's read, and the character timeout that a monitor makes after it.
 use Rattle.std.specs.Prelude.{ℕ, Bool, ◌==◌, ◌&&◌, if◌then◌else◌}
-use Rattle.vm_superio.specs.Serial.{Asked, has_bits, State, register_at, register_read, is_dlab, Read, CharacterTimeout, iir_none_bit, step, timeout_calls}
+use Rattle.superio_core.specs.Bits.{has_bits}
+use Rattle.superio_core.specs.Serial.{State, register_read}
+use Rattle.superio_core.specs.Serial.RegisterMap.{register_at, is_dlab}
+use Rattle.superio_core.specs.Serial.Operations.{Asked, Read, CharacterTimeout}
+use Rattle.superio_core.specs.Serial.Step.{iir_none_bit, step, timeout_calls}
 
 -- what a guest's read shows
 abbrev pub shown_at : (offset : ℕ) (s : State) → ℕ

@@ -4,7 +4,9 @@
 //!
 //! A step states what one call does to a state, as a device would. The history keeps no state: it searches the start
 //! and the trace of the calls so far for the last write, the bytes not yet taken, and any condition raised and not
-//! acknowledged. The first laws state that both describe the same port. The others follow from one of the two alone.
+//! acknowledged. Some laws, such as
+//! `states_of_history` and `clock_is_history`, state that both describe the same device. Most others follow from one of
+//! the two alone.
 //!
 //! They hold for a device in any language whose calls are those of `superio_core`.
 #![tactic(auto)]
@@ -32,8 +34,8 @@ pub fn held_bytes()
     ensures line_status { LineStatusLaw }
 {}
 
-/// The interrupt law, from a start whose IIR is 1, 2, 4 or 6: IIR shows the conditions raised and not acknowledged
-/// since. The step admits the answers and the outcome of an entry exactly if the entry is fitting. A restore makes the
+/// The interrupt law, from a start whose IIR is 1, 2, 4 or 6: IIR shows the conditions that are pending. The
+/// step admits the answers and the outcome of an entry exactly if the entry is fitting. A restore makes the
 /// trigger calls that are due. The trace may contain refused trigger calls and IER writes that end early.
 pub fn interrupts()
     ensures { InterruptLaw }
@@ -133,7 +135,8 @@ pub fn no_byte_waits()
 
 /// From any start, for any driver that takes at least one held byte at each interrupt and ends its run with a read of
 /// IIR: if a character timeout follows the run, bytes are held and IER enables RDA, the interrupt is asked for again.
-/// After as many runs as bytes are held, all of these are taken, in order, whatever arrives meanwhile.
+/// After as many such runs as bytes are held, each with a timeout after it, all of these are taken, in order, whatever
+/// arrives meanwhile.
 #[tactic(auto, using(crate::proofs::Lemmas::Serial::Laws::InterruptDriver::interrupt_driver_laws))]
 pub fn interrupt_driver()
     ensures owed { InterruptAfterPassLaw }
@@ -290,7 +293,8 @@ pub fn raw_bits_by_history()
 {}
 
 /// By the history, an alarm due in some seconds raises the interrupt at any access at that moment, if the guest writes
-/// nothing until then. No earlier access does, unless it writes a match itself. An earlier read changes nothing.
+/// nothing until then. Before that moment, the next access does only if it writes a match itself, and a read changes
+/// nothing, so the alarm stays due.
 #[tactic(auto, using(crate::proofs::Lemmas::Rtc::alarm_due_law))]
 pub fn alarm_due_by_history()
     ensures { AlarmDueByHistory }

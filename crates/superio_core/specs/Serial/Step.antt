@@ -13,7 +13,7 @@ use Rattle.superio_core.specs.declared.serial.ReadEffects.{ReadEffects}
 use Rattle.superio_core.specs.declared.serial.WriteEffects.{WriteEffects}
 use Rattle.superio_core.specs.declared.serial.EnqueueEffects.{EnqueueEffects}
 
--- IIR: nothing is pending. The steps alone use this bit
+-- IIR: nothing is pending
 abbrev pub iir_none_bit : ℕ
 iir_none_bit = 0x01
 
