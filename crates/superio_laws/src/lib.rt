@@ -114,8 +114,8 @@ pub fn trigger_bound()
     ensures { TriggerBoundLaw }
 {}
 
-/// From any start, after a byte is accepted or IER is written, and until IIR or RBR is read, RDA is pending whenever
-/// bytes are held and IER enables it.
+/// From any start, after a byte is accepted, IER is written or a character timeout is made, and until IIR or RBR is
+/// read, RDA is pending whenever bytes are held and IER enables it.
 #[tactic(auto, using(crate::proofs::Lemmas::Serial::Laws::Consequences::waiting_bytes_law))]
 pub fn waiting_bytes()
     ensures { WaitingBytesLaw }

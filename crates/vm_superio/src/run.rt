@@ -84,8 +84,8 @@ pub struct Done<T: Trigger, EV: SerialEvents, W: Write> {
 ///
 /// From a coherent start the records are a trace: the start, the earlier calls and the trigger's answers determine each
 /// byte read. They also determine the final state and, given the outcome of the byte that a call sent, every other
-/// response but that of a restore. Which objects get the calls after a restore depends on whether it succeeded, and so
-/// on memory too.
+/// response, apart from that of a restore and from which error the writer had. Which objects get the calls after a
+/// restore depends on whether it succeeded, and so on memory too.
 ///
 /// # Errors
 ///
