@@ -31,7 +31,7 @@ export interface WriteEffects {
 export interface EnqueueEffects {
   /** How many of the bytes were accepted, first ones first: as many as there is room for, and in loopback none. */
   accepted: number;
-  /** There were bytes, but room for none. */
+  /** There were bytes, outside loopback, and 64 were held already. */
   fifoFull: boolean;
   /** How often to ask for the interrupt: 0 or 1 times. */
   interrupts: number;

@@ -45,8 +45,8 @@ class WriteEffects(NamedTuple):
 class EnqueueEffects(NamedTuple):
     """What an enqueue did, and leaves to you.
 
-    `accepted` is how many of the bytes went in, from the first on. `fifo_full` is whether there were bytes, but room
-    for none. `interrupts` is how often to ask for the interrupt: 0 or 1 times.
+    `accepted` is how many of the bytes went in, from the first on. `fifo_full` is whether there were bytes, outside
+    loopback, and 64 were held already. `interrupts` is how often to ask for the interrupt: 0 or 1 times.
     """
 
     accepted: int

@@ -54,7 +54,7 @@ class Saved:
         return getattr(self._library, f"superio_{self._name}_{name}")
 
     def to_bytes(self) -> bytes:
-        """The device as a saved state, which `from_bytes`, C, Rust and Rattle read on any machine."""
+        """The device as a saved state, which `from_bytes` and the other languages read on any machine."""
         room = (c_uint8 * self._saved_max)()
         count = self._function("save")(self._pointer, room)
         return bytes(room[:count])
