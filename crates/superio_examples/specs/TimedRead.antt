@@ -4,7 +4,8 @@ use Rattle.std.specs.Prelude.{ℕ, Bool, ◌==◌, ◌&&◌, if◌then◌else◌
 use Rattle.superio_core.specs.Bits.{has_bits}
 use Rattle.superio_core.specs.Serial.{State, register_read}
 use Rattle.superio_core.specs.Serial.RegisterMap.{register_at, is_dlab}
-use Rattle.superio_core.specs.Serial.Operations.{Asked, Read, CharacterTimeout}
+use Rattle.superio_core.specs.Serial.Operations.{Read, CharacterTimeout}
+use Rattle.superio_core.specs.declared.serial.Asked.{Asked}
 use Rattle.superio_core.specs.Serial.Step.{iir_none_bit, step, timeout_calls}
 
 -- what a guest's read shows
