@@ -18,6 +18,7 @@ PLACES = [
     ("bindings/c/from-source/Cargo.toml", r'^superio = \{ version = "(.+?)"', VERSION),
     ("debian/changelog", r"\Asuperio \((.+)\+ds-\d+\) ", VERSION),
     # The same for the number of the binary interface, which the name of the shared library ends with.
+    ("crates/superio_c/src/lib.rt", r"^const ABI: u32 = (\d+);$", ABI),
     ("bindings/js/module.mjs", r"^export const ABI = (\d+);$", ABI),
     ("bindings/c/from-source/src/lib.rs", r"^const ABI: u32 = (\d+);$", ABI),
     ("debian/control", r"^Package: libsuperio(\d+)$", ABI),
@@ -74,7 +75,7 @@ def test_release_has_a_date(heading):
     assert re.fullmatch(r"\d+\.\d+\.\d+ - \d{4}-\d\d-\d\d", dated)
 
 
-@pytest.mark.parametrize("name, form, wanted", at_least(11, PLACES))
+@pytest.mark.parametrize("name, form, wanted", at_least(12, PLACES))
 def test_number(name, form, wanted):
     """A version, or the number of the binary interface, is the same in each file that repeats it."""
     assert re.findall(form, (ROOT / name).read_text(encoding="utf-8"), re.M) == [wanted]
