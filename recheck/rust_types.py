@@ -574,7 +574,7 @@ class Checker:
         elif operator in ("&", "|", "^"):
             if known not in WIDTHS and known != "bool":
                 self.refuse(node, f"{operator} of {known}")
-        elif known not in WIDTHS and not (known == "i64" and operator in ("+", "-", "*")):
+        elif known not in WIDTHS and not (known == "i64" and operator in ("+", "-")):
             self.refuse(node, f"{operator} of {known}")
         node.operands = type_
         return "bool" if operator in BINARY[2] else type_

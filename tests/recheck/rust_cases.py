@@ -112,6 +112,7 @@ REFUSED = {
     "call of a variable": ("the name two",
         "fn one() -> u32 { 1 } fn two() -> u32 { 2 } pub fn case() -> u32 { let one = two; one() }"),
     "negative": ("an expression", "pub fn case() -> u32 { let x: i64 = -5; if x < 0 { 1 } else { 2 } }"),
+    "product of i64": ("* of i64", "pub fn case() -> u32 { let x: i64 = 7; let y = x * x; y as u32 }"),
     "division of i64": ("/ of i64",
         "pub fn case() -> u32 { let x: i64 = 0 - 7; let y: i64 = x / 2; (y + 100) as u32 }"),
     "remainder of i64": ("% of i64",

@@ -139,14 +139,16 @@ impl Monitor {
         ensures replies { IfOk result (λ replies. replies.items ≡ replies_to events.now (machine_of self.old)) }
         ensures machine { OnOk result (machine_of self.new ≡ after events.now (machine_of self.old)) }
         ensures refused { OnErr result (self.new ≡ self.old) }
-        // The output got the bytes that the guest wrote to THR, in order.
+        // The output got the bytes that the guest wrote to THR outside loopback, in order. It dropped and counted those
+        // that found no room.
         ensures output { OnOk result (self.new.output
             ≡ after_sent (in_each sent_at events.now (machine_of self.old)) self.old.output) }
         // A reset is asked for exactly where 0xFE is written at port 0x64.
         ensures resets { IfOk result (λ replies. map is_reset_reply replies.items ≡ map asks_reset events.now) }
-        // Until the guest is ready, all that is typed waits.
+        // Until the guest is ready, and unless `is_early` is set, what is typed waits if there is room.
         ensures gate { OnOk result (KeepsOut events.now (machine_of self.old) (machine_of self.new)) }
-        // The guest got each byte that was typed, in order, but those that a reset lost, and those that wait.
+        // The guest got each byte that was typed, in order, but those that a reset lost, those that the port holds, and
+        // those that wait.
         ensures input { let m = machine_of self.old in OnOk result (KeepsInput (in_each left_at events.now m)
             (in_each looped_at events.now m) (in_each typed_by events.now m) m (machine_of self.new)) }
     {

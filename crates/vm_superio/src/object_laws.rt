@@ -1,5 +1,6 @@
 // SPDX-License-Identifier: Apache-2.0 OR BSD-3-Clause
-//! The laws that need an object or a `Vec`. Each function does nothing: its contract is the law.
+//! The laws of saved states, and those that need an object or a `Vec`. Each function does nothing: its contract is the
+//! law.
 //!
 //! The module `laws` is `superio_laws`, which has all other laws. Its head explains the terms.
 ghost use Rattle.vm_superio.specs.Links.Writer.{KnownOutputLaw};

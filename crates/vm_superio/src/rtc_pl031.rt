@@ -3,7 +3,7 @@
 //!
 //! The clock does not read the host's clock: you pass each access its moment, in seconds since 1970. The low 32 bits
 //! of a moment are the host's time. Guest time is the host's time plus the clock's offset if the sum fits in 32 bits,
-//! and otherwise the host's time. It does not wrap.
+//! and otherwise the host's time. The sum does not wrap.
 //!
 //! The match register is an alarm, unless its value is past when it is written. The first access that finds guest time
 //! at or past the match raises bit 0 of the raw interrupt status. The clock calls no trigger: after each access, set

@@ -70,7 +70,7 @@ impl SerialState {
         self.port().map_or(false, |port| port.is_coherent())
     }
 
-    /// The encoding: 17 to 81 bytes, the same on every machine. A state has exactly one.
+    /// The encoding: 17 to 81 bytes, the same on every machine. A state of up to 64 bytes has just one.
     ///
     /// # Errors
     ///

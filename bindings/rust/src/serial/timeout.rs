@@ -42,7 +42,7 @@ use crate::Trigger;
 ///
 /// type Port = Serial<Interrupt, NoEvents, Vec<u8>>;
 ///
-/// /// The guest reads at `offset` from the port's base. The result says whether to retry in the next turn, too.
+/// /// The guest reads at `offset` from the port's base. The result also says whether to retry in the next turn.
 /// fn guest_reads(port: &mut Port, offset: u8) -> (u8, bool) {
 ///     let value = port.read(offset);
 ///     let is_refused = offset == 2 && value & 0x01 != 0 && port.character_timeout().is_err();

@@ -32,7 +32,7 @@ pub enum SavedStateError {
     OtherDevice,
     /// The encoding has this version, which is not 1.
     UnknownVersion(u8),
-    /// The length in the header is not that of the rest, or no state of the device has it.
+    /// The length in the header is not that of the rest, is less than 9 for a port, or is not 25 for a clock.
     WrongLength,
     /// The port would hold more than 64 received bytes.
     TooManyBytes,
