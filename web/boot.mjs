@@ -40,8 +40,8 @@ export const RECORDINGS = {
         "logs a 16550A.", "the-serial-port"],
       ["kw 04 20", "The kernel looks for a keyboard: it reads the controller's status 10,001 times, and goes on " +
         "without one.", "a-keyboard-that-never-answers"],
-      ["sw 01 02", "The kernel opens the port: it enables THRE twice, and IIR shows it both times. From here on one " +
-        "read of LSR serves 16 bytes.", "the-serial-port"],
+      ["sw 01 02", "The kernel opens the port and tests THRE: it enables it twice, and IIR shows it both times. " +
+        "From here on one read of LSR serves 16 bytes.", "the-serial-port"],
       ["kw 04 fe", "The recorded kernel has no first program that works. So it panics, as it should, and resets the " +
         "machine through the controller.", "the-controller"],
     ],

@@ -213,7 +213,8 @@ impl Monitor {
 
     /// A guest's write of a port. A byte that it sends waits in the output.
     fn write_port(&mut self, port: u16, value: u8) -> (Answer, u8)
-        ensures acts { Acts (MachineEvent.PortWrite port value) result.0 result.1 (machine_of self.old) (machine_of self.new) }
+        ensures acts { Acts (MachineEvent.PortWrite port value) result.0 result.1
+            (machine_of self.old) (machine_of self.new) }
     {
         match (serial_offset(COM1, port), port) {
             (Some(offset), _) => {
@@ -234,7 +235,8 @@ impl Monitor {
 
     /// A guest's read of memory.
     fn read_memory(&mut self, address: u64) -> (Answer, u8)
-        ensures acts { Acts (MachineEvent.MemoryRead address) result.0 result.1 (machine_of self.old) (machine_of self.new) }
+        ensures acts { Acts (MachineEvent.MemoryRead address) result.0 result.1
+            (machine_of self.old) (machine_of self.new) }
     {
         match offset_in(CLOCK, address) {
             Some(offset) => {

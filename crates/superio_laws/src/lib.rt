@@ -186,10 +186,10 @@ pub fn console_driver()
 {}
 
 /// From any start, for a handler like Linux's. It reads IIR until nothing is pending. After each read it sends, and it
-/// takes bytes until none is left or it has taken as many as a limit. It gets bytes to send, or goes on after a stop, as
-/// a driver of [`console_driver`] does. Then its runs are those of such a driver. When it reads that nothing is pending,
-/// it has sent all its bytes, unless it is stopped. If IER then enables RDA, it has also taken all bytes, unless its
-/// last turn came to the limit: the others wait for the character timeout.
+/// takes bytes until none is left or it has taken as many as a limit. It gets bytes to send, or goes on after a stop,
+/// as a driver of [`console_driver`] does. Then its runs are those of such a driver. When it reads that nothing is
+/// pending, it has sent all its bytes, unless it is stopped. If IER then enables RDA, it has also taken all bytes,
+/// unless its last turn came to the limit: the others wait for the character timeout.
 pub fn console_handler()
     ensures run { HandlerRunLaw }
     ensures ends { HandlerEndsLaw }

@@ -81,8 +81,8 @@ pub fn size_of(number: u64) -> usize {
 /// How many faults there are.
 pub const FAULTS: i32 = 544;
 
-/// The fault of a number below [`FAULTS`]: by each number of the system, by each kind alone, by a kind with any text, and
-/// by any number. An interrupted call is repeated, so it is left out.
+/// The fault of a number below [`FAULTS`]: by each number of the system, by each kind alone, by a kind with any text,
+/// and by any number. An interrupted call is repeated, so it is left out.
 pub fn fault_of(number: i32) -> io::Error {
     match number {
         4 => io::Error::from_raw_os_error(4_095),

@@ -38,8 +38,8 @@ pub record HistoryTheorem
       read_out_bytes start.state (trace_of records) ++ end.state.in_buffer
       ≡ start.state.in_buffer ++ accepted_bytes start.state (trace_of records)
   -- each trigger call outside restores is one condition that becomes pending; their number is bounded; and at the end
-  -- of the run RDA is pending if bytes are held and IER enables it, and if neither IIR nor RBR was read since a byte was
-  -- accepted, IER was written or a timeout was made
+  -- of the run RDA is pending if bytes are held and IER enables it, and if neither IIR nor RBR was read since a byte
+  -- was accepted, IER was written or a timeout was made
   pub trigger_calls : IsTrue (is_fitting start.state (trace_of records))
   pub bound : IsWithinBound start.state (trace_of records)
   pub waiting : RdaCoversWaitingBytes start.state (trace_of records)
