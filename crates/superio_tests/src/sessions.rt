@@ -73,9 +73,9 @@ const READS: [(u16, &[u8], &[u8]); 16] = [
 /// Whether a read of so many bytes at this port gives these.
 fn gives(bus: &mut TestBus<'_>, at: u16, expected: &[u8]) -> bool {
     let mut bytes = [0xAA; 4];
-    let read = &mut bytes[..expected.len().min(4)];
-    bus.port_in(at, read);
-    *read == *expected
+    let count = expected.len().min(4);
+    bus.port_in(at, &mut bytes[..count]);
+    bytes[..count] == expected[..]
 }
 
 #[test]
