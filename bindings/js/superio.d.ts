@@ -117,13 +117,16 @@ export class Serial {
   /** The port as a saved state, which `fromBytes` and the other languages read on any machine. */
   toBytes(): Uint8Array;
   /**
-   * The port of a saved state. Afterwards ask for the interrupt as often as `interruptsDue` says. Throws a
-   * SavedStateError if the bytes are not the saved state of a serial port.
+   * The port of a saved state. Afterwards ask for the interrupt as often as `interruptsDue` says, and again after each
+   * write at offset 1. Throws a SavedStateError if the bytes are not the saved state of a serial port.
    */
   static fromBytes(bytes: Uint8Array): Serial;
   /** The registers and the held bytes, as a plain object. */
   readonly state: SerialState;
-  /** A port of this state. Afterwards ask for the interrupt as often as `interruptsDue` says. */
+  /**
+   * A port of this state. Afterwards ask for the interrupt as often as `interruptsDue` says, and again after each write
+   * at offset 1.
+   */
   static fromState(state: SerialState): Serial;
   /** Another port in the same state. */
   clone(): Serial;

@@ -22,7 +22,7 @@ struct machine {
     size_t dropped;      /* how many bytes the guest has sent while there was no room */
     bool reader_is_busy; /* the reader of the output takes nothing now */
     bool feeds_early;    /* input need not wait until the guest is ready: one that polls never says so */
-    bool is_ready;       /* the guest has enabled the interrupt of received data, and no other test of its port */
+    bool is_ready;       /* IER has enabled RDA and not THRE: the guest is past its test of the port */
     bool has_level;      /* the interrupt line is a level, and takes no edges */
     bool line_is_down;   /* the interrupt line takes nothing now */
     bool was_refused;    /* the event loop is to ask for interrupts again */

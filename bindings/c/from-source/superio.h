@@ -461,9 +461,9 @@ size_t superio_serial_fifo_capacity(const superio_serial *port)
  *
  * After a restore, ask that often, so that interrupts that the guest has not
  * taken reach it from their new source. Some milliseconds after a refused
- * interrupt, ask that often from your event loop, and again after writes at
- * offset 1, as superio_serial_write says. The guest may then be interrupted
- * again for a condition that it knows of, also long afterwards.
+ * interrupt, ask that often from your event loop. In both cases ask again after
+ * writes at offset 1, as superio_serial_write says. The guest may then be
+ * interrupted again for a condition that it knows of, also long afterwards.
  */
 uint8_t superio_serial_interrupts_due(const superio_serial *port)
     SUPERIO_MUST_USE SUPERIO_NONNULL SUPERIO_ACCESS(read_only, 1);
@@ -661,7 +661,8 @@ size_t superio_serial_save(
 /*
  * Makes a port from `count` saved bytes. Any bytes are allowed. The port
  * changes only if the result is SUPERIO_LOAD_OK. Then ask for the interrupt as
- * often as superio_serial_interrupts_due says.
+ * often as superio_serial_interrupts_due says, and again after writes at offset
+ * 1, as 'A snapshot' above says.
  *
  * A loaded port holds at most 64 bytes. It need not be coherent: ask
  * superio_serial_is_coherent. `bytes` points to `count` bytes outside the port.

@@ -170,7 +170,7 @@ class Serial(Saved):
 
     @classmethod
     def from_state(cls, state: SerialState) -> "Serial":
-        """A port of this state. Afterwards ask for the interrupt as often as `interrupts_due` says."""
+        """A port of this state. Afterwards ask for the interrupt as `interrupts_due` says of a restore."""
         port = cls()
         port._set(state, SerialState)
         port._struct.head, port._struct.len = 0, len(state.in_buffer)

@@ -61,7 +61,7 @@ class Saved:
 
     @classmethod
     def from_bytes(cls: Type[_Device], data: bytes) -> _Device:
-        """The device of a saved state. For a port, then ask for the interrupt as often as `interrupts_due` says.
+        """The device of a saved state. For a port, then ask for the interrupt as `interrupts_due` says of a restore.
 
         Raises `SavedStateError` if the bytes are no saved state of this device.
         """
