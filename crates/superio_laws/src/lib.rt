@@ -159,7 +159,8 @@ pub fn transmitter_interrupt()
 /// From any start, for a driver of a console and a monitor that do the following. A run is what an interrupt makes the
 /// driver do, with all other calls up to the next run.
 ///
-/// - At each interrupt, the driver reads IIR, and takes at least one byte if one is held. Nobody else reads IIR.
+/// - In each run, the driver reads IIR, and takes at least one byte if one is held when the run begins. Nobody else
+///   reads IIR.
 /// - Each run ends in one of two ways. Either the driver reads IIR at least twice, until nothing is pending, as Linux
 ///   and Xen do, and nobody reads IIR or RBR after that. Or a character timeout comes after the driver's last read of
 ///   IIR and what it does then, and nobody reads either after that.
