@@ -8,7 +8,7 @@ from contextlib import nullcontext
 from typing import List
 
 from . import __version__
-from .library import LibraryError, load
+from .library import LibraryError
 from .prompt import Leave, use_history
 from .script import reason_of
 from .session import Session
@@ -53,7 +53,6 @@ def _run(arguments: List[str]) -> None:
         view(options.trace, options.table, options.svg)
         return
     path = _parser().parse_args(arguments).file
-    load()
     sys.stdout.reconfigure(line_buffering=True)  # type: ignore[union-attr]  # each reply goes out at once
     session = Session(sys.stdout)
     if path is None and sys.stdin.isatty():

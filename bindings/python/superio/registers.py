@@ -46,7 +46,7 @@ def number(name: str, value: Any, bits: int, is_signed: bool = False, instead: s
         kind = ValueError
     except TypeError:
         kind = TypeError
-    most = str((1 << bits) - 1) if bits <= 16 else f"2**{bits} - 1"
+    most = str((1 << bits) - 1) if bits < 32 else f"2**{bits} - 1"
     span = f"from -2**{bits - 1} to 2**{bits - 1} - 1" if is_signed else f"from 0 to {most}"
     raise kind(_refusal(name, value, f"an int {span}{instead}"))
 
@@ -158,7 +158,7 @@ def serial_register(offset: int, line_control: int, is_write: bool) -> Optional[
 def clock_register(offset: int) -> Optional[Register]:
     """The register at an offset of the clock, `None` if there is none."""
     return next((register for register in CLOCK.values()
-                 if register.offset == (offset & ~3 if register.offset >= 0xFE0 else offset)), None)
+                 if register.offset == (offset & ~3 if register.name.startswith("ID") else offset)), None)
 
 
 def bits_by_name(register: Register) -> Dict[str, int]:

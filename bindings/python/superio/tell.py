@@ -35,7 +35,7 @@ def quoted(data: bytes, most: int = FIFO_SIZE) -> str:
     return f'"{shown}"' + (".." if len(data) > most else "")
 
 
-def _decoded(register: Register, value: int, width: int = 4) -> str:
+def _decoded(register: Register, value: int, width: int) -> str:
     """A value in as many characters, and the names of the register's bits in it."""
     names = " ".join(bit_names(register, value))
     return f"{value:#0{width}x}" + (f"  {names}" if names else "")

@@ -90,8 +90,10 @@ class Viewer(Prompt):
 
     def _go(self, place: int) -> None:
         """Goes to a call, and shows it."""
-        if not 0 <= place < len(self._steps):
-            raise ScriptError("there is no call further on" if place > 0 else "there is no call before")
+        if place < 0:
+            raise ScriptError("there is no call before")
+        if place >= len(self._steps):
+            raise ScriptError("there is no call further on")
         self._place, step = place, self._steps[place]
         line = f"{text_of(step.call.command)}  {step.call.reply or ''}".rstrip()
         name, words = step.call.register.name if step.call.register else "", told(step.call)
