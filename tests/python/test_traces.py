@@ -41,7 +41,8 @@ PLACES = [("next", 2), ("next 3", 5), ("back 2", 3), ("next thre", 8), ("back rd
           ("next difference", 12), ("goto 4", 4), ("next change", 5), ("back input", 3), ("last", 12),
           ("next", "there is no call further on"), ("goto 0", "there is no call before"),
           ("goto x", "the syntax is: goto N"), ("first", 1), ("back", "there is no call before"), ("", 2),
-          ("foo", "no command is called foo: help lists them"), ("next timeout", 9)]
+          ("foo", "no command is called foo: help lists them"), ("next timeout", 9),
+          ("goto 13", "there is no call further on"), ("goto 3", 3), ("back sent", "no sent before")]
 
 # Traces, and the bars of their lanes in the picture.
 PICTURES = [
@@ -53,6 +54,8 @@ PICTURES = [
     # A column of many calls has their mean.
     (b"sq 61\nsr 00\n" * 800, ["bytes held", "M120 80v-5h800v5z"]),
     (b"sq " + b"00" * 32 + b"\nsr 05\n", ["bytes held", "M120 80v-17h800v17z"]),
+    (b"cr 0000000000000000 0000\nkr 04\nsc\nsr 05\n",
+     ["clock", "M120 80v-34h200v34z", "controller", "M320 128v-34h200v34z"]),
     (b"sr 05\n", []),
 ]
 
@@ -107,12 +110,15 @@ def test_what_is_shown():
     rows = said(viewer, "list").splitlines()
     assert [int(row.lstrip("> ").split()[0]) for row in rows] == [*range(1, 12)]
     assert ">       6  sw 01 03" in rows[5]
+    said(viewer, "next")
+    assert [int(row.lstrip("> ").split()[0]) for row in said(viewer, "list").splitlines()] == [*range(2, 13)]
 
 
 def test_a_reply_that_differs():
     steps = steps_of(TRACE)
     assert [number for number, step in enumerate(steps, 1) if step.differs] == [12]
     assert table(steps).endswith("     12  kw 04 fe                  reset  recorded: ok\n")
+    assert said(Viewer(steps, "trace", None), "last").endswith("\n  recorded: ok\n")
 
 
 @pytest.mark.parametrize("trace, parts", PICTURES, ids=lambda it: str(it)[:30])

@@ -55,6 +55,9 @@ LOADED = "read SCR\nsd\ncr 00000000000003ef 0000\n"
 # A chain of files, of which each names the one before.
 CHAIN = {str(number): f"source {number - 1}\n" if number else "write SCR 7\n" for number in range(12)}
 
+# A script as long as one may be.
+LONGEST, LONGEST_SAID = "st\ncr 0000000000000000 0000\n" + "kr 04\n" * 10_918, f"{0:016x}\n{0:08x}\n" + "00\n" * 10_918
+
 # Files that are there and standard input; the status, the output, a part of the errors, and the files that are new.
 FILES = [
     ({"a file": "old"}, f"write SCR 7\ntype {HELD}\nclock write LR 100 1000\nsave 'a file'\n",
@@ -65,7 +68,7 @@ FILES = [
     # Files follow each other, and go ten deep. What a line of one says is said with both places.
     (CHAIN, "source 0\n" * 12, (0, "ok\n" * 12), "", {}),
     (CHAIN, "source 9\n", (0, "ok\n"), "", {}),
-    (CHAIN, "source 10\n", (1, ""), "files that load each other go at most 10 deep", {}),
+    (CHAIN, "source 0\nsource 10\n", (1, "ok\n"), "files that load each other go at most 10 deep", {}),
     ({"it": "kr 04\nkr 4 4\n"}, "source it\n", (1, "00\n"),
      '<stdin>:1: "source it": it:2: "kr 4 4": the syntax is: kr OO\n', {}),
     ({"it": "kr 04\nquit\n"}, "source it\nkr 04\n", (0, "00\n"), "", {}),
@@ -84,9 +87,8 @@ FILES = [
      (0, "ok\n02\nc4\nok\na fresh board\n00\nkr 04\n"), "", {}),
     ({"it": SL + CL}, "load it\nscript\n", (1, "ok\nok\n"), f"of this session: call 1, {SL[:12]}", {}),
     # It has at most 65,536 bytes.
-    ({}, "kr 04\n" * 10_922 + "script new\n", (0, "00\n" * 10_922 + "the script is in new\n"), "",
-     {"new": "kr 04\n" * 10_922}),
-    ({}, "kr 04\n" * 10_923 + "script new\n", (1, "00\n" * 10_923), "at most 65,536 bytes, and these are more", {}),
+    ({}, LONGEST + "script new\n", (0, LONGEST_SAID + "the script is in new\n"), "", {"new": LONGEST}),
+    ({}, LONGEST + "sc\nscript new\n", (1, LONGEST_SAID + "40\n"), "at most 65,536 bytes, and these are more", {}),
     ({}, "kr 04\nreset\nsr 07\ntrace on\nread SCR\ntrace off\nread SCR\ntrace\ntrace new\n",
      (0, "00\na fresh board\n00\ntrace is on\nsr 07\nSCR = 0x00\ntrace is off\nSCR = 0x00\nsr 07\nsr 07\nsr 07\n"
          "the calls since the last reset are in new\n"), "", {"new": "sr 07\nsr 07\nsr 07\n"}),
@@ -100,6 +102,7 @@ COMMANDS = [
     (f"yes 'kr 04' | {SUPERIO} | head -n 1; exit ${{PIPESTATUS[1]}}", (128 + signal.SIGPIPE, "00\n", "")),
     (f"{SUPERIO} view {BOOT} --table | head -n 1; exit ${{PIPESTATUS[0]}}", (128 + signal.SIGPIPE, "piece 1\n", "")),
     (f"echo 'kr 04' | {SUPERIO} > /dev/full", (2, "", "No space left on device")),
+    (f"echo 'kr 04' | {SUPERIO} view - --table > /dev/full", (2, "", "No space left on device")),
     (f"echo 'save /dev/stdout' | {SUPERIO} | tail -n 1", (0, "port and clock saved to /dev/stdout\n", "")),
     (f"SUPERIO_LIBRARY=/nowhere/lib.so {SUPERIO}", (2, "", "python3 -m superio: /nowhere/lib.so cannot be loaded")),
     *((f"{SUPERIO} {wrong}", (2, "", "usage: ")) for wrong in ("--unknown", "a b", "view", "view --unknown a")),
@@ -146,6 +149,14 @@ class Runs(FolderTest):
             self.assertEqual((status, True), (done[0], "File too large" in done[2]), done)
             self.assertEqual("what was there\n", self.path.read_text())
             self.assertEqual([self.path], list(self.folder.iterdir()))
+
+    def test_a_name_that_the_output_cannot_encode(self):
+        done = run(script="save é\n".encode(), cwd=self.folder, env={**ENVIRONMENT, "PYTHONIOENCODING": "ascii"})
+        self.assertEqual((0, "port and clock saved to \\xe9\n", ""), done)
+
+    def test_ctrl_c_while_python_ends_has_no_traceback(self):
+        program = "import os, signal, superio.__main__ as it; it.main(['-']); os.kill(os.getpid(), signal.SIGINT)"
+        self.assertEqual((-signal.SIGINT, "", ""), ended([sys.executable, "-c", program], env=ENVIRONMENT))
 
     def test_a_file_keeps_its_mode_and_a_link_its_target(self):
         self.path.touch()
@@ -278,10 +289,16 @@ class Terminal(FolderTest):
 
     def test_stepping_in_the_viewer(self):
         self.path.write_text("sw 01 02  ok\nsr 02  c2\n2 kr 04  00\n")
-        self.assertIn("4 calls in 1 piece", self.start("view", self.path, prompt="view> "))
+        self.assertRegex(self.start("view", self.path, prompt="view> "), "4 calls in 1 piece(?s:.*)\ncall 1 of 4")
         for line, place in (("", 2), (UP + "next", 3), ("back", 2), ("back thre", 1)):
             self.assertIn(f"call {place} of 4", self.answer(line, "view> "))
         self.leave()
+
+    def test_the_table_goes_to_a_pager(self):
+        self.path.write_text("sr 05\n")
+        self.assertIn("> piece 1\n>       1  sr 05 ",
+                      self.start("view", self.path, "--table", prompt="60\n", MANPAGER="sed 's/^/> /'"))
+        self.leave("")
 
     def test_the_history(self):
         """It is in the home, elsewhere, or nowhere, outlasts the session, and has the last thousand lines."""

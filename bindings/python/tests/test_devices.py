@@ -4,16 +4,20 @@ import copy
 import dataclasses
 import doctest
 import json
+import os
 import pickle
 import re
 import typing
 import unittest
+from pathlib import Path
+from unittest import mock
 
 from support import ROOT
 
 import superio
-from superio import (AlarmIsSetError, Board, Command, I8042, RegisterError, Rtc, RtcState, SavedStateError, Serial,
-                     SerialState, board, devices, parse, registers)
+from superio import (AlarmIsSetError, Board, Command, I8042, LibraryError, RegisterError, Rtc, RtcState,
+                     SavedStateError, ScriptError, Serial, SerialState, board, devices, library, parse, registers,
+                     saved)
 from superio.saved import SAVED_STATE_ERRORS
 
 ERROR_TEXTS = ROOT / "crates" / "superio_core" / "src" / "saved" / "error_text.rt"
@@ -25,6 +29,10 @@ MOVED = [(Serial, """{"baud_divisor_low":1,"baud_divisor_high":2,"interrupt_enab
 
 FORMATS = {0x00: "5N1", 0x01: "6N1", 0x02: "7N1", 0x03: "8N1", 0x06: "7N2", 0x07: "8N2", 0x0B: "8O1", 0x1B: "8E1",
            0x2B: "8M1", 0x3B: "8S1", 0x33: "8N1"}
+
+# The names of bits, from 0x01 on. A dash stands for one without a name.
+BITS = {"IER": "RDA THRE RLS MS", "IIR": "- THRE RDA", "LCR": "- - - - - - BREAK DLAB", "MCR": "DTR RTS OUT1 OUT2 LOOP",
+        "LSR": "DR OE PE FE BI THRE TEMT", "MSR": "- - - - CTS DSR RI DCD"}
 
 LATCHED = Serial.from_state(SerialState(line_control=0x83))
 
@@ -67,8 +75,11 @@ REFUSED = [
     (lambda: RtcState(lr=-1), ValueError, "lr is -1", WORD),
     (lambda: RtcState(offset=1 << 63), ValueError, "offset is ", SIGNED),
     (lambda: RtcState(offset=-1 - (1 << 63)), ValueError, "offset is ", SIGNED),
+    (lambda: I8042().read(256), ValueError, "offset is 256", BYTE),
+    (lambda: I8042().write(256, 0), ValueError, "offset is 256", BYTE),
     (lambda: I8042().write(4, 0x1FE), ValueError, "value is 510", BYTE),
     (lambda: parse("sr 05"), TypeError, "line is 'sr 05'", BYTES),
+    (lambda: parse(b"refuse " + b"0" * 16), ScriptError, "a mask comes before every other line", ""),
     (lambda: Board().run("sr 05"), TypeError, "command is 'sr 05'", "Command is wanted"),
 ]
 
@@ -100,12 +111,34 @@ class Arguments(unittest.TestCase):
             self.assertEqual(2, port.enqueue(data).accepted)
         self.assertEqual(b"abcdef", port.state.in_buffer)
 
+    def test_a_misspelt_attribute_is_refused(self):
+        for device in (Serial(), Rtc()):
+            self.assertRaises(AttributeError, setattr, device, "stat", None)
+
     def test_names_of_registers(self):
         port = Serial()
         self.assertEqual(0x60, port.read("lsr").byte)
         for name, value in (("LCR", 0x83), ("DLL", 0x34), ("DLM", 0x12)):
             port.write(name, value)
         self.assertEqual((0x34, 0x12), (port.state.baud_divisor_low, port.state.baud_divisor_high))
+
+
+    def test_each_device_says_that_there_is_no_library(self):
+        with mock.patch.object(devices, "load", side_effect=LibraryError), \
+                mock.patch.object(saved, "load", side_effect=LibraryError):
+            for kind in (Serial, Rtc, I8042):
+                self.assertRaises(LibraryError, kind)
+
+
+    def test_where_the_library_is_looked_for(self):
+        with mock.patch.object(library, "FILE_NAME", "none.so"), mock.patch.dict(os.environ, {library.VARIABLE: ""}), \
+                self.assertRaises(LibraryError) as caught:
+            library.open_library()
+        folder = Path(library.__file__).resolve().parent
+        prebuilt = f"prebuilt/{os.uname().machine}-linux/none.so"
+        places = " or ".join(map(str, [folder / "none.so", *(folder.parents[up] / prebuilt for up in (0, 2))]))
+        self.assertRegex(str(caught.exception), "^none.so cannot be loaded: .*, nor is it "
+                                                f"{re.escape(places)}: set SUPERIO_LIBRARY to its path$")
 
 
 class NamedPort(Serial):
@@ -214,12 +247,28 @@ class States(unittest.TestCase):
                                    (RtcState, {**clock, "offset": "1"}, TypeError)):
             self.assertRaises(error, kind.from_vm_superio, named)
 
+    def test_offsets_of_the_clock(self):
+        self.assertEqual({name: 4 * place for place, name in enumerate("DR MR LR CR IMSC RIS MIS ICR".split())},
+                         {name: it.offset for name, it in registers.CLOCK.items() if it.offset < 0xFE0})
+
     def test_what_is_shown(self):
         for value, name in FORMATS.items():
             self.assertEqual([name], registers.bit_names(registers.SERIAL["LCR"], value), hex(value))
+        for register, names in BITS.items():
+            self.assertEqual({name: 1 << place for place, name in enumerate(names.split()) if name != "-"},
+                             registers.bits_by_name(registers.SERIAL[register]))
         clock = Rtc.from_state(RtcState(lr=0x12345678, mr=0x9ABCDEF0, imsc=1, offset=-5, armed=True))
         self.assertRegex(repr(clock), r"^<Rtc MR=0x9abcdef0 LR=0x12345678 IMSC=0x00000001\(ALARM\) RIS=0x00000000 "
                                       r"(\w+=0x00000000 )*offset=-5 armed=True>$")
+        port = Serial.from_state(SerialState(0x34, 0x12, line_control=0x83, in_buffer=b"a"))
+        self.assertEqual("<Serial divisor=4660 IER=0x00 IIR=0x01(none) LCR=0x83(8N1|DLAB) LSR=0x60(THRE|TEMT) "
+                         "MCR=0x08(OUT2) MSR=0xb0(CTS|DSR|DCD) SCR=0x00 in_buffer=b'a'>", repr(port))
+        self.assertEqual([], registers.bit_names(registers.SERIAL["IIR"], 0))  # which no coherent port has
+
+    def test_when_an_alarm_is_due(self):
+        clock = Rtc()
+        clock.write("MR", 2000, now=1000)
+        self.assertEqual((1000, None), (clock.alarm_due(1000), Rtc().alarm_due(1000)))
 
     def test_coherence(self):
         self.assertTrue(Serial().is_coherent())

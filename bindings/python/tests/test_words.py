@@ -1,6 +1,7 @@
 # SPDX-License-Identifier: Apache-2.0 OR BSD-3-Clause
 """What people type: the commands that it means, what is said of it, and why it means none. And what documents show."""
 import doctest
+import errno
 import io
 import os
 import re
@@ -10,7 +11,8 @@ from unittest import mock
 from support import PACKAGE, ROOT, FolderTest, run
 
 from superio import Command
-from superio.script import reason_of
+from superio.prompt import write_text
+from superio.script import ScriptError, reason_of, shown
 from superio.session import Session
 from superio.tell import quoted
 from superio.words import characters
@@ -33,6 +35,7 @@ MEANINGS = {
     "sq 74776f20776f726473": ["type two words"],
     "sq 00ff5c1b090d000a": [r'type "\x00\xff\\\e\t\r\0\n"'],
     "sq c3a9": ['type "é"'],
+    f"sq {'78' * 128}": ["type " + "x" * 128],
     "cr 000000006553f100 0000": ["clock read DR now", "clock read rtcdr", "cr now DR"],
     "cr 000000006553f105 0fe4": ["clock read 0xfe4 +5"],
     "cr 000000006553f0ff 0004": ["clock read MR now-1"],
@@ -42,6 +45,7 @@ MEANINGS = {
     "cw 000000006553f100 0004 6553f105": ["alarm +5"],
     "cw 000000006553f100 0004 ffffffff": [f"alarm +{(1 << 32) - NOW - 1}"],
     "cw 000000006553f101 0004 00000010": ["alarm 0x10 now+1"],
+    "cw 00000000000003e8 0004 00000010": ["alarm 16 1000"],
     "kr 04": ["i8042 read 4", "kr 4"],
     "kw 04 fe": ["i8042 write 4 0xfe"],
     "si": ["timeout"], "sd": ["drain"], "so": ["output"], "ss": ["restore"],
@@ -60,12 +64,14 @@ FAULTS = {
     "the syntax is: i8042 read|write OFFSET [VALUE]": ["i8042 read"],
     "the syntax is: alarm +SECONDS": ["alarm", "alarm +1 now 2"],
     "the syntax is: drain": ["drain 5"],
+    "the syntax is: reset": ["reset 5"],
     "the syntax is: regs [serial|clock]": ["regs all"],
     "the syntax is: save FILE": ["save", "save a b", 'save "a'],
     "XYZ is no offset, and no register: those are RBR": ["read XYZ", "sr XYZ"],
     "256 is no offset": ["read 256"],
     "-1 is no offset": ["read -1"],
     "FOO is no value, and IER has the bits RDA THRE RLS MS": ["write IER FOO"],
+    "RDA is no value": ["write FCR RDA"],
     "'AB' is not one byte": ["write THR 'AB'"],
     "256 is no value": ["write THR 256"],
     'the text has no closing "': ['type "a', 'type "a" b', r'type "\"'],
@@ -74,6 +80,9 @@ FAULTS = {
     "noon is no moment": ["clock read DR noon"],
     "is no number of seconds": [f"clock read DR now+{1 << 64}", "clock read DR now+" + "9" * 5000],
     "is no moment: it has 64 bits": [f"clock read DR now+{(1 << 64) - NOW}"],
+    "is no moment: it is now, now+5, or seconds since 1970: it has 64 bits": [f"clock read DR {1 << 64}"],
+    "4294967296 is no guest time: it has 32 bits": ["alarm 4294967296"],
+    "4294967296 is no number of seconds: it has 32 bits": ["alarm +4294967296"],
     "guest time has 32 bits": ["alarm +4294967295", f"alarm +{(1 << 32) - NOW}"],
     "/: Is a directory": ["source /"],
     "/nowhere/at/all: No such file or directory": ["save /nowhere/at/all"],
@@ -81,7 +90,8 @@ FAULTS = {
     "No space left on device": ["save /dev/full"],
     "no call was made yet": ["diff", "type hi\nreset\ndiff"],
     "RBR is out of reach while DLAB is set": ["write LCR 0x83\nwrite DLL 1\nread RBR"],
-    "a mask comes before every other line; reset begins anew": ["# comment\nregs\nrefuse 1\nrefuse 2"],
+    "a mask comes before every other line; reset begins anew": ["# comment\nregs\nrefuse 1\nrefuse 2",
+                                                                "sr 05\nrefuse 0000000000000001"],
 }
 
 # Lines, and what is said of them, from a fresh board.
@@ -98,6 +108,7 @@ DIALOGUES = [
       "1 byte received; no interrupt: RDA is pending already", 'RBR = 0x61  "a"', "0000000000000002"]),
     (["refuse 2", "write IER RDA|THRE", "type a", "write THR 'A'", "write FCR 7", "write 9 1", "output"],
      ["ok; interrupt for THRE", "1 byte received; interrupt for RDA refused", 'sent "A"', "ignored", "ignored", '"A"']),
+    (["write LSR 0", "write MSR 0"], ["ignored"] * 2),
     (["type " + "x" * 60, "type 12345", "type 6", "write MCR LOOP", "type 7", "sc"],
      ["60 bytes received; no interrupt: IER does not enable RDA", "4 of 5 bytes received: the FIFO is full",
       "0 of 1 byte received: the FIFO is full", "ok", "0 of 1 byte received: the port is in loopback", "00"]),
@@ -106,6 +117,8 @@ DIALOGUES = [
      ["DR = 0x6553f100  2023-11-14 22:13:20 UTC", "invalid: nothing can be written at 0x0000, DR",
       "invalid: nothing can be read at 0x001c, ICR", "ok", "ok: that time is past",
       "ok: guest time is there, so the alarm is up", "RIS = 0x00000001  ALARM"]),
+    (["clock read 0xfe7", "clock read 2"],
+     ["ID1 = 0x00000010", "invalid: nothing can be read at 0x0002"]),
     (["i8042 read 4", "i8042 write 4 0xfe", "i8042 write 4 0xff"], ["0x00", "reset", "ok"]),
 ]
 
@@ -130,6 +143,8 @@ ASKED = [
     (["refuse 1", "sw 01 01", "sq 61", "ss", "why"], [raised("RDA", "4, ss", ENDS_RDA), NO_THRE]),
     (["refuse 2", "sq 61", "sw 01 03", "why"],
      [raised("RDA", "3, sw 01 03", ENDS_RDA), raised("THRE", "3, sw 01 03", ENDS_THRE, "refused")]),
+    (["sw 01 03", "sr 02", "sq 61", "sw 00 41", "why"],
+     [raised("RDA", "3, sq 61", ENDS_RDA), raised("THRE", "4, sw 00 41", ENDS_THRE)]),
     (["sw 01 02", "sr 02", "why"], [NO_RDA, "THRE is not pending: call 2, sr 02, acknowledged it. "
                                     "The next byte that goes out raises it, or a write to IER."]),
     (["sw 01 03", "reset", "why"], [NO_RDA, NO_THRE]),
@@ -144,9 +159,9 @@ ASKED = [
     (["sw 00 41", "diff"], ["sw 00 41", "  output 0 -> 1 byte"]),
     (["si", "diff"], ["si", "  nothing changed"]),
     (["sw 00 41"] * 256 + ["write THR 'B'"], ['"B" lost: the output is full, with 256 bytes']),
-    (["write IER RDA|THRE", "write LCR 0x1a", 'type "hi"', "regs serial"],
+    (["write LCR DLAB", "write DLM 1", "write LCR 0x1a", "write IER RDA|THRE", 'type "hi"', "regs serial"],
      ["serial port", "  IER  0x03  RDA THRE", "  IIR  0xc6  RDA THRE", "  LCR  0x1a  7E1", "  MCR  0x08  OUT2",
-      "  LSR  0x61  DR THRE TEMT", "  MSR  0xb0  CTS DSR DCD", "  SCR  0x00", "  divisor 12, FIFO 2 of 64", '  "hi"',
+      "  LSR  0x61  DR THRE TEMT", "  MSR  0xb0  CTS DSR DCD", "  SCR  0x00", "  divisor 268, FIFO 2 of 64", '  "hi"',
       "  pending: RDA, THRE", "  line called 2 times, 0 bytes out"]),
     *(([*lines, "regs clock"], ["clock, in UTC", "  DR   0x00000064  1970-01-01 00:01:40",
                                 *(f"  {row}" for row in rows)]) for lines, rows in (
@@ -203,6 +218,10 @@ class Words(FolderTest):
                 self.assertIn(reason, reason_of(caught.exception))
                 self.assertEqual(calls, self.session.commands)
 
+    def test_a_reply_that_is_not_written_is_no_fault_of_its_line(self):
+        out = mock.Mock(**{"write.side_effect": OSError(errno.ENOSPC, "No space left on device")})
+        self.assertRaises(OSError, Session(out).run_lines, "it", [b"kr 04\n"])
+
     def test_a_refused_alarm_leaves_the_clock(self):
         self.afresh("clock write LR 100 1000", "clock write MR 110 1000")
         before = self.session.board.clock.state
@@ -238,12 +257,43 @@ class Words(FolderTest):
         for data in (bytes([one, other]) for one in range(256) for other in b"a0\\\"\xff"):
             self.assertEqual(data, characters(quoted(data)))
 
+    def test_what_is_cut_or_escaped(self):
+        self.assertEqual(r'" ~\x7f\"\\\n\r\t\x00"', quoted(b' ~\x7f"\\\n\r\t\0'))
+        self.assertEqual(r" ~\x7f\x0a", shown(" ~\x7f\n"))
+        for count, more in ((0, ""), (1, "..")):
+            self.assertEqual((f'"{"a" * 64}"' + more, "a" * 24 + more),
+                             (quoted(b"a" * (64 + count)), shown("a" * (24 + count))))
+
+    def test_a_register_without_bits_has_none_in_a_fault(self):
+        with self.assertRaisesRegex(ScriptError, "^FOO is no value$"):
+            self.afresh("write SCR FOO")
+
     def test_help_names_each_command(self):
         listed = "\n".join(self.afresh("help"))
         for name in self.session.help.keys() - {"exit"}:
             self.assertIn(f"\n  {name}", listed)
             self.assertIn(name, self.said(f"help {name}")[0])
-        self.assertIn("REGISTER is RBR, DLL, IER, ", self.said("help read")[2])
+        for name, more in (("read", "REGISTER is RBR, DLL, IER, "), ("clock", "REGISTER is DR, MR, LR, "),
+                           ("refuse", "Only before every other call.")):
+            self.assertIn(more, self.said(f"help {name}")[2])
+        self.assertEqual(["kr OO", "the guest reads the controller."], self.said("help kr"))
+        for row in ("regs [serial|clock] every", f"write REGISTER VALUE\n{'':22}the guest"):  # of 19 characters and 20
+            self.assertIn(f"\n  {row}", listed)
+        self.assertTrue(listed.endswith("\nhelp NAME says more. Ctrl-C drops a line, Ctrl-D ends."))
+
+    def test_a_file_is_whole_on_the_disk_before_it_has_its_name(self):
+        self.path.write_text("what was there")
+        seen = []
+        with mock.patch("os.fsync", lambda file: seen.append((os.fstat(file).st_size, self.path.read_text()))):
+            write_text(str(self.path), "new")
+        self.assertEqual(([(3, "what was there")], "new"), (seen, self.path.read_text()))
+
+    def test_an_end_of_input_ends_the_line_of_a_prompt(self):
+        for prompt, expected in (("superio> ", "\n"), ("", "")):
+            self.afresh()
+            self.session.prompt = prompt
+            self.assertTrue(self.session.onecmd("EOF"))
+            self.assertEqual(expected, self.out.getvalue())
 
     def test_completions(self):
         for before, text, expected in COMPLETIONS:
