@@ -9,6 +9,7 @@
  * may wait must not have it. */
 #include "monitor.h"
 
+#include <fcntl.h>
 #include <poll.h>
 #include <setjmp.h>
 #include <signal.h>
@@ -16,7 +17,7 @@
 #include <sys/mman.h>
 #include <termios.h>
 
-enum { MOST = 1 << 18, DATA = 4096, CLOCKS = CLOCK_BOOTTIME + 1 };
+enum { MOST = 1 << 18, DATA = 4096, CLOCKS = CLOCK_BOOTTIME + 1, FUNCTIONS = 256, CPU = 0x5A5A5A5A };
 #define SECOND 1000000000ll
 #define SEE(...) dprintf(STDERR_FILENO, __VA_ARGS__)
 
@@ -24,12 +25,15 @@ static const struct termios BEFORE = {.c_iflag = ICRNL, .c_oflag = OPOST, .c_lfl
 static FILE *script;
 static char line[MOST];
 static int keys;               /* where the user types */
+static int parts;              /* of the machine: a file of a line for each, with which test_images.py compares */
 static struct kvm_run *exits;  /* of the vCPU */
 static unsigned runs;          /* for this exit */
 static jmp_buf end_of_exit;
-static long takes = 1 << 30;   /* requests of the interrupt */
+static int interrupt;          /* where it is asked for */
+static long takes = 1 << 30;   /* requests of it */
 static bool has_room;          /* the terminal, as the monitor knows it */
 static long error;             /* of the next write to it */
+static long input_error;       /* of the next read */
 static bool hangs;             /* the reader of the terminal takes nothing */
 static int timers[CLOCKS];
 static int64_t due[CLOCKS];    /* in nanoseconds, or 0 */
@@ -42,6 +46,7 @@ static struct kvm_sregs system_after;
 
 int __real_poll(struct pollfd *files, nfds_t count, int timeout);
 int __real_eventfd_write(int fd, eventfd_t value);
+ssize_t __real_read(int fd, void *bytes, size_t count);
 ssize_t __real_write(int fd, const void *bytes, size_t count);
 
 static void fail(const char *what) {
@@ -57,9 +62,16 @@ static void need_lock(bool is_held) {
         pthread_mutex_unlock(&lock);
 }
 
+/* Whether a call is to fail, which the environment names. */
+static bool fails(const char *call) {
+    const char *name = getenv("FAILS");
+    return name && strcmp(name, call) == 0;
+}
+
 /* Takes the place of standard input. */
 __attribute__((constructor)) static void begin(void) {
     int both[2];
+    parts = must(creat("machine", 0644), "machine");
     script = fdopen(dup(STDIN_FILENO), "r");
     must(pipe(both), "the user");
     dup2(both[0], STDIN_FILENO);
@@ -71,7 +83,7 @@ int __wrap_eventfd_write(int fd, eventfd_t value) {
     need_lock(true);
     SEE(is_taken ? "  interrupt" : "  refused");
     takes -= is_taken;
-    return is_taken && fd >= 0 && value == 1 ? 0 : -1;
+    return is_taken && fd == interrupt && value == 1 ? 0 : -1;
 }
 
 int __wrap_clock_gettime(clockid_t clock, struct timespec *time) {
@@ -80,6 +92,11 @@ int __wrap_clock_gettime(clockid_t clock, struct timespec *time) {
 }
 
 int __wrap_timerfd_create(int clock, int flags) {
+    if (!(flags & TFD_NONBLOCK))
+        fail("a timer whose read may block");
+    errno = EMFILE;
+    if (fails(clock == CLOCK_BOOTTIME ? "alarm" : "timer"))
+        return -1;
     return timers[clock] = eventfd(0, flags);
 }
 
@@ -124,6 +141,16 @@ ssize_t __wrap_write(int fd, const void *bytes, size_t count) {
         SEE("  sends %02x", *(const uint8_t *)bytes);
     error = 0;
     return errno == 0 ? 1 : -1;
+}
+
+ssize_t __wrap_read(int fd, void *bytes, size_t count) {
+    if (fd == STDIN_FILENO)
+        need_lock(false);
+    if (fd != STDIN_FILENO || input_error == 0)
+        return __real_read(fd, bytes, count);
+    errno = (int)input_error;
+    input_error = 0;
+    return -1;
 }
 
 /* Has the monitor serve an exit. */
@@ -185,6 +212,7 @@ static void serve_line(void) {
     case 'k': raise((int)number); break;
     case 'a': takes = number; break;
     case 'f': error = number; break;
+    case 'r': input_error = number; break;
     case 'h': hangs = true; break;
     case 'g': hangs = false; break;
     case 'b': now[CLOCK_REALTIME] -= number * SECOND; break;
@@ -203,6 +231,8 @@ int __wrap_poll(struct pollfd *files, nfds_t count, int timeout) {
     need_lock(false);
     errno = EINTR;
     if (files->fd == STDOUT_FILENO) {
+        if (count != 1 || files->events != POLLOUT)
+            fail("a wait for more than the terminal");
         is_terminal_again = !is_terminal_again;
         if (is_terminal_again)
             return -1;
@@ -224,7 +254,7 @@ int __wrap_poll(struct pollfd *files, nfds_t count, int timeout) {
 int __wrap_pthread_create(pthread_t *thread, const pthread_attr_t *attributes, void *(*work)(void *), void *argument) {
     SEE("  starts %02x", memory[0x7C00]);
     *thread = pthread_self();
-    return attributes || work != machine_run || argument;
+    return attributes || work != machine_run || argument ? EINVAL : fails("thread") ? EAGAIN : 0;
 }
 
 /* Writes the guest's first state, with which test_images.py compares: the registers, and 2 MB of memory. */
@@ -237,23 +267,59 @@ static void write_state(const struct kvm_regs *registers) {
     fclose(file);
 }
 
-/* KVM, whose parts are all standard input, but for the vCPU. It knows no processor. */
+/* The processor that KVM has: as many functions as can be, with the same bits in each register. */
+static void get_cpuid(struct kvm_cpuid2 *cpuid) {
+    if (cpuid->nent < FUNCTIONS)
+        fail("too little room for the processor");
+    cpuid->nent = FUNCTIONS;
+    for (uint32_t i = 0; i < FUNCTIONS; i++)
+        cpuid->entries[i] = (struct kvm_cpuid_entry2){.function = i, .eax = CPU, .ebx = CPU, .ecx = CPU, .edx = CPU};
+}
+
+static void note_cpuid(const struct kvm_cpuid2 *cpuid) {
+    for (const struct kvm_cpuid_entry2 *it = cpuid->entries; it < cpuid->entries + cpuid->nent; it++)
+        dprintf(parts, "cpuid %x: %x %x %x %x\n", it->function, it->eax, it->ebx, it->ecx, it->edx);
+}
+
+static void note_memory(const struct kvm_userspace_memory_region *it) {
+    dprintf(parts, "memory %u: flags %x, %llx and %llx more, from %llx\n", it->slot, it->flags, it->guest_phys_addr,
+            it->memory_size, it->userspace_addr - (uintptr_t)memory);
+}
+
+/* The monitor may not wait for the interrupt, and asks for none before the guest starts. */
+static void take_interrupt(const struct kvm_irqfd *given) {
+    struct pollfd file = {.fd = (int)given->fd, .events = POLLIN};
+    interrupt = file.fd;
+    SEE("  edges of irq %u", given->gsi);
+    if (!(fcntl(interrupt, F_GETFL) & O_NONBLOCK) || __real_poll(&file, 1, 0) != 0)
+        fail("an interrupt that may block, or comes at once");
+}
+
+/* KVM, whose parts are all standard input, but for the vCPU. */
 int __wrap_ioctl(int fd, unsigned long request, void *argument) {
     switch (request) {
+    case KVM_SET_TSS_ADDR: dprintf(parts, "tss %lx\n", (unsigned long)argument); break;
+    case KVM_CREATE_IRQCHIP: dprintf(parts, "interrupt controllers\n"); break;
+    case KVM_CREATE_PIT2: dprintf(parts, "timer, flags %x\n", ((struct kvm_pit_config *)argument)->flags); break;
+    case KVM_REINJECT_CONTROL:
+        dprintf(parts, "late ticks %u\n", ((struct kvm_reinject_control *)argument)->pit_reinject);
+        break;
+    case KVM_SET_USER_MEMORY_REGION: note_memory(argument); break;
     case KVM_CREATE_VCPU:
         fd = memfd_create("exits", 0);
         must(ftruncate(fd, MOST), "exits");
         exits = mmap(NULL, MOST, PROT_READ | PROT_WRITE, MAP_SHARED, fd, 0);
         return fd;
-    case KVM_GET_VCPU_MMAP_SIZE: return MOST;
-    case KVM_GET_SUPPORTED_CPUID: ((struct kvm_cpuid2 *)argument)->nent = 0; break;
+    case KVM_GET_VCPU_MMAP_SIZE: return fails("mmap") ? 0 : MOST;
+    case KVM_GET_SUPPORTED_CPUID: get_cpuid(argument); break;
+    case KVM_SET_CPUID2: note_cpuid(argument); break;
     case KVM_GET_SREGS: *(struct kvm_sregs *)argument = system_before; break;
     case KVM_SET_SREGS: system_after = *(struct kvm_sregs *)argument; break;
     case KVM_SET_REGS:
         SEE("  at %llx", ((struct kvm_regs *)argument)->rip);
         write_state(argument);
         break;
-    case KVM_IRQFD: SEE("  edges of irq %u", ((struct kvm_irqfd *)argument)->gsi); break;
+    case KVM_IRQFD: take_interrupt(argument); break;
     case KVM_IRQ_LINE:
         SEE("  line %u %u", ((struct kvm_irq_level *)argument)->irq, ((struct kvm_irq_level *)argument)->level);
         break;
@@ -268,5 +334,10 @@ int __wrap_ioctl(int fd, unsigned long request, void *argument) {
 }
 
 int __wrap_open(const char *path, int flags) {
-    return strcmp(path, "/dev/kvm") == 0 && flags ? STDIN_FILENO : -1;
+    errno = EACCES;
+    return strcmp(path, "/dev/kvm") == 0 && flags == (O_RDWR | O_CLOEXEC) && !fails("open") ? STDIN_FILENO : -1;
+}
+
+uint32_t __wrap_superio_abi(void) {
+    return SUPERIO_ABI + fails("library");
 }

@@ -1,7 +1,9 @@
 # SPDX-License-Identifier: Apache-2.0 OR BSD-3-Clause
 """Random images of Linux, hostile ones among them, booted by the monitor over host.c: one that does not fit into the
-guest's memory is refused, and no byte is written outside of that memory. A guest begins in the state that Linux's boot
-protocol asks for, or a boot sector."""
+guest's memory is refused, and no byte is written outside of that memory. The machine has the parts that a guest needs,
+and the guest begins in the state that Linux's boot protocol asks for, or a boot sector. The monitor says which call of
+the system failed."""
+import os
 import random
 import struct
 from collections import Counter
@@ -63,9 +65,9 @@ def monitor(tmp_path_factory):
     return folder
 
 
-def booted(folder, *words):
-    """The status of a monitor whose user says nothing, and what is seen."""
-    ran = run(["./monitor", *words], cwd=folder)
+def booted(folder, *words, fails=""):
+    """The status of a monitor whose user says nothing, and what is seen. A call that is named fails."""
+    ran = run(["./monitor", *words], cwd=folder, env={**os.environ, "FAILS": fails})
     return ran.returncode, ran.stdout
 
 
@@ -110,6 +112,8 @@ def test_initramfs(monitor):
         fits = 0 < size <= INITRAMFS
         status, seen = booted(monitor, "kernel", "initramfs", "x" * 5000)
         assert (status, "at 100200" in seen) == (0 if fits else 1, fits), seen
+    status, seen = booted(monitor, "kernel", "missing")
+    assert status == 1 and seen.endswith("monitor: missing: No such file or directory\n"), seen
 
 
 # Segments, of which processors read descriptors in memory too.
@@ -157,7 +161,7 @@ def test_a_boot_sector_begins(monitor):
     (monitor / "flat").write_bytes(b"\xF4" * 700)
     state = begun(monitor, "flat")
     assert state.general == {"rip": 0x7C00, "rsp": 0x7C00, "rflags": 2}
-    assert (state.segments["cs"][0], state.segments["cs"][1]["base"], state.cr0 & 1) == (0, 0, 0)
+    assert (state.segments["cs"][0], state.segments["cs"][1]["base"], state.cr0) == (0, 0, 0x60000010)
     assert state.memory.strip(b"\0") == b"\xF4" * 700
 
 
@@ -173,7 +177,7 @@ def test_linux_begins(monitor, words):
     assert (state.cr0, state.cr4, state.efer) == (0x60000010 | 0x80000001, 0x20, 0x500)
     base, limit = state.descriptors
     table = state.words(base, 4)
-    assert limit == 31 and [descriptor(table[2]), descriptor(table[3])] == [CODE, DATA]
+    assert base % 8 == 0 and limit == 31 and table[:2] == (0, 0) and [*map(descriptor, table[2:])] == [CODE, DATA]
     assert state.segments == {"cs": (0x10, CODE), **dict.fromkeys(("ds", "es", "fs", "gs", "ss"), (0x18, DATA))}
     first = state.words(state.cr3, 512)
     second = state.words(first[0] & ~0xFFF, 512)
@@ -198,3 +202,48 @@ def test_linux_begins(monitor, words):
         assert start + size <= LOW_END or start >= HIGH_START
         rest[start:start + size] = bytes(size)
     assert not any(rest) and len({start for start, _ in used}) == len(used)
+
+
+@pytest.mark.parametrize("files", [["kernel"], ["kernel", "initramfs"]])
+@pytest.mark.parametrize("options", [[], ["-e"]])
+def test_linux_begins_without_words(monitor, options, files):
+    """It gets the monitor's own then, and an initramfs only if one is named."""
+    (monitor / "kernel").write_bytes(Image(4, 0x20F, KERNEL_64, 1 << 20, 1 << 20, 5000).content())
+    (monitor / "initramfs").write_bytes(b"i" * 3000)
+    state = begun(monitor, *options, *files)
+    parameters = state.general["rsi"]
+    at = state.number(parameters + 0x228)
+    assert state.memory[at:at + WORDS_SIZE].split(b"\0")[0] == b"console=ttyS0 reboot=k panic=1"
+    found = [state.number(parameters + place) for place in (0x218, 0x21C)]
+    assert found == ([INITRAMFS, 3000] if "initramfs" in files else [0, 0])
+
+
+def test_machine(monitor):
+    """Memory is where the clock is not. The processor is the one that KVM has, with the number 0, and says that it is a
+    virtual one. In host.c all registers of that are the same."""
+    (monitor / "flat").write_bytes(b"\xF4")
+    begun(monitor, "flat")
+    lines = (monitor / "machine").read_text(encoding="ascii").splitlines()
+    parts = [line for line in lines if not line.startswith("cpuid")]
+    assert parts == ["tss fffbd000", "interrupt controllers", "timer, flags 1", "late ticks 0",
+                     "memory 0: flags 0, 0 and d0000 more, from 0",
+                     f"memory 1: flags 0, d1000 and {MEMORY_SIZE - 0xD1000:x} more, from d1000"]
+    changed = {0x01: "5a5a5a5a 5a5a5a da5a5a5a 5a5a5a5a", **dict.fromkeys((0x0B, 0x1F), f"{'5a5a5a5a ' * 3}0")}
+    functions = [f"cpuid {number:x}: {changed.get(number, '5a5a5a5a 5a5a5a5a 5a5a5a5a 5a5a5a5a')}"
+                 for number in range(256)]
+    assert lines == parts + functions
+
+
+# Calls that may fail, and what the monitor says of them.
+FAILURES = {
+    "library": "the library has another interface than the header", "open": "/dev/kvm: Permission denied",
+    "mmap": "the vCPU's exits: Invalid argument", "timer": "the timer of a turn: Too many open files",
+    "alarm": "the alarm's timer: Too many open files", "thread": "the vCPU's thread: Resource temporarily unavailable",
+}
+
+
+@pytest.mark.parametrize("call", FAILURES)
+def test_a_call_fails(monitor, call):
+    (monitor / "flat").write_bytes(b"\xF4")
+    status, seen = booted(monitor, "flat", fails=call)
+    assert status == 1 and f"monitor: {FAILURES[call]}\n" in seen, seen
