@@ -6,13 +6,20 @@
 
 /* Where a PC loads a boot sector, conventional memory ends, and memory goes on, and where Linux finds what it needs. */
 enum { FLAT_START = 0x7C00, LOW_END = 0x9FC00, HIGH_START = 0x100000 };
-enum { DESCRIPTORS = 0x500, TABLES = 0x9000, PARAMETERS = 0x10000, WORDS = 0x20000, INITRAMFS = MEMORY_SIZE / 2 };
-enum { BZIMAGE = 0x53726448, ENTRY = 0x200, WORDS_SIZE = 2048 };
+enum { DESCRIPTORS = 0x500, TABLES = 0x9000, PARAMETERS = 0x10000, WORDS = 0x20000, WORDS_SIZE = 2048 };
+enum { INITRAMFS = MEMORY_SIZE / 2, BZIMAGE = 0x53726448, ENTRY = 0x200 };
+
+static FILE *open_file(const char *path) {
+    FILE *file = fopen(path, "rb");
+    if (!file)
+        err(1, "%s", path);
+    return file;
+}
 
 /* Copies a file, from an offset on, to where it belongs, up to an end at most. Returns how many bytes there were. */
 static uint32_t place(const char *path, long offset, uint64_t to, uint64_t end) {
-    FILE *file = fopen(path, "rb");
-    must(file ? fseek(file, offset, SEEK_SET) : -1, path);
+    FILE *file = open_file(path);
+    must(fseek(file, offset, SEEK_SET), path);
     size_t count = to < end && end <= MEMORY_SIZE ? fread(memory + to, 1, end - to, file) : 0;
     if (count == 0 || fgetc(file) != EOF)
         errx(1, "%s is empty, or does not fit into the guest's memory", path);
@@ -34,8 +41,8 @@ static void start_long_mode(uint64_t entry) {
     const uint64_t descriptors[4] = {0, 0, 0x00AF9B000000FFFF, 0x00CF93000000FFFF};
     memcpy(memory + DESCRIPTORS, descriptors, sizeof descriptors);
     uint64_t *tables = (uint64_t *)(memory + TABLES);
-    tables[0] = (TABLES + 0x1000) | 3;
-    tables[512] = (TABLES + 0x2000) | 3;
+    tables[0] = TABLES + 0x1003; /* present, writable */
+    tables[512] = TABLES + 0x2003;
     for (uint64_t i = 0; i < 512; i++)
         tables[1024 + i] = i << 21 | 0x83;
 
@@ -75,8 +82,8 @@ static void boot_linux(const char *kernel, struct setup_header head, const char 
 /* An image that begins as a bzImage does is Linux. */
 void boot(const char *image, const char *initramfs, const char *words) {
     struct boot_params start = {0};
-    FILE *file = fopen(image, "rb");
-    must(file ? (int)fread(&start, 1, sizeof start, file) : -1, image);
+    FILE *file = open_file(image);
+    must((int)fread(&start, 1, sizeof start, file), image);
     fclose(file);
     if (start.hdr.header == BZIMAGE)
         boot_linux(image, start.hdr, initramfs, words);

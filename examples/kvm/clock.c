@@ -52,9 +52,8 @@ void clock_access(uint64_t address, bool is_write, uint8_t *bytes, unsigned coun
 
 /* In each turn of the event loop: a guest that sleeps until the alarm makes no access, so the monitor makes one. */
 void clock_turn(void) {
-    uint64_t times;
     uint8_t bytes[4];
-    if (read(timer, &times, sizeof times) > 0)
+    if (has_gone_off(timer))
         clock_access(CLOCK_BASE + RTCMIS, false, bytes, sizeof bytes);
 }
 

@@ -20,12 +20,12 @@ static void add_memory(uint32_t slot, uint64_t start, uint64_t end) {
 /* The processor is the host's, as far as KVM has it, with the number 0. A bit says that this is a virtual machine:
  * without it Linux does not ask for KVM's clock, and has to measure the processor's by a timer of late ticks. */
 static void set_cpuid(int kvm) {
-    static union {
+    static struct {
         struct kvm_cpuid2 head;
-        uint32_t space[2 + 10 * CPUID_ENTRIES];
+        struct kvm_cpuid_entry2 entries[CPUID_ENTRIES];
     } cpuid = {.head.nent = CPUID_ENTRIES};
     KVM(kvm, KVM_GET_SUPPORTED_CPUID, &cpuid);
-    for (struct kvm_cpuid_entry2 *entry = cpuid.head.entries; entry < cpuid.head.entries + cpuid.head.nent; entry++) {
+    for (struct kvm_cpuid_entry2 *entry = cpuid.entries; entry < cpuid.entries + cpuid.head.nent; entry++) {
         if (entry->function == 0x01) {
             entry->ebx &= 0x00FFFFFF;
             entry->ecx |= 1u << 31;
@@ -51,7 +51,8 @@ void machine_create(void) {
     vcpu = KVM(vm, KVM_CREATE_VCPU, NULL);
     set_cpuid(kvm);
     run = mmap(NULL, (size_t)KVM(kvm, KVM_GET_VCPU_MMAP_SIZE, NULL), PROT_READ | PROT_WRITE, MAP_SHARED, vcpu, 0);
-    must(run == MAP_FAILED ? -1 : 0, "the vCPU's exits");
+    if (run == MAP_FAILED)
+        err(1, "the vCPU's exits");
 }
 
 /* Interrupts the guest for the serial port, by an edge. Returns false if that is refused. */

@@ -60,7 +60,7 @@ static void open_terminal(void) {
 
 /* Writes a byte once the terminal has room, for which it waits so many milliseconds. Otherwise errno says why not. */
 static bool write_byte(uint8_t byte, int patience) {
-    struct pollfd output = {STDOUT_FILENO, POLLOUT, 0};
+    struct pollfd output = {.fd = STDOUT_FILENO, .events = POLLOUT};
     do {
         int ready = poll(&output, 1, patience);
         if (ready > 0 && write(STDOUT_FILENO, &byte, 1) == 1)
@@ -84,6 +84,12 @@ void monitor_send(uint8_t byte) {
     dropped += !is_sent;
 }
 
+/* Whether a timer has gone off since it was last asked. */
+bool has_gone_off(int file) {
+    uint64_t times;
+    return read(file, &times, sizeof times) == (ssize_t)sizeof times;
+}
+
 /* Has the event loop make a turn in 5 milliseconds. */
 void monitor_wake(void) {
     timerfd_settime(timer, 0, &(struct itimerspec){.it_value.tv_nsec = 5000000}, NULL);
@@ -92,9 +98,9 @@ void monitor_wake(void) {
 /* Reads what was typed, as far as there is room. Returns whether more may come. */
 static bool serve_input(size_t room) {
     static bool is_after_ctrl_a;
-    uint8_t bytes[4096];
+    static uint8_t bytes[QUEUE_SIZE];
     size_t kept = 0;
-    ssize_t count = read(STDIN_FILENO, bytes, room < sizeof bytes ? room : sizeof bytes);
+    ssize_t count = read(STDIN_FILENO, bytes, room);
     if (count <= 0)
         return count < 0 && (errno == EAGAIN || errno == EINTR);
     pthread_mutex_lock(&lock);
@@ -112,14 +118,13 @@ static bool serve_input(size_t room) {
 
 /* The event loop. Input for which there is no room waits in the terminal. */
 static _Noreturn void run(int alarm) {
-    struct pollfd files[] = {{STDIN_FILENO, POLLIN, 0}, {timer, POLLIN, 0}, {alarm, POLLIN, 0}};
+    struct pollfd files[] = {{.events = POLLIN}, {.fd = timer, .events = POLLIN}, {.fd = alarm, .events = POLLIN}};
     for (bool is_open = true;;) {
-        uint64_t times;
         pthread_mutex_lock(&lock);
-        size_t room = serial_turn(read(timer, &times, sizeof times) > 0);
+        size_t room = serial_turn(has_gone_off(timer));
         clock_turn();
         pthread_mutex_unlock(&lock);
-        files[0].fd = is_open && room > 0 ? STDIN_FILENO : -1;
+        files[0].fd = is_open && room ? STDIN_FILENO : -1;
         if (poll(files, 3, -1) > 0 && files[0].revents)
             is_open = serve_input(room);
     }
@@ -136,7 +141,7 @@ int main(int count, char **words) {
     if (!SUPERIO_ABI_MATCHES())
         errx(1, "the library has another interface than the header");
     machine_create();
-    boot(given[0], count > 1 ? given[1] : NULL, count > 2 ? given[2] : "console=ttyS0 reboot=k panic=1");
+    boot(given[0], given[1], count > 2 ? given[2] : "console=ttyS0 reboot=k panic=1");
     serial_open(is_early);
     timer = must(timerfd_create(CLOCK_MONOTONIC, TFD_NONBLOCK | TFD_CLOEXEC), "the timer of a turn");
     int alarm = clock_open();

@@ -25,6 +25,8 @@
 
 /* Where the devices are. The clock is among a PC's adapters, where a guest in real mode reaches it too. */
 enum { COM1 = 0x3F8, SERIAL_IRQ = 4, CLOCK_BASE = 0xD0000, CLOCK_IRQ = 8, MEMORY_SIZE = 256 << 20 };
+/* How much input waits in the monitor at most. */
+enum { QUEUE_SIZE = 65536 };
 
 /* main.c */
 #define KVM(fd, request, argument) must(ioctl(fd, request, argument), #request)
@@ -33,6 +35,7 @@ int must(int result, const char *what);
 _Noreturn void monitor_end(int status, const char *why);
 void monitor_send(uint8_t byte);
 void monitor_wake(void);
+bool has_gone_off(int file);
 /* machine.c */
 extern int vm, vcpu;
 extern uint8_t memory[MEMORY_SIZE];

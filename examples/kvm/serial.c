@@ -3,7 +3,7 @@
  * by edges: so each interrupt that the port asks for is one edge. */
 #include "monitor.h"
 
-enum { IER = 1, IIR = 2, MCR = 4, QUEUE_SIZE = 65536 };
+enum { IER = 1, IIR = 2, MCR = 4 };
 
 static superio_serial port;
 static bool is_refused;           /* a request */
