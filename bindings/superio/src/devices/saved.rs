@@ -32,7 +32,7 @@ pub enum SavedStateError {
     OtherDevice,
     /// The encoding has this version, which is not 1.
     UnknownVersion(u8),
-    /// The length in the header is not that of the rest, is less than 9 for a port, or is not 25 for a clock.
+    /// The length in the header is not that of the rest, is too small for the device or, for a clock, too large.
     WrongLength,
     /// The port would hold more than 64 received bytes.
     TooManyBytes,
