@@ -114,7 +114,8 @@ static void turn(struct machine *machine) {
     retry(machine, superio_serial_character_timeout(&machine->serial));
 }
 
-/* What follows each access of the clock: its line is a level, and a timer has to go off when the alarm is due. */
+/* What follows each access of the clock: its line is a level, and a timer has to go off when the alarm is due. If that
+ * is in 0 s, call alarm_is_due at once: a timer of Linux that is set to 0 stops. */
 static void follow_clock(const struct machine *machine) {
     uint64_t due = superio_rtc_alarm_due(&machine->clock, machine->now);
     printf("clock: line %s, ", superio_rtc_interrupt_line(&machine->clock) ? "up" : "down");
