@@ -1,7 +1,7 @@
 # SPDX-License-Identifier: Apache-2.0 OR BSD-3-Clause
 """Random calls from seeds, by the program, the Python package over both C libraries, and both models: the search of the
-past in oracle.py, and the steps of model.py. Each commit has other seeds. A failure shows the fewest calls that differ,
-as a script to paste into the program, an issue or a file of tests/data.
+past in oracle.py, and the steps of model.py. Each commit has other seeds. If calls differ, a failure shows the fewest
+that do, as rows of a script with both replies.
 """
 import random
 from concurrent.futures import ThreadPoolExecutor
