@@ -7,7 +7,7 @@ use Rattle.std.specs.Str.{bytes_eq}
 use Rattle.superio_core.specs.declared.rtc_pl031.encoding.RtcState.{RtcState}
 use Rattle.superio_core.specs.Serial.{State, register_bytes, register_count}
 pub use Rattle.superio_core.specs.declared.saved.SavedStateError.{SavedStateError}
-pub use Rattle.superio_core.specs.declared.saved.SavedStateError.TheVariants.{TooShort, NotASavedState, OtherDevice, UnknownVersion, WrongLength, TooManyBytes, InvalidArmed}
+pub use Rattle.superio_core.specs.declared.saved.SavedStateError.TheVariants.{TooShort, NotASavedState, OtherDevice, UnknownVersion, WrongLength, TooManyBytes, InvalidArmed, InvalidFlags}
 
 -- the letters SIOS, with which each saved state begins
 abbrev pub magic : List ℕ
@@ -19,6 +19,10 @@ serial_kind = 1
 
 abbrev pub clock_kind : ℕ
 clock_kind = 2
+
+-- a serial port with the monitor's end of its line
+abbrev pub console_kind : ℕ
+console_kind = 3
 
 -- the version of this encoding
 abbrev pub version : ℕ
@@ -108,6 +112,7 @@ saved_state_error_text (UnknownVersion _) = Some (codes "A saved state of an unk
 saved_state_error_text WrongLength = Some (codes "A saved state of the wrong length")
 saved_state_error_text TooManyBytes = Some (codes "More than 64 received bytes")
 saved_state_error_text InvalidArmed = Some (codes "An alarm that is neither set nor clear")
+saved_state_error_text InvalidFlags = Some (codes "A flag that no console has")
 
 -- ---- the laws of the encoding: an encoding passes each check, and no two states share one
 

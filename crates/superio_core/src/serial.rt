@@ -213,8 +213,7 @@ impl Registers {
     fn becomes_pending(&self, condition: Condition) -> bool
         ensures { result ≡ becomes_pending condition self.now.interrupt_enable self.now.interrupt_identification }
     {
-        has_bits(self.interrupt_enable, condition.ier_bit())
-            && !has_bits(self.interrupt_identification, condition.iir_bit())
+        self.enables(condition) && !has_bits(self.interrupt_identification, condition.iir_bit())
     }
 
     /// Shows a condition as pending.
@@ -496,6 +495,7 @@ impl Registers {
         ensures line { result ≡ irq_level (state_with self.now []) }
         ensures due { result ≡ not (length (conditions_due (state_with self.now [])) == 0) }
     {
-        self.is_asserted(Condition::Thre) || self.is_asserted(Condition::Rda)
+        // Both are looked at, which takes fewer instructions.
+        self.is_asserted(Condition::Thre) | self.is_asserted(Condition::Rda)
     }
 }

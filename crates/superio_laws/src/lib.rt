@@ -156,21 +156,23 @@ pub fn transmitter_interrupt()
     ensures called { CalledSinceLaw }
 {}
 
-/// From any start, for a driver of a console and a monitor that do the following. A run is what an interrupt makes the
-/// driver do, with all other calls up to the next run.
+/// From any start, for a driver of a console that does the following. A run is what an interrupt makes the driver do,
+/// with all other calls up to the next run.
 ///
 /// - In each run, the driver reads IIR, and takes at least one byte if one is held when the run begins. Nobody else
 ///   reads IIR.
 /// - Each run ends in one of two ways. Either the driver reads IIR at least twice, until nothing is pending, as Linux
-///   and Xen do, and nobody reads IIR or RBR after that. Or a character timeout comes after the driver's last read of
-///   IIR and what it does then, and nobody reads either after that.
+///   and Xen do, and nobody reads IIR or RBR after that. Or it ends in what the driver does after its last read of IIR,
+///   as that of a driver that reads IIR once.
 /// - It sends its bytes in order, by THR writes outside loopback while IER enables THRE. In the first way, it has none
 ///   left, or flow control stops it, at some moment between its last two reads of IIR. In the second, it sends at least
-///   one between its last read and the timeout, unless it has none left at some moment there, or is stopped.
+///   one after its last read, unless it has none left at some moment there, or is stopped.
 /// - It gets bytes while it has none, or goes on after a stop, only at such a THR write, or at an IER write that
 ///   enables THRE and whose call for RDA is not refused.
-/// - The monitor makes a character timeout as the next call after each read of IIR that shows nothing pending, and in
-///   each turn of its event loop.
+///
+/// And, for `asked_to_take` alone, for a monitor that makes a character timeout as the next call after each read of IIR
+/// that shows nothing pending, and one in a turn of its event loop after each run that ends in the second way. Nobody
+/// reads IIR or RBR between this one and the next run.
 ///
 /// Then the interrupt is asked for after each run if bytes are held and IER enables RDA, or if bytes are left to send
 /// and flow control does not stop the driver. Each run takes at least one more of the held bytes, in order, and each

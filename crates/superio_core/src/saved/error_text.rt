@@ -18,6 +18,7 @@ impl fmt::Display for SavedStateError {
             SavedStateError::WrongLength => write!(f, "A saved state of the wrong length"),
             SavedStateError::TooManyBytes => write!(f, "More than 64 received bytes"),
             SavedStateError::InvalidArmed => write!(f, "An alarm that is neither set nor clear"),
+            SavedStateError::InvalidFlags => write!(f, "A flag that no console has"),
         }
     }
 }

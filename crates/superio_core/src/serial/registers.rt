@@ -7,15 +7,19 @@ ghost use Rattle.superio_core.specs.Serial.{fresh_state, state_with, register_by
 ghost use Rattle.superio_core.specs.Serial.RegisterMap.{identification_of};
 
 // Offsets. DLL and DLM replace RBR, THR and IER while DLAB is set.
-pub(super) const DATA_OFFSET: u8 = 0;
+/// The offset of RBR and THR.
+pub const DATA_OFFSET: u8 = 0;
 
-pub(super) const IER_OFFSET: u8 = 1;
+/// The offset of IER.
+pub const IER_OFFSET: u8 = 1;
 
-pub(super) const IIR_OFFSET: u8 = 2;
+/// The offset of IIR.
+pub const IIR_OFFSET: u8 = 2;
 
 pub(super) const LCR_OFFSET: u8 = 3;
 
-pub(super) const MCR_OFFSET: u8 = 4;
+/// The offset of MCR.
+pub const MCR_OFFSET: u8 = 4;
 
 pub(super) const LSR_OFFSET: u8 = 5;
 
@@ -31,7 +35,8 @@ pub(super) const IER_THR_EMPTY_BIT: u8 = 0x02;
 pub(super) const IER_UART_VALID_BITS: u8 = 0x0F;
 
 // Interrupt identification: nothing pending, the same two conditions, and FIFOs enabled.
-pub(super) const IIR_NONE_BIT: u8 = 0x01;
+/// The bit of IIR that says that nothing is pending.
+pub const IIR_NONE_BIT: u8 = 0x01;
 
 pub(super) const IIR_THR_EMPTY_BIT: u8 = 0x02;
 
@@ -169,7 +174,7 @@ pub struct Registers {
 }
 
 impl Registers {
-    ghost use Rattle.superio_core.specs.Serial.RegisterMap.{register_at, is_dlab, is_loopback, msr_read};
+    ghost use Rattle.superio_core.specs.Serial.RegisterMap.{register_at, is_dlab, is_loopback, msr_read, ier_bit};
 
     /// The registers of a fresh port.
     pub fn new() -> Registers
@@ -214,6 +219,14 @@ impl Registers {
         ensures { result ≡ is_dlab self.now.line_control }
     {
         has_bits(self.line_control, LCR_DLAB_BIT)
+    }
+
+    /// Whether IER enables a condition.
+    #[inline(always)]
+    pub fn enables(&self, condition: Condition) -> bool
+        ensures { result ≡ has_bits self.now.interrupt_enable (ier_bit condition) }
+    {
+        has_bits(self.interrupt_enable, condition.ier_bit())
     }
 
     /// Whether loopback is on.

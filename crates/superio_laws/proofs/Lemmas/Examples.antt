@@ -1,6 +1,6 @@
 -- SPDX-License-Identifier: Apache-2.0 OR BSD-3-Clause
 -- Worked examples of words that laws only assume, or bound by, since with a wrong one they would say less.
-mod Console
+pub mod Console
 use Rattle.std.proofs.Common.{◌≡◌, ℕ, ◌≤◌, true, false, List, [], ◌∷◌, ◌++◌, length, map, count_by, refl, arith}
 use Rattle.superio_laws.specs.Serial.{Asked, Sent, Coherent, State, fresh_state, Op, Read, Write, Enqueue, Response, ByteRead, WriteOk, EnqueueOk, Trace, TraceEntry, IerWrite, ThrWrite, is_iir_read, is_rbr_read, Rda, Thre, conditions_due, has_bits, only_bits, with_bits}
 use Rattle.superio_laws.specs.Serial.History.{held_bytes, read_out_bytes, decoded_ops, covers_waiting_bytes}

@@ -5,7 +5,7 @@ use Rattle.std.proofs.lemmas.Bool.{and_parts, false≢true}
 use Rattle.superio_laws.specs.Serial.{Asked, is_refused_at_once, Sent, State, fresh_state, Op, Read, Write, Enqueue, Trace, TraceEntry, DecodedOp, IirRead, is_iir_read, is_rbr_read, Rda, Thre, has_bits, only_bits, with_bits}
 use Rattle.superio_laws.specs.Serial.History.{NoneAcknowledges, ier_after, decode_at, raises_thre, is_call_due, is_raised, is_pending, trigger_calls, conditions_due_after, guest_read}
 use Rattle.superio_laws.specs.Serial.Laws.Line.{timeout_entry}
-use Rattle.superio_laws.specs.Serial.Laws.Console.{Driver, sent, left, has_to_send, EnablesThre, SendsEnabled, AsksWhenGiven, SentInOrder, ShowsNone, IsHandlerRun, IsConsoleRun, TimeoutAfterNone, IsAskedFor, InterruptToReadLaw, InterruptToSendLaw, after_runs, free_runs}
+use Rattle.superio_laws.specs.Serial.Laws.Console.{Driver, sent, left, has_to_send, EnablesThre, SendsEnabled, AsksWhenGiven, SentInOrder, ShowsNone, IsHandlerRun, IsConsoleRun, TimeoutAfterNone, IsMonitored, IsAskedFor, InterruptToReadLaw, InterruptToSendLaw, after_runs, free_runs}
 
 -- ---- what holds at each place of some entries, as a test
 
@@ -31,7 +31,7 @@ each_place check (first ∷ newest) all (y ∷ later) earlier entry place =
 not_true : (b : Bool) → IsTrue (not b) → b ≡ false
 not_true b e = grind arith
 
-none_by : (start : State) (reads : DecodedOp → Bool) (newest before : Trace)
+pub none_by : (start : State) (reads : DecodedOp → Bool) (newest before : Trace)
     → IsTrue (all_places (λ earlier entry. not (reads (decode_at start (earlier ++ before) entry.op))) newest)
     → NoneAcknowledges start reads newest before
 none_by start reads newest before all later earlier entry place =
@@ -61,7 +61,7 @@ asks_at driver start before earlier entry =
     not (has_to_send driver start (entry ∷ earlier ++ before)) || has_to_send driver start (earlier ++ before)
     || is_raised Thre start (earlier ++ before) entry
 
-asks_by : (driver : Driver) (start : State) (before newest : Trace) → IsTrue (all_places (asks_at driver start before) newest)
+pub asks_by : (driver : Driver) (start : State) (before newest : Trace) → IsTrue (all_places (asks_at driver start before) newest)
     → AsksWhenGiven driver start before newest
 asks_by driver start before newest all later earlier entry place has =
     either start (earlier ++ before) entry _ (has_to_send driver start (earlier ++ before)) _ refl
@@ -220,17 +220,15 @@ unfolding has_bits only_bits with_bits
 reads_iir_once = record {
   takes = λ some. omega arith;
   ends = inr (record {
-    tail = [];
-    asked = Asked.Took;
-    turn = thr 0x41 Asked.Took ∷ rbr ∷ [];
+    turn = timeout_entry Asked.Took ∷ thr 0x41 Asked.Took ∷ rbr ∷ [];
     iir = iir;
     earlier = [];
     place = refl;
     reads = refl;
     is_turn = record {
-      unread = none_by fresh_state is_iir_read (thr 0x41 Asked.Took ∷ rbr ∷ []) (iir ∷ begun) refl;
+      unread = none_by fresh_state is_iir_read (timeout_entry Asked.Took ∷ thr 0x41 Asked.Took ∷ rbr ∷ []) (iir ∷ begun) refl;
       sends = inl (record {
-        later = [];
+        later = timeout_entry Asked.Took ∷ [];
         entry = thr 0x41 Asked.Took;
         earlier = rbr ∷ [];
         value = 0x41;
@@ -240,16 +238,28 @@ reads_iir_once = record {
         enabled = refl;
       });
     };
-    untouched = none_by fresh_state (λ kind. is_iir_read kind || is_rbr_read kind) [] (plain_run ++ begun) refl;
   });
   asks = asks_by plain fresh_state begun plain_run refl;
+}
+
+is_monitored_once : IsMonitored plain fresh_state begun plain_run
+unfolding has_bits only_bits with_bits
+is_monitored_once = record {
+  after_none = no_none_by fresh_state begun plain_run refl;
+  in_loop = inr (record {
+    later = [];
+    asked = Asked.Took;
+    earlier = thr 0x41 Asked.Took ∷ rbr ∷ iir ∷ [];
+    place = refl;
+    unread = none_by fresh_state (λ kind. is_iir_read kind || is_rbr_read kind) [] (plain_run ++ begun) refl;
+  });
 }
 
 -- it has a byte left in each direction, and both are asked for
 is_asked_for_both : InterruptToReadLaw → InterruptToSendLaw → IsAskedFor Rda fresh_state begun plain_run × IsAskedFor Thre fresh_state begun plain_run
 unfolding has_bits only_bits with_bits
 is_asked_for_both takes sends = (
-  takes plain fresh_state begun plain_run reads_iir_once (no_none_by fresh_state begun plain_run refl) refl refl,
+  takes plain fresh_state begun plain_run reads_iir_once is_monitored_once refl refl,
   sends plain fresh_state begun plain_run reads_iir_once refl,
 )
 

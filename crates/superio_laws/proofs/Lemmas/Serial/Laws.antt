@@ -12,7 +12,7 @@ use Rattle.std.proofs.Common.{rules, ◌≡◌, ℕ, Bool, List, [], ◌∷◌, 
 use Rattle.std.specs.Option.{option_map_or}
 use Rattle.std.proofs.Math.Seq.{drop-append-add}
 use Rattle.superio_laws.specs.Serial.{ier_bits, Asked, Op, TraceEntry, DecodedOp, decode, State, not_empty, only_bits, has_bits, is_dlab, is_loopback, step, decode_in}
-use Rattle.superio_laws.specs.Serial.History.{state_of_history, with_data_ready, lsr_after, value_written_at, last_found, dlab_after, decode_at, accepted_by, read_out_by, remaining_bytes, accepted_bytes, read_out_bytes, held_bytes}
+use Rattle.superio_laws.specs.Serial.History.{state_of_history, with_data_ready, value_written_at, last_found, dlab_after, decode_at, accepted_by, read_out_by, remaining_bytes, accepted_bytes, read_out_bytes, held_bytes}
 use Rattle.superio_laws.specs.Serial.Laws.{RegisterLaw, state_after, HeldBytesLaw, LineStatusLaw}
 use Rattle.superio_core.proofs.Lemmas.Serial.Step.{SameBytes, by_kind, next_by_kind}
 use Rattle.superio_laws.specs.Serial.Laws.Consequences.{ReadOutThenHeldLaw}

@@ -115,18 +115,14 @@ pub record EndsAtNone (driver : Driver) (start : State) (before run : Trace) : T
   pub shows_none : ShowsNone start (turn ++ (iir ∷ earlier ++ before))
   pub untouched : NoIirOrRbrRead start tail (none ∷ (turn ++ (iir ∷ earlier ++ before)))
 
--- a run that ends in a turn, as of a driver that reads IIR once. After it the monitor's event loop makes a
--- character timeout, and neither IIR nor RBR is read later
+-- a run that ends in a turn, as of a driver that reads IIR once
 pub record EndsInTurn (driver : Driver) (start : State) (before run : Trace) : Type 0 where
-  pub tail : Trace
-  pub asked : Asked
   pub turn : Trace
   pub iir : TraceEntry
   pub earlier : Trace
-  pub place : run ≡ tail ++ timeout_entry asked ∷ (turn ++ iir ∷ earlier)
+  pub place : run ≡ turn ++ iir ∷ earlier
   pub reads : decode_at start (earlier ++ before) iir.op ≡ IirRead
   pub is_turn : IsTurn driver start (iir ∷ earlier ++ before) turn
-  pub untouched : NoIirOrRbrRead start tail (timeout_entry asked ∷ (turn ++ (iir ∷ earlier ++ before)))
 
 -- entries after `before`, newest first: those of a driver's run, and of others meanwhile, such as the host. The
 -- driver takes a byte if one is held at first, and ends in one of the two ways
@@ -137,13 +133,28 @@ pub record IsConsoleRun (driver : Driver) (start : State) (before run : Trace) :
   pub ends : EndsAtNone driver start before run ⊎ EndsInTurn driver start before run
   pub asks : AsksWhenGiven driver start before run
 
--- the monitor's rule: after each read of IIR in these entries that shows nothing pending, the next call is a
--- character timeout
+-- ---- the monitor's part
+
+-- after each read of IIR in these entries that shows nothing pending, the next call is a character timeout
 abbrev pub TimeoutAfterNone : (start : State) (before newest : Trace) → Type 0
 TimeoutAfterNone start before newest =
     (after earlier : Trace) (read : TraceEntry) → newest ≡ after ++ read ∷ earlier
     → decode_at start (earlier ++ before) read.op ≡ IirRead → ShowsNone start (earlier ++ before)
     → (later : Trace) × (asked : Asked) × (after ≡ later ++ timeout_entry asked ∷ [])
+
+-- these entries have a character timeout after which neither IIR nor RBR is read
+pub record EndsInTimeout (start : State) (before newest : Trace) : Type 0 where
+  pub later : Trace
+  pub asked : Asked
+  pub earlier : Trace
+  pub place : newest ≡ later ++ timeout_entry asked ∷ earlier
+  pub unread : NoIirOrRbrRead start later (timeout_entry asked ∷ earlier ++ before)
+
+-- the monitor makes the first, and in a turn of its event loop the second, after a run that does not end where IIR
+-- shows nothing pending
+pub record IsMonitored (driver : Driver) (start : State) (before run : Trace) : Type 0 where
+  pub after_none : TimeoutAfterNone start before run
+  pub in_loop : EndsAtNone driver start before run ⊎ EndsInTimeout start before run
 
 -- ---- the driver is asked again
 
@@ -158,10 +169,11 @@ pub record IsAskedFor (condition : Condition) (start : State) (before run : Trac
       IsTrue (has_bits (ier_after start (run ++ before)) (ier_bit condition))
       → IsRetried condition start (run ++ before)
 
--- for RDA after each run, if bytes are held and IER enables it
+-- for RDA after each run, if bytes are held and IER enables it, and the monitor makes its timeouts. No other of these
+-- laws needs them
 abbrev pub InterruptToReadLaw : Type 0
 InterruptToReadLaw = (driver : Driver) (start : State) (before run : Trace) → IsConsoleRun driver start before run
-    → TimeoutAfterNone start before run
+    → IsMonitored driver start before run
     → IsTrue (not_empty (held_bytes start (run ++ before)))
     → IsTrue (has_bits (ier_after start (run ++ before)) (ier_bit Rda))
     → IsAskedFor Rda start before run

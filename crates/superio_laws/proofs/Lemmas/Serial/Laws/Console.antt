@@ -7,9 +7,9 @@ use Rattle.std.specs.Bool.{IsFalse}
 use Rattle.superio_laws.specs.Serial.{Rda, Thre, Condition, State, not_empty, TraceEntry, Trace, count_if, DecodedOp, IirRead, IerWrite, ThrWrite, sent_by, has_bits, ier_bit}
 use Rattle.superio_laws.specs.Serial.History.{decode_at, ier_after, held_bytes, accepted_bytes, read_out_bytes, accepted_by, read_out_by, acknowledges, is_raised, is_pending, NoneAcknowledges, covers_waiting_bytes}
 use Rattle.superio_laws.specs.Serial.Laws.Line.{timeout_entry}
-use Rattle.superio_laws.specs.Serial.Laws.Console.{Driver, given, sent, left, has_to_send, EnablesThre, SendsEnabled, AsksWhenGiven, SendsOne, Rests, EndsAtNone, EndsInTurn, IsAskedFor, InterruptToReadLaw, InterruptToSendLaw, AreConsoleRuns, after_runs, is_free, free_runs, ReadOutInPassesLaw, SentInPassesLaw, TakesUntilNone, TakesMost, HandlerRunLaw, HandlerEndsLaw}
+use Rattle.superio_laws.specs.Serial.Laws.Console.{Driver, given, sent, left, has_to_send, EnablesThre, SendsEnabled, AsksWhenGiven, SendsOne, Rests, EndsAtNone, EndsInTurn, EndsInTimeout, IsAskedFor, InterruptToReadLaw, InterruptToSendLaw, AreConsoleRuns, after_runs, is_free, free_runs, ReadOutInPassesLaw, SentInPassesLaw, TakesUntilNone, TakesMost, HandlerRunLaw, HandlerEndsLaw}
 use Rattle.superio_laws.proofs.Lemmas.Serial.Laws.{read_out_then_held}
-use Rattle.superio_laws.proofs.Lemmas.Serial.Laws.Consequences.{none_more, nowhere, waiting_bytes_law}
+use Rattle.superio_laws.proofs.Lemmas.Serial.Laws.Consequences.{waiting_bytes_law}
 use Rattle.superio_laws.proofs.Lemmas.Serial.Laws.InterruptDriver.{Begins, begins_then, begins_first, all_bytes, some_held, taken_grows, accepted_grows, longer, counted, all_grow, enough_next}
 use Rattle.superio_laws.proofs.Lemmas.Serial.Laws.Transmit.{ier_raises, thr_raises, raised_stays, retried_law, called_since_law}
 
@@ -154,36 +154,13 @@ module _ (driver : Driver) (start : State) (before run : Trace) (asks : AsksWhen
     abbrev begun : Trace
     begun = ends.iir ∷ ends.earlier ++ before
 
-    abbrev timed : Trace
-    timed = timeout_entry ends.asked ∷ (ends.turn ++ begun)
-
-    nested : (ends.turn ++ ends.iir ∷ ends.earlier) ++ before ≡ ends.turn ++ begun
-    nested = append_assoc ends.turn (ends.iir ∷ ends.earlier) before
-
-    whole_in_turn : run ++ before ≡ ends.tail ++ timed
-    whole_in_turn =
-        ap (λ (run : Trace). run ++ before) ends.place
-        ∙ append_assoc ends.tail (timeout_entry ends.asked ∷ (ends.turn ++ ends.iir ∷ ends.earlier)) before
-        ∙ ap (λ (list : Trace). ends.tail ++ timeout_entry ends.asked ∷ list) nested
-
-    waits_timed : Waits driver start timed
-    waits_timed =
-        stays_waiting driver start (timeout_entry ends.asked ∷ []) (ends.turn ++ begun)
-        (none_more start (acknowledges Thre) [] (ends.turn ++ begun) (timeout_entry ends.asked) refl (nowhere start (acknowledges Thre) (ends.turn ++ begun)))
-        (subst (λ (trace : Trace). AsksWhenGiven driver start trace (timeout_entry ends.asked ∷ [])) nested
-        (asks_within driver start run ends.tail (timeout_entry ends.asked ∷ []) (ends.turn ++ ends.iir ∷ ends.earlier) before ends.place asks))
-        (turn_waits driver start begun ends.turn ends.is_turn.unread
-        (asks_within driver start run (ends.tail ++ timeout_entry ends.asked ∷ []) ends.turn (ends.iir ∷ ends.earlier) before
-        (ends.place ∙ sym (append_assoc ends.tail (timeout_entry ends.asked ∷ []) (ends.turn ++ ends.iir ∷ ends.earlier))) asks)
-        ends.is_turn.sends)
-
     waits_in_turn : Waits driver start (run ++ before)
     waits_in_turn =
-        subst (Waits driver start) (sym whole_in_turn)
-        (stays_waiting driver start ends.tail timed (no_iir start ends.tail timed ends.untouched)
-        (subst (λ (trace : Trace). AsksWhenGiven driver start (timeout_entry ends.asked ∷ trace) ends.tail) nested
-        (asks_within driver start run [] ends.tail (timeout_entry ends.asked ∷ (ends.turn ++ ends.iir ∷ ends.earlier)) before ends.place asks))
-        waits_timed)
+        let whole : run ++ before ≡ ends.turn ++ begun =
+        ap (λ (run : Trace). run ++ before) ends.place ∙ append_assoc ends.turn (ends.iir ∷ ends.earlier) before in
+        subst (Waits driver start) (sym whole)
+        (turn_waits driver start begun ends.turn ends.is_turn.unread
+        (asks_within driver start run [] ends.turn (ends.iir ∷ ends.earlier) before ends.place asks) ends.is_turn.sends)
 
 -- ---- the driver is asked again
 
@@ -205,12 +182,12 @@ asked_to_send_law driver start before run is some = asked_for Thre start before 
   pending (inr ends) = waits_in_turn driver start before run is.asks ends some
 
 pub asked_to_take_law : InterruptToReadLaw
-asked_to_take_law driver start before run is rule some enabled = asked_for Rda start before run (pending is.ends) where
-  pending : EndsAtNone driver start before run ⊎ EndsInTurn driver start before run → IsTrue (is_pending Rda start (run ++ before))
+asked_to_take_law driver start before run is monitored some enabled = asked_for Rda start before run (pending monitored.in_loop) where
+  pending : EndsAtNone driver start before run ⊎ EndsInTimeout start before run → IsTrue (is_pending Rda start (run ++ before))
   pending (inl ends) =
       let end = ends.turn ++ (ends.iir ∷ ends.earlier ++ before) in
       let nested : (ends.turn ++ ends.iir ∷ ends.earlier) ++ before ≡ end = append_assoc ends.turn (ends.iir ∷ ends.earlier) before in
-      let (later, asked, timed) = rule ends.tail (ends.turn ++ ends.iir ∷ ends.earlier) ends.none ends.place
+      let (later, asked, timed) = monitored.after_none ends.tail (ends.turn ++ ends.iir ∷ ends.earlier) ends.none ends.place
       (ap (λ (trace : Trace). decode_at start trace ends.none.op) nested ∙ ends.reads_none)
       (ap (λ (trace : Trace). is_pending Thre start trace) nested ∙ ends.shows_none.0, ap (λ (trace : Trace). is_pending Rda start trace) nested ∙ ends.shows_none.1) in
       waiting_bytes_law start (run ++ before) later (ends.none ∷ end) (timeout_entry asked)
@@ -218,8 +195,9 @@ asked_to_take_law driver start before run is rule some enabled = asked_for Rda s
       ∙ append_assoc later (timeout_entry asked ∷ []) (ends.none ∷ end)) refl
       (none_within start (acknowledges Rda) ends.tail [] later (timeout_entry asked ∷ []) (ends.none ∷ end) timed ends.untouched) some enabled
   pending (inr ends) =
-      waiting_bytes_law start (run ++ before) ends.tail (ends.turn ++ (ends.iir ∷ ends.earlier ++ before)) (timeout_entry ends.asked)
-      (whole_in_turn driver start before run is.asks ends) refl ends.untouched some enabled
+      waiting_bytes_law start (run ++ before) ends.later (ends.earlier ++ before) (timeout_entry ends.asked)
+      (ap (λ (run : Trace). run ++ before) ends.place ∙ append_assoc ends.later (timeout_entry ends.asked ∷ ends.earlier) before)
+      refl ends.unread some enabled
 
 -- ---- in each run a byte is through
 
@@ -368,8 +346,7 @@ run_sends driver start before run (inl ends) free some =
     turn_sends driver start before run (ends.tail ++ ends.none ∷ []) ends.turn (ends.iir ∷ ends.earlier)
     (ends.place ∙ sym (append_assoc ends.tail (ends.none ∷ []) (ends.turn ++ ends.iir ∷ ends.earlier))) ends.is_turn.sends free some
 run_sends driver start before run (inr ends) free some =
-    turn_sends driver start before run (ends.tail ++ timeout_entry ends.asked ∷ []) ends.turn (ends.iir ∷ ends.earlier)
-    (ends.place ∙ sym (append_assoc ends.tail (timeout_entry ends.asked ∷ []) (ends.turn ++ ends.iir ∷ ends.earlier))) ends.is_turn.sends free some
+    turn_sends driver start before run [] ends.turn (ends.iir ∷ ends.earlier) ends.place ends.is_turn.sends free some
 
 -- one run more: it sends a byte if it has some, unless it is stopped
 sends_next : (most sent given rest sent_next : ℕ) (free : Bool) → sent ≤ sent_next → (IsTrue free → 0 < given - sent → sent < sent_next)

@@ -1,0 +1,105 @@
+-- SPDX-License-Identifier: Apache-2.0 OR BSD-3-Clause
+-- The laws of a console and the guest's driver: the monitor's part of `superio_laws::console_driver` is done, so the
+-- driver's conditions are left.
+use Rattle.std.specs.Prelude.{⊤, ℕ, ◌≡◌, Bool, false, List, [], ◌∷◌, ◌++◌, take, length, IsTrue}
+use Rattle.superio_laws.specs.Serial.{State, fresh_state, not_empty, Coherent, Rda, Thre, Trace}
+use Rattle.superio_laws.specs.Serial.History.{state_of_history}
+use Rattle.superio_laws.specs.Serial.Laws.UartRun.{trace_with}
+use Rattle.superio_laws.specs.Serial.Laws.Console.{Driver, has_to_send, EndsAtNone, IsConsoleRun, TimeoutAfterNone, IsMonitored, SentInOrder, sent, left, after_runs, free_runs}
+use Rattle.superio_console.specs.Console.{ConsoleState, Call, Turns, Resets, new_console, port_calls, after}
+use Rattle.superio_console.specs.Laws.{after_calls, in_each, in_one, is_reset, is_enabled, is_shown, IsInterrupted, left_in_runs}
+
+-- ---- a console at a point of its history
+
+-- the port is that of a trace from a coherent start
+pub record IsAt (start : State) (before : Trace) (c : ConsoleState) : Type 0 where
+  pub coherent : Coherent start
+  pub port : c.port ≡ state_of_history start before
+
+-- the entries of some calls, newest first: what they make of the port
+abbrev pub newest : (calls : List Call) (c : ConsoleState) → Trace
+newest calls c = trace_with [] (in_each port_calls calls c)
+
+-- a console whose port is coherent, such as one that was loaded, is at the beginning of a history
+abbrev pub StartLaw : Type 0
+StartLaw = (c : ConsoleState) → Coherent c.port → IsAt c.port [] c
+
+-- and so is a new one
+abbrev pub FirstLaw : Type 0
+FirstLaw = (is_polled : Bool) → IsAt fresh_state [] (new_console is_polled)
+
+-- and after some calls it is at the trace with their entries added
+abbrev pub NextLaw : Type 0
+NextLaw = (start : State) (before : Trace) (c : ConsoleState) (calls : List Call) → IsAt start before c
+    → in_one is_reset calls c ≡ false → IsAt start (newest calls c ++ before) (after_calls calls c)
+
+-- a reset begins a new history
+abbrev pub ResetLaw : Type 0
+ResetLaw = (c : ConsoleState) → IsAt fresh_state [] (after Resets c)
+
+-- ---- the monitor's part
+
+-- after each read of IIR that shows nothing pending, the next call of the port is a character timeout
+abbrev pub TimeoutLaw : Type 0
+TimeoutLaw = (start : State) (before : Trace) (c : ConsoleState) (calls : List Call) → IsAt start before c
+    → in_one is_reset calls c ≡ false → TimeoutAfterNone start before (newest calls c)
+
+-- and with a turn, all is done that `superio_laws::console_driver` asks of a monitor
+abbrev pub MonitoredLaw : Type 0
+MonitoredLaw = (driver : Driver) (start : State) (before : Trace) (c : ConsoleState) (calls : List Call)
+    → IsAt start before c → in_one is_reset calls c ≡ false
+    → IsMonitored driver start before (newest (calls ++ Turns ∷ []) c)
+
+-- ---- each byte is through
+
+-- after a run of the driver: for a byte that is held, and for one that is left to send while flow control does not stop
+-- the driver, the guest is interrupted. If the driver read that nothing is pending, no turn has to come first: then RDA
+-- is pending at once
+pub record IsServed (driver : Driver) (start : State) (before : Trace) (run : List Call) (c : ConsoleState)
+    : Type 0 where
+  pub to_take : IsTrue (not_empty (after_calls run c).port.in_buffer) → IsInterrupted Rda run c
+  pub to_send : IsTrue (has_to_send driver start (newest run c ++ before)) → IsInterrupted Thre run c
+  pub at_none :
+      EndsAtNone driver start before (newest run c) → IsTrue (not_empty (after_calls run c).port.in_buffer)
+      → IsTrue (is_enabled Rda (after_calls run c))
+      → IsTrue (is_shown Rda (after_calls run c))
+
+-- runs of the driver, in order: each is what an interrupt makes it do, with all other calls up to the next run, and
+-- without a reset
+abbrev pub AreRuns :
+    (driver : Driver) (start : State) (before : Trace) (runs : List (List Call)) (c : ConsoleState) → Type 0
+AreRuns driver start before [] c = ⊤
+AreRuns driver start before (run ∷ later) c =
+    (in_one is_reset run c ≡ false) × IsConsoleRun driver start before (newest run c)
+    × AreRuns driver start (newest run c ++ before) later (after_calls run c)
+
+abbrev pub EachIsServed :
+    (driver : Driver) (start : State) (before : Trace) (runs : List (List Call)) (c : ConsoleState) → Type 0
+EachIsServed driver start before [] c = ⊤
+EachIsServed driver start before (run ∷ later) c =
+    IsServed driver start before run c
+    × EachIsServed driver start (newest run c ++ before) later (after_calls run c)
+
+-- the entries of each run
+abbrev pub runs_of : (runs : List (List Call)) (c : ConsoleState) → List Trace
+runs_of [] c = []
+runs_of (run ∷ later) c = newest run c ∷ runs_of later (after_calls run c)
+
+-- the guest is interrupted after each run. The bytes held at first are read out first, in order, at least one in each
+-- run. Of a driver that sends its bytes in order, those left at first are sent first, at least one in each run without
+-- a stop
+pub record AllIsThrough
+    (driver : Driver) (start : State) (before : Trace) (runs : List (List Call)) (c : ConsoleState)
+    : Type 0 where
+  pub interrupted : EachIsServed driver start before runs c
+  pub taken : (more : List ℕ) × (left_in_runs runs c ≡ take (length runs) c.port.in_buffer ++ more)
+  pub sent :
+      let end : Trace = after_runs before (runs_of runs c) in
+      SentInOrder driver start before → SentInOrder driver start end
+      → (more : List ℕ) × (sent driver start end
+      ≡ sent driver start before ++ take (free_runs driver before (runs_of runs c)) (left driver start before) ++ more)
+
+-- with the driver's conditions alone, no byte waits for ever, in either direction
+abbrev pub EachByteIsThroughLaw : Type 0
+EachByteIsThroughLaw = (driver : Driver) (start : State) (before : Trace) (c : ConsoleState) (runs : List (List Call))
+    → IsAt start before c → AreRuns driver start before runs c → AllIsThrough driver start before runs c

@@ -1,0 +1,197 @@
+// SPDX-License-Identifier: Apache-2.0 OR BSD-3-Clause
+//! A saved console as bytes.
+//!
+//! It is a header of eight bytes, as of each saved device; the four flags in one byte; the number of dropped bytes in
+//! eight; the number of bytes of output that wait in two, and these bytes; and then the port, as
+//! [`Uart::to_bytes`](superio_core::Uart) writes it. Numbers are little-endian.
+ghost use Rattle.std.specs.Prelude.{◌≡◌, ◌<◌, ◌≤◌, ◌+◌, ◌^◌, ◌==◌, ◌∷◌, ◌++◌, List, ℕ, not, length, take, drop, Some, IfOk, IfErr};
+ghost use Rattle.std.specs.Int.{w16, w64, to_le_bytes};
+ghost use Rattle.std.specs.Result.{result_err, IsOkAnd};
+ghost use Rattle.superio_core.specs.Saved.{encoding, console_kind, serial_fault};
+ghost use Rattle.superio_console.specs.Console.{state_of, ConsoleState};
+ghost use Rattle.superio_console.specs.Saved.{console_encoding, console_fault, IsConsole, bit_if, flags_of, console_prefix};
+
+use super::Console;
+use super::output_ring::{OUTPUT_SIZE, OutputRing};
+use superio_core::Uart;
+use superio_core::saved::{CONSOLE_KIND, HEADER_SIZE, SavedStateError, decode_header, header};
+use superio_core::serial::encoding::SAVED_MAX as PORT_MAX;
+
+/// The size of the flags and of the two counts.
+const PREFIX_SIZE: usize = 11;
+
+/// The maximum size of a console's encoding: the header, the flags and counts, 4,096 bytes of output, and a port.
+pub const CONSOLE_SAVED_MAX: usize = HEADER_SIZE + PREFIX_SIZE + OUTPUT_SIZE + PORT_MAX;
+
+/// The bits of the flags.
+const POLLED_BIT: u8 = 0x01;
+
+const READY_BIT: u8 = 0x02;
+
+const ASLEEP_BIT: u8 = 0x04;
+
+const REFUSED_BIT: u8 = 0x08;
+
+const ALL_BITS: u8 = 0x0F;
+
+impl Console {
+    /// Writes the console's encoding to the start of `bytes`, and returns its length; [`load`](Self::load) reads it back.
+    /// The other bytes do not change. The encoding has no byte that the guest has read, nor one that the reader took.
+    pub fn save(&self, bytes: &mut [u8; CONSOLE_SAVED_MAX]) -> usize
+        ensures count { result ≡ length (console_encoding (state_of self.now)) }
+        ensures at_most_4196 { result ≤ 4196 }
+        ensures encoding { take result bytes.new ≡ console_encoding (state_of self.now) }
+        ensures rest_unchanged { drop result bytes.new ≡ drop result bytes.old }
+    {
+        let port = self.port.to_bytes();
+        let port = port.as_bytes();
+        let (older, newer) = self.output.as_slices();
+        let waiting = older.len() + newer.len();
+        let prefix = self.encode_prefix(waiting, port.len());
+        let count = append(bytes, 0, &prefix);
+        let count = append(bytes, count, older);
+        let count = append(bytes, count, newer);
+        append(bytes, count, port)
+    }
+
+    /// Reads a console back from saved bytes: each later call answers as it would have before. The port in it may be
+    /// incoherent, as [`Uart::is_coherent`] tells.
+    ///
+    /// If your interrupt controller was not restored too, call [`refuse`](Self::refuse): it may have lost what it was
+    /// told before. In any case make a [`turn`](Self::turn) then.
+    ///
+    /// # Errors
+    ///
+    /// The first check that fails, in the order of [`SavedStateError`]: any case but [`SavedStateError::InvalidArmed`].
+    pub fn from_bytes(bytes: &[u8]) -> Result<Console, SavedStateError>
+        ensures encoding { IfOk result (λ console. bytes.now ≡ console_encoding (state_of console)) }
+        ensures at_most_64 { IfOk result (λ console. console.port.in_buffer.len ≤ 64) }
+        ensures read { (state : ConsoleState) → IsConsole state → bytes.now ≡ console_encoding state →
+            IsOkAnd result (λ console. state_of console ≡ state) }
+        ensures fault { result_err result ≡ console_fault bytes.now }
+    {
+        let (flags, dropped, output, port) = decode_console(bytes)?;
+        Ok(Console {
+            port: Uart::from_bytes(port)?,
+            output: OutputRing::from_slice(output),
+            dropped,
+            is_polled: flags & POLLED_BIT,
+            is_ready: flags & READY_BIT,
+            is_asleep: flags & ASLEEP_BIT,
+            is_refused: flags & REFUSED_BIT,
+        })
+    }
+
+    /// Becomes the console of saved bytes. If they are none, nothing changes.
+    ///
+    /// # Errors
+    ///
+    /// As for [`from_bytes`](Self::from_bytes).
+    pub fn load(&mut self, bytes: &[u8]) -> Result<(), SavedStateError>
+        ensures fault { result_err result ≡ console_fault bytes.now }
+        ensures loaded { IfOk result (λ _. bytes.now ≡ console_encoding (state_of self.new)) }
+        ensures read { (state : ConsoleState) → IsConsole state → bytes.now ≡ console_encoding state →
+            IsOkAnd result (λ _. state_of self.new ≡ state) }
+        ensures at_most_64 { IfOk result (λ _. self.new.port.in_buffer.len ≤ 64) }
+        ensures refused { IfErr result (λ _. self.new ≡ self.old) }
+    {
+        *self = Console::from_bytes(bytes)?;
+        Ok(())
+    }
+
+    /// The start of an encoding, before `waiting` bytes of output and `port` bytes of a port.
+    fn encode_prefix(&self, waiting: usize, port: usize) -> [u8; HEADER_SIZE + PREFIX_SIZE]
+        requires waiting { waiting ≤ 4096 }
+        requires port { port ≤ 81 }
+        ensures { result ≡ console_prefix (state_of self.now) waiting port }
+    {
+        let [m0, m1, m2, m3, kind, version, low, high] = header(
+            CONSOLE_KIND,
+            (PREFIX_SIZE + waiting + port) as u16,
+        );
+        let [d0, d1, d2, d3, d4, d5, d6, d7] = self.dropped.to_le_bytes();
+        let [count_low, count_high] = (waiting as u16).to_le_bytes();
+        [
+            m0,
+            m1,
+            m2,
+            m3,
+            kind,
+            version,
+            low,
+            high,
+            self.flags(),
+            d0,
+            d1,
+            d2,
+            d3,
+            d4,
+            d5,
+            d6,
+            d7,
+            count_low,
+            count_high,
+        ]
+    }
+
+    /// The flags in one byte.
+    fn flags(&self) -> u8
+        ensures { result ≡ flags_of (state_of self.now) }
+    {
+        bit_if(self.is_polled, POLLED_BIT)
+            | bit_if(self.is_ready, READY_BIT)
+            | bit_if(self.is_asleep, ASLEEP_BIT)
+            | bit_if(self.is_refused, REFUSED_BIT)
+    }
+}
+
+/// A bit, if a flag is set.
+fn bit_if(flag: u8, bit: u8) -> u8
+    ensures { result ≡ bit_if (not (flag == 0)) bit }
+{
+    if flag == 0 { 0 } else { bit }
+}
+
+/// The parts of a console's encoding: the flags, how many bytes of output were dropped, the output that waits, and the
+/// encoding of the port, which is not checked.
+///
+/// # Errors
+///
+/// As for [`Console::from_bytes`], but for the port's own.
+fn decode_console(bytes: &[u8]) -> Result<(u8, u64, &[u8], &[u8]), SavedStateError>
+    ensures encoding { IfOk result (λ found. bytes.now ≡ encoding console_kind
+        (found.0 ∷ to_le_bytes w64 found.1 ++ to_le_bytes w16 (length found.2.now) ++ found.2.now ++ found.3.now)) }
+    ensures flags { IfOk result (λ found. found.0 ≤ 15) }
+    ensures dropped { IfOk result (λ found. found.1 < 2 ^ 64) }
+    ensures at_most_4096 { IfOk result (λ found. length found.2.now ≤ 4096) }
+    ensures port { IfOk result (λ found. console_fault bytes.now ≡ serial_fault found.3.now) }
+    ensures fault { IfErr result (λ error. console_fault bytes.now ≡ Some error) }
+{
+    match decode_header(CONSOLE_KIND, bytes)? {
+        [flags, d0, d1, d2, d3, d4, d5, d6, d7, low, high, rest @ ..] => {
+            let waiting = usize::from(u16::from_le_bytes([*low, *high]));
+            if waiting > OUTPUT_SIZE || waiting > rest.len() {
+                return Err(SavedStateError::WrongLength);
+            }
+            if *flags > ALL_BITS {
+                return Err(SavedStateError::InvalidFlags);
+            }
+            let dropped = u64::from_le_bytes([*d0, *d1, *d2, *d3, *d4, *d5, *d6, *d7]);
+            let (output, port) = rest.split_at(waiting);
+            Ok((*flags, dropped, output, port))
+        }
+        _ => Err(SavedStateError::WrongLength),
+    }
+}
+
+/// Writes `part` behind the first `count` bytes, and returns how many bytes come first then.
+fn append(bytes: &mut [u8], count: usize, part: &[u8]) -> usize
+    requires { count + length part.now ≤ length bytes.old }
+    ensures count { result ≡ count + length part.now }
+    ensures written { take result bytes.new ≡ take count bytes.old ++ part.now }
+    ensures rest { drop result bytes.new ≡ drop result bytes.old }
+{
+    let end = count + part.len();
+    bytes[count..end].copy_from_slice(part);
+    end
+}
