@@ -7,84 +7,83 @@
  * argument and whatever its struct holds. README.md names the builds that this
  * covers.
  *
- * How it works
- * ------------
- *
  * A device is a struct of plain fields that you keep. A call takes it by
- * pointer, changes it, and returns its effects: what is left for you to do.
- * There are no callbacks and no handles. The library allocates no memory,
- * keeps no state, makes no system calls, and needs no initialisation. Of other
- * libraries it needs at most memcpy, memmove and memset. No call fails, except
- * that a load refuses bytes that are not a saved state.
+ * pointer, changes it, and returns what is left for you to do. There are no
+ * callbacks and no handles. The library allocates no memory, keeps no state,
+ * makes no system calls, and needs no initialisation. Of other libraries it
+ * needs at most memcpy, memmove and memset. No call fails, except that a load
+ * refuses bytes that are not a saved state.
  *
- *     superio_serial port = superio_serial_new();
+ * A console
+ * ---------
  *
- *     // The guest writes.
- *     superio_serial_write_effects written =
- *         superio_serial_write(&port, offset, value);
- *     if (written.sends)
- *         queue_output(value); // never waits
- *     if (offset == 1) // IER: it may enable again what was refused
- *         retry(written.interrupts);
- *     else
- *         interrupt(written.interrupts);
- *     is_ready = is_ready || (port.interrupt_enable & 3) == 1;
- *     if (offset == 1 || offset == 4) // IER: the guest may be ready for input
- *         offer_input();              // MCR: loopback may have ended
+ * A superio_console is a serial port with the monitor's end of its line. It
+ * takes input once the guest's driver is ready for it, keeps output until its
+ * reader takes it, asks again for interrupts that were refused, and says what
+ * your event loop waits for. This is a monitor around it:
  *
- *     // The guest reads.
- *     superio_serial_read_effects read = superio_serial_read(&port, offset);
- *     if (read.in_buffer_empty)
- *         offer_input();
- *     if (offset == 2 && read.byte & 0x01) // IIR: nothing is pending
- *         interrupt(superio_serial_character_timeout(&port));
- *     interrupt(0); // for a line that takes levels
+ *     superio_console_new(&console, false); // true: the guest polls
  *
- *     // Your event loop makes a turn: its poll has returned.
- *     write_output();   // as much as its reader takes now
- *     if (read_input()) // as much as the queue has room for
- *         offer_input();
- *     retry(superio_serial_character_timeout(&port));
+ *     // The guest writes a byte at an offset from the port's base.
+ *     lock();
+ *     if (carry_out(superio_console_write(&console, offset, value)))
+ *         wake(); // ends the poll of the event loop, such as by an eventfd
+ *     unlock();
  *
- *     // The guest resets the machine. The clock goes on.
- *     port = superio_serial_new();
- *     is_ready = is_early; // the option for a guest that polls
- *     is_refused = false;
- *     interrupt(0);
- *     offer_input();
+ *     // The guest reads a byte.
+ *     lock();
+ *     superio_console_read_effects done =
+ *         superio_console_read(&console, offset);
+ *     if (carry_out(done.work))
+ *         wake();
+ *     unlock();
+ *     return done.byte;
  *
- *     // What `offer_input` does.
- *     if (is_ready) {
- *         superio_serial_enqueue_effects offered =
- *             superio_serial_enqueue(&port, input, count);
- *         remove_input(offered.accepted);
- *         interrupt(offered.interrupts);
+ *     // The event loop. The files that it reads and writes do not block.
+ *     for (;;) {
+ *         lock();
+ *         wanted = superio_console_wants(&console);
+ *         if (wanted.input && (count = read(source, bytes, wanted.input)) > 0)
+ *             carry_out(superio_console_receive(&console, bytes, count).work);
+ *         count = superio_console_output(&console, bytes, sizeof bytes);
+ *         if (count > 0 && (count = write(reader, bytes, count)) > 0)
+ *             superio_console_consume(&console, count);
+ *         carry_out(superio_console_turn(&console));
+ *         wanted = superio_console_wants(&console);
+ *         unlock();
+ *         files[0].fd = wanted.input ? source : -1;  // for POLLIN
+ *         files[1].fd = wanted.output ? reader : -1; // for POLLOUT
+ *         poll(files, 3, wanted.turn ? 5 : -1);      // files[2]: of `wake`
+ *         forget_wake();
  *     }
  *
- *     // What `interrupt` does.
- *     for (int i = 0; i < times; i++) {
- *         if (!ask_for_interrupt()) {
- *             is_refused = true;
- *             retry_in(5); // milliseconds: sets a timer of the event loop
- *             break;
- *         }
- *     }
+ *     // What `carry_out` does with edges. It returns whether to wake the loop,
+ *     // unless the loop itself made the call.
+ *     for (int i = 0; i < work.interrupts; i++)
+ *         if (!raise_interrupt())
+ *             return work.wakes | superio_console_refuse(&console).wakes;
+ *     return work.wakes;
  *
- *     // What `retry` does.
- *     if (is_refused) // `times` are among these
- *         times = superio_serial_interrupts_due(&port);
- *     if (times > 0) // 0 if IER disables all that is pending
- *         is_refused = false;
- *     interrupt(times);
+ *     // What it does with levels, if your interrupt controller takes these.
+ *     if (work.is_up != was_up)
+ *         set_line(work.is_up);
+ *     was_up = work.is_up;
+ *     return work.wakes;
  *
- * The section "Around the calls" explains what is not a call here.
+ * With such a loop no byte waits for ever, neither one that the console has
+ * accepted nor one that the guest has to send, for a driver that meets the
+ * conditions of the law each_byte_is_through in docs/THEOREM.md, as Linux's and
+ * Xen's do. examples/c/monitor.c is a whole program.
+ *
+ * If you need the port alone, without output that waits or a gate for input,
+ * take a superio_serial. docs/PORT.md has all that you then do yourself.
  *
  * Rules
  * -----
  *
  * - A device pointer is not NULL. Set its struct first, by the device's `new`,
- *   by a load or by a copy. Only a load accepts a struct that is not set. If it
- *   fails, it leaves the struct as it was.
+ *   by a load or by a copy. Only a load, and the `new` of a console, accept a
+ *   struct that is not set. If a load fails, it leaves the struct as it was.
  * - Any bytes are a valid device. Whatever the struct holds, no call reads or
  *   writes outside it and the bytes that are passed.
  * - The library takes no locks. Calls on one device must not overlap in time:
@@ -94,89 +93,66 @@
  * - A copy of the struct is a copy of the device, for use in the same program.
  *   To write a device to a file or send it to another machine, save it. A
  *   saved device has a version, is the same on every machine, and holds no
- *   byte that the guest has read. A copy may hold such bytes.
+ *   byte that the guest has read, nor output that its reader has taken. A copy
+ *   may hold such bytes.
  *
  * Around the calls
  * ----------------
  *
- * Lock. Hold the port's lock over each call and what it leaves to you, in the
+ * Lock. Hold a port's lock over each call and what it leaves to you, in the
  * guest's accesses and in turns of the event loop. Otherwise two changes of the
  * interrupt line may reach your interrupt controller in the wrong order.
  *
  * Accesses. A serial port takes one byte: split a wider access into bytes, the
- * lowest port first. The clock takes four bytes at a multiple of four: answer a
- * narrower read from the four bytes around it, and a wider one with ones, and
+ * lowest port first. But a driver such as 8250_dw makes accesses of 32 bits at
+ * a stride of 4, as the device tree says by `reg-io-width` and `reg-shift`:
+ * each of these is one register, not four. Pass its lowest byte, and fill a
+ * read up with zeros. The clock takes four bytes at a multiple of four: answer
+ * a narrower read from the four bytes around it, and a wider one with ones, and
  * ignore such writes. No driver that we know makes a wider access.
  *
- * Input. A driver tests the port before it uses it, and throws away some or
- * all of what it finds in the FIFO. So keep input in a queue of your own until
- * the guest is ready: until IER enables RDA and not THRE. No driver that we ran
- * leaves IER like this in its test of a port. From then on the guest stays
- * ready, whatever it enables, until the machine is reset. A guest that polls,
- * such as a boot loader, never gets ready in this way, nor does one that
- * enables RDA only together with THRE: have an option with which a guest is
- * ready from the start, also after a reset. Bound the queue. While it is full,
- * do not read from its source. Wake the event loop once it has room.
+ * Edges or levels. Your interrupt controller decides: the PIC of a PC, and the
+ * inputs of an I/O APIC for ISA interrupts, take edges. A GIC, unless the
+ * device tree says otherwise, the inputs of an I/O APIC for PCI, a PLIC, and
+ * the LPC controller of a POWER machine take levels. If these get pulses, they
+ * may miss some: a guest at a GIC never got its input. Call your controller
+ * only when a level changes, since some take each call for an interrupt. After
+ * your controller is reset or restored, call it once with the levels of the
+ * port and of the clock, changed or not.
  *
- * Offer input once at each moment that the sketch shows, and at no other: when
- * it arrives, after a write of IER or MCR, after a read of the last byte, and
- * after a reset. Do not offer in a loop, since the guest need not read.
+ * Output. Never wait for its reader, neither in the event loop nor under the
+ * lock that input needs. Otherwise two monitors that are connected to each
+ * other may stand still for ever, each in a send that waits until the other
+ * one reads. No guest waits by itself until there is room, since LSR always
+ * shows an empty transmitter. So when superio_console_is_full says so after a
+ * guest's write, either let the console drop what comes next, and count it, or
+ * hold the guest for a limited time: carry out the work of the write, release
+ * the lock, and go on once the event loop has made room. After that time drop
+ * bytes, until the reader takes some.
  *
- * Output. Sending a byte must not wait for its reader, neither in the event
- * loop nor under the lock that input needs. Otherwise two monitors that are
- * connected to each other may stand still for ever, each in a send that waits
- * until the other one reads. Keep a bounded queue, from which the event loop
- * writes to a file that does not block: it polls for room while bytes wait, and
- * has to be woken when the first one is queued. LSR always shows an empty
- * transmitter, so no guest waits by itself until there is room. When the queue
- * is full, either drop the byte and count it, or hold the guest in its access
- * for a limited time. To hold it, first ask for the interrupts of the write,
- * then release the lock, wait for room, and take the lock again. After that
- * time drop bytes at once, until the reader takes some.
+ * Suspend. A guest that is suspended to memory is reset when it wakes. Bytes
+ * that go into its port while it sleeps are lost then. Call
+ * superio_console_suspend when it falls asleep, and superio_console_reset when
+ * it wakes.
  *
- * Turns. A turn of the event loop comes after each return of its poll. Bound
- * the poll to some milliseconds in two cases: after each refusal, as `retry_in`
- * does; and while bytes are held, if the guest's handler does not read IIR
- * until nothing is pending, or you do not know what it does. While such a
- * handler leaves bytes, it runs about once in each turn. A character timeout
- * that comes while a handler is running may interrupt the guest once more, with
- * nothing left to do. Linux counts such an interrupt as unhandled, and goes on.
- * If one of the two cases begins in a guest's access, wake the loop. A refusal
- * in a turn must not end the next poll at once, or the loop spins.
+ * A reset of the machine. Call superio_console_reset. Keep the clock as it is,
+ * with its time, alarm, mask and status: a guest expects its clock to go on
+ * until the power is off. Its driver may set the time back by a write at 0x00C,
+ * as superio_rtc_write explains. The reset controller has no state. A kexec
+ * resets nothing, so the monitor does not learn of it: input that goes in
+ * between it and the new kernel's driver is lost.
  *
- * A line that takes levels. Set it after every call on the port, also after
- * `new` and a load: the port before it may have left the line up. Call your
- * interrupt controller only when the level changes, since some take each call
- * for an interrupt. After your interrupt controller is reset or restored, call
- * it once more with the levels of the port and of the clock, changed or not.
- *
- *     // In place of `interrupt`.
- *     bool is_up = superio_serial_interrupt_line(&port);
- *     if (is_up != was_up)
- *         set_line(is_up);
- *     was_up = is_up;
- *
- * A reset of the machine. Make the port anew, and do not keep requests for
- * refused interrupts. Keep the input and the output that wait; the bytes in
- * the FIFO are lost. Keep the clock as it is, with its time, alarm, mask and
- * status: a guest expects its clock to go on until the power is off. Its driver
- * may set the time back by a write at 0x00C, as superio_rtc_write explains. The
- * reset controller has no state. A port that is not made anew may look to a
- * firmware as if there were none.
- *
- * A snapshot. Let each access end before you save: a byte whose access is held
- * is in no queue. A saved port has neither the input and the output that wait,
- * nor whether the guest is ready: save these beside it. For a clock, save `now`
- * too if it is not the host's time. Restore your interrupt controller first,
- * since its state would overwrite what you ask for. After a load, set the
- * level, or set `is_refused` of the sketch above and call `retry(0)`: this asks
- * for what the guest has not taken. If IER disables all of it, the sketch asks
- * after the write that enables some. So you need not save whether an interrupt
- * was refused.
+ * A snapshot. Stop the guest, and let its accesses end. Turns may go on while
+ * it stands still, and input may go in. Once the devices are saved, the old
+ * monitor neither reads input nor writes output, or the two end up in both
+ * monitors or in none. For a clock, save `now` too if it is not the host's
+ * time. Restore your interrupt controller first, since its state would
+ * overwrite what you ask for, and then the devices, as superio_console_load
+ * says.
  *
  * Break. The port has none. A guest that sets bit 0x40 of LCR, for a break,
  * sends none by it, and no call gives it one: ignore a break of your terminal,
- * and do not enqueue a zero for it.
+ * and do not take it for a zero.
  *
  * What the object code of prebuilt lacks
  * --------------------------------------
@@ -272,14 +248,14 @@ extern "C" {
  * program, store it with them. A saved device has its own version, which a
  * load checks.
  */
-#define SUPERIO_ABI 4
+#define SUPERIO_ABI 5
 #define SUPERIO_ABI_MATCHES() (superio_abi() == SUPERIO_ABI)
 
 /* The binary interface of the library that the program runs with. */
 uint32_t superio_abi(void);
 
 /* ------------------------------------------------------------------------- */
-/* The serial port                                                           */
+/* The serial port, as a console has it, or alone                            */
 /* ------------------------------------------------------------------------- */
 
 /* How many received bytes a port holds at most. */
@@ -354,7 +330,7 @@ superio_serial superio_serial_new(void) SUPERIO_MUST_USE;
 
 /*
  * The guest reads at `offset`. A read asks for no interrupt. Afterwards do two
- * things:
+ * things, as docs/PORT.md explains:
  *
  * - If `in_buffer_empty` is true, offer the input that waits.
  * - If `offset` is 2 and bit 0x01 of the byte is set, call
@@ -374,22 +350,8 @@ superio_serial_read_effects superio_serial_read(superio_serial *port,
  *    second step follows either way.
  * 2. Ask for the interrupt as often as `interrupts` says. Stop at the first
  *    refusal, such as a write to an eventfd that fails. You need not report a
- *    refusal: the port is the same either way.
- *
- * The condition of a refused interrupt stays pending, so no later access asks
- * for it until the guest has acknowledged it. A guest that waits for the
- * interrupt may never do so. If your interrupt can be refused, ask again
- * later, as often as superio_serial_interrupts_due says. It does not count what
- * IER disables: ask again after each write at offset 1, too, until an interrupt
- * is taken. One that is taken for the other condition is enough for a driver
- * whose handler reads IIR, since the read shows and ends both. For a driver
- * that never reads IIR, and edges, ask that often after every write at offset
- * 1, whether or not an interrupt was refused.
- *
- * A write to IER does not ask for a condition that was pending before it. If
- * you raise edges and your controller may lose one, such as at a masked input,
- * then after a write at offset 1 ask as often as superio_serial_interrupts_due
- * says, in place of `interrupts`.
+ *    refusal: the port is the same either way. The condition stays pending, so
+ *    no later access asks for it: docs/PORT.md says when you ask again.
  *
  * `interrupts` is 2 only if a write to IER raises both conditions. If the first
  * of the two is refused, both conditions are pending, and
@@ -411,8 +373,8 @@ superio_serial_write_effects superio_serial_write(superio_serial *port,
  * Afterwards ask for the interrupt as often as `interrupts` says. The bytes
  * are kept even if that is refused: do not offer them again.
  *
- * Keep the bytes that were not accepted. Offer them when a read reports
- * `in_buffer_empty`, or when the guest becomes ready or leaves loopback.
+ * Keep the bytes that were not accepted. docs/PORT.md says when to offer input,
+ * the first time and again.
  *
  * `bytes` points to `count` bytes outside the port. If `count` is 0 it may be
  * NULL.
@@ -436,17 +398,7 @@ superio_serial_enqueue_effects superio_serial_enqueue(superio_serial *port,
  *
  * - after each guest read at offset 2 whose byte has bit 0x01 set, which says
  *   that nothing is pending;
- * - once in each turn of your event loop. For a guest whose handler does not
- *   read IIR until nothing is pending, a timer has to make turns while bytes
- *   are held.
- *
- * With these calls, and if refused interrupts are asked for again, no byte that
- * is held waits for ever, nor one to send unless flow control stops the driver,
- * for a driver that meets the conditions of the law console_driver in
- * docs/THEOREM.md, as Linux's and Xen's do, and if each interrupt that is taken
- * reaches the guest, which runs its handler to the end. A driver
- * that ends a run with a read of IIR that shows THRE, and has bytes left to
- * send, is not asked again. A 16550A does not ask it either.
+ * - once in each turn of your event loop, which docs/PORT.md explains.
  */
 uint8_t superio_serial_character_timeout(superio_serial *port)
     SUPERIO_MUST_USE SUPERIO_NONNULL SUPERIO_ACCESS(read_write, 1);
@@ -459,11 +411,10 @@ size_t superio_serial_fifo_capacity(const superio_serial *port)
  * How often to ask for the interrupt now: once for each condition that is both
  * pending and enabled, 0 to 2 times. The port does not change.
  *
- * After a restore, ask that often, so that interrupts that the guest has not
- * taken reach it from their new source. Some milliseconds after a refused
- * interrupt, ask that often from your event loop. In both cases ask again after
- * writes at offset 1, as superio_serial_write says. The guest may then be
- * interrupted again for a condition that it knows of, also long afterwards.
+ * Ask that often after a load, so that interrupts that the guest has not taken
+ * reach it from their new source, and after a refusal, at the moments that
+ * docs/PORT.md names. The guest may then be interrupted again for a condition
+ * that it knows of, also long afterwards.
  */
 uint8_t superio_serial_interrupts_due(const superio_serial *port)
     SUPERIO_MUST_USE SUPERIO_NONNULL SUPERIO_ACCESS(read_only, 1);
@@ -473,9 +424,9 @@ uint8_t superio_serial_interrupts_due(const superio_serial *port)
  * enables. The port does not change.
  *
  * If your interrupt controller takes levels, set your line to it after every
- * call, reads among them, and raise no interrupt. The line also goes up when
- * IER enables a condition that is pending already, for which no call asks for
- * an interrupt.
+ * call on the port, reads, `new` and loads among them, and raise no interrupt.
+ * The line also goes up when IER enables a condition that is pending already,
+ * for which no call asks for an interrupt.
  */
 bool superio_serial_interrupt_line(const superio_serial *port)
     SUPERIO_MUST_USE SUPERIO_NONNULL SUPERIO_ACCESS(read_only, 1);
@@ -486,12 +437,205 @@ bool superio_serial_interrupt_line(const superio_serial *port)
  * held. The other fields are free. A new port is coherent. Every call but a
  * load keeps a port coherent.
  *
- * If you do not trust the source of a saved port, refuse one that is not
- * coherent: an interrupt may be missing in it, or come without a byte. Every
- * call is memory-safe and well defined in any case, whatever the struct holds.
+ * If you do not trust the source of a saved port or console, refuse one whose
+ * port is not coherent: an interrupt may be missing in it, or come without a
+ * byte. Every call is memory-safe and well defined in any case, whatever the
+ * struct holds.
  */
 bool superio_serial_is_coherent(const superio_serial *port)
     SUPERIO_MUST_USE SUPERIO_NONNULL SUPERIO_ACCESS(read_only, 1);
+
+/* ------------------------------------------------------------------------- */
+/* The console                                                               */
+/* ------------------------------------------------------------------------- */
+
+/* How many bytes of output wait in a console at most. */
+#define SUPERIO_CONSOLE_OUTPUT_SIZE 4096
+
+/*
+ * A serial port with the monitor's end of its line.
+ *
+ * The output that waits forms a ring: the oldest byte is at
+ * output_bytes[output_head % 4096], the others follow it, and output_bytes[0]
+ * follows output_bytes[4095]. At most 4096 wait: a larger `output_len` counts
+ * as 4096. A flag is set unless it is 0.
+ */
+typedef struct superio_console {
+    superio_serial port;
+    uint16_t output_head; /* the place of the oldest byte, modulo 4096 */
+    uint16_t output_len;  /* how many bytes of output wait */
+    uint8_t output_bytes[SUPERIO_CONSOLE_OUTPUT_SIZE]; /* the output. Bytes that
+                                                          do not wait mean
+                                                          nothing */
+    uint64_t dropped;   /* how many bytes of output were dropped */
+    uint8_t is_polled;  /* the guest polls, so input goes in at once */
+    uint8_t is_ready;   /* the guest's driver has shown that it is ready */
+    uint8_t is_asleep;  /* the guest sleeps in memory, and no driver has shown
+                           since then that it is ready */
+    uint8_t is_refused; /* an interrupt was refused, and has to be asked for
+                           again */
+} superio_console;
+
+/* What a call leaves for you to do. */
+typedef struct superio_console_work {
+    uint8_t interrupts; /* if your interrupt controller takes edges: raise the
+                           interrupt so many times, 0 to 2. If it is refused,
+                           leave out the others, and call
+                           superio_console_refuse */
+    bool is_up;         /* if it takes levels: set the line to this level */
+    bool wakes;         /* wake the event loop: superio_console_wants names
+                           something that it did not name before the call */
+} superio_console_work;
+
+/* What the event loop waits for. */
+typedef struct superio_console_wanted {
+    size_t input; /* input, at most so many bytes, 0 to 64. While it is 0, leave
+                     the input where it comes from */
+    bool output;  /* room at the reader of the output */
+    bool turn;    /* that some milliseconds pass: then make a turn, whatever
+                     else happens */
+} superio_console_wanted;
+
+/* What a guest's read shows, and what it leaves to you. */
+typedef struct superio_console_read_effects {
+    uint8_t byte; /* what the guest reads */
+    superio_console_work work;
+} superio_console_read_effects;
+
+/* How much input went in, and what that leaves to you. */
+typedef struct superio_console_receive_effects {
+    size_t accepted; /* how many bytes it accepted, first ones first */
+    superio_console_work work;
+} superio_console_receive_effects;
+
+/*
+ * Makes a console of a fresh port, without output that waits.
+ *
+ * A driver tests the port before it uses it, and throws away some or all of
+ * what it finds in the FIFO. So input waits until the guest is ready: until a
+ * write of IER enables RDA and not THRE. No driver that we ran leaves IER like
+ * this in its test of a port. From then on the guest stays ready, whatever it
+ * enables, until the machine is reset or suspended.
+ *
+ * A guest that polls, such as a boot loader, never gets ready in this way, nor
+ * does one that enables RDA only together with THRE. For such a guest
+ * `is_polled` is true: input goes in at once, also after a reset.
+ */
+void superio_console_new(superio_console *console, bool is_polled)
+    SUPERIO_NONNULL SUPERIO_ACCESS(write_only, 1);
+
+/* The guest reads at `offset`, as superio_serial_read describes. */
+superio_console_read_effects superio_console_read(superio_console *console,
+                                                  uint8_t offset)
+    SUPERIO_MUST_USE SUPERIO_NONNULL SUPERIO_ACCESS(read_write, 1);
+
+/*
+ * The guest writes `value` at `offset`. A byte that it sends waits for its
+ * reader, or is dropped and counted if 4096 wait. To drop none, ask
+ * superio_console_is_full after each write.
+ */
+superio_console_work superio_console_write(superio_console *console,
+                                           uint8_t offset, uint8_t value)
+    SUPERIO_MUST_USE SUPERIO_NONNULL SUPERIO_ACCESS(read_write, 1);
+
+/*
+ * What the event loop waits for now. The console does not change. Poll for all
+ * that it names, and make a turn when the poll returns. Ask again before you
+ * read input, since the guest may have gone on during the poll.
+ */
+superio_console_wanted superio_console_wants(const superio_console *console)
+    SUPERIO_MUST_USE SUPERIO_NONNULL SUPERIO_ACCESS(read_only, 1);
+
+/*
+ * Input arrives for the guest. The console accepts as many of the `count` bytes
+ * as superio_console_wants says, first ones first. So if you have read no more
+ * than that since you asked, it accepts all. Keep the others until more are
+ * wanted.
+ *
+ * `bytes` points to `count` bytes outside the console. If `count` is 0 it may
+ * be NULL.
+ */
+superio_console_receive_effects superio_console_receive(
+    superio_console *console, const uint8_t *bytes, size_t count)
+    SUPERIO_MUST_USE SUPERIO_NONNULL SUPERIO_COUNTED
+    SUPERIO_ACCESS(read_write, 1) SUPERIO_ACCESS(read_only, 2, 3);
+
+/*
+ * Copies the oldest output that waits, and returns how many bytes: as many as
+ * there is room for, up to the end of the ring. If any wait and `count` is not
+ * 0, it is some. The others come after these are consumed. The console does
+ * not change.
+ *
+ * `bytes` has room for `count` bytes, outside the console. Those that are not
+ * written do not change. If `count` is 0 it may be NULL.
+ */
+size_t superio_console_output(const superio_console *console, uint8_t *bytes,
+                              size_t count)
+    SUPERIO_MUST_USE SUPERIO_NONNULL SUPERIO_COUNTED
+    SUPERIO_ACCESS(read_only, 1) SUPERIO_ACCESS(write_only, 2, 3);
+
+/*
+ * The reader has taken the oldest `count` bytes of the output that waits, or
+ * all if fewer wait. It leaves nothing to do.
+ */
+void superio_console_consume(superio_console *console, size_t count)
+    SUPERIO_NONNULL SUPERIO_ACCESS(read_write, 1);
+
+/* Whether 4096 bytes of output wait: the next one that the guest sends is
+ * dropped. The console does not change. */
+bool superio_console_is_full(const superio_console *console)
+    SUPERIO_MUST_USE SUPERIO_NONNULL SUPERIO_ACCESS(read_only, 1);
+
+/* How many bytes of output were dropped, at most 2^64 - 1. The console does not
+ * change. */
+uint64_t superio_console_dropped(const superio_console *console)
+    SUPERIO_MUST_USE SUPERIO_NONNULL SUPERIO_ACCESS(read_only, 1);
+
+/*
+ * The event loop makes a turn: its poll has returned, for whatever reason.
+ * Bytes that the guest has left interrupt it again, and so does what was
+ * refused.
+ */
+superio_console_work superio_console_turn(superio_console *console)
+    SUPERIO_MUST_USE SUPERIO_NONNULL SUPERIO_ACCESS(read_write, 1);
+
+/*
+ * An interrupt that a call asked for was refused, or may be lost. Turns and
+ * writes of IER ask again, until one of them asks for something or the guest
+ * reads IIR. It asks for nothing itself: `interrupts` is 0.
+ *
+ * A write of IER does not ask for a condition that was pending before it. If
+ * you raise edges, and your controller may lose one, such as at a masked input,
+ * or the guest's driver never reads IIR, then make this call before each write
+ * at offset 1.
+ */
+superio_console_work superio_console_refuse(superio_console *console)
+    SUPERIO_MUST_USE SUPERIO_NONNULL SUPERIO_ACCESS(read_write, 1);
+
+/*
+ * The machine is reset. The port is a fresh one, and the bytes that it held are
+ * lost. Output that waits stays, and so does what was dropped. Input waits
+ * again until the guest is ready, unless the guest polls. Refused interrupts
+ * are forgotten.
+ */
+superio_console_work superio_console_reset(superio_console *console)
+    SUPERIO_MUST_USE SUPERIO_NONNULL SUPERIO_ACCESS(read_write, 1);
+
+/*
+ * The guest is suspended to memory. Input waits from now on, also if the guest
+ * polls: until a reset, or until a write of IER shows that a driver is ready.
+ * It leaves nothing to do.
+ */
+void superio_console_suspend(superio_console *console)
+    SUPERIO_NONNULL SUPERIO_ACCESS(read_write, 1);
+
+/*
+ * Says whether the guest polls, as superio_console_new does at first: a boot
+ * loader that polls and a kernel that does not are one guest.
+ */
+superio_console_work superio_console_set_polled(superio_console *console,
+                                                bool is_polled)
+    SUPERIO_MUST_USE SUPERIO_NONNULL SUPERIO_ACCESS(read_write, 1);
 
 /* ------------------------------------------------------------------------- */
 /* The real-time clock                                                       */
@@ -622,30 +766,37 @@ uint8_t superio_i8042_read(uint8_t offset) SUPERIO_MUST_USE;
 
 /*
  * A saved device is a string of bytes; docs/SAVED-STATES.md has its encoding.
- * Two devices have the same string only if their registers, offset, alarm and
- * held bytes are the same, on any machine. It has no checksum.
+ * Two devices have the same string only if their registers, offset, alarm, held
+ * bytes, output that waits, count of dropped bytes and flags are the same, on
+ * any machine. It has no checksum.
  */
 
-/* The maximum size of a saved port, and the size of a saved clock. */
+/* The maximum sizes of a saved port and of a saved console, and the size of a
+ * saved clock. */
 #define SUPERIO_SERIAL_SAVED_MAX 81
+#define SUPERIO_CONSOLE_SAVED_MAX 4196
 #define SUPERIO_RTC_SAVED_SIZE 33
 
 /*
  * What a load returns: 0, or the first check that the bytes fail, in this
- * order. The calls return a uint32_t, since the size of an enum is the
- * compiler's choice.
+ * order. Of a console its own checks come first, and then those of the port in
+ * it. The calls return a uint32_t, since the size of an enum is the compiler's
+ * choice.
  */
 enum superio_saved_state_error {
     SUPERIO_LOAD_OK = 0,
     SUPERIO_LOAD_TOO_SHORT = 1,         /* fewer bytes than a header */
     SUPERIO_LOAD_NOT_A_SAVED_STATE = 2, /* they begin with another magic */
     SUPERIO_LOAD_OTHER_DEVICE = 3,      /* the state of another device */
-    SUPERIO_LOAD_UNKNOWN_VERSION = 4,   /* bytes[5] is another version */
+    SUPERIO_LOAD_UNKNOWN_VERSION = 4,   /* the version, bytes[5], is another */
     SUPERIO_LOAD_WRONG_LENGTH = 5,      /* the length is not that of the rest,
                                            or for a port below 9, or for a
-                                           clock not 25 */
+                                           clock not 25, or for a console less
+                                           than its output needs, of which at
+                                           most 4096 bytes wait */
     SUPERIO_LOAD_TOO_MANY_BYTES = 6,    /* a port that holds more than 64 */
-    SUPERIO_LOAD_INVALID_ARMED = 7      /* an alarm that is neither 0 nor 1 */
+    SUPERIO_LOAD_INVALID_ARMED = 7,     /* an alarm that is neither 0 nor 1 */
+    SUPERIO_LOAD_INVALID_FLAGS = 8      /* a flag that no console has */
 };
 
 /*
@@ -661,8 +812,7 @@ size_t superio_serial_save(
 /*
  * Makes a port from `count` saved bytes. Any bytes are allowed. The port
  * changes only if the result is SUPERIO_LOAD_OK. Then ask for the interrupt as
- * often as superio_serial_interrupts_due says, and again after writes at offset
- * 1, as 'A snapshot' above says.
+ * often as superio_serial_interrupts_due says, and again as docs/PORT.md says.
  *
  * A loaded port holds at most 64 bytes. It need not be coherent: ask
  * superio_serial_is_coherent. `bytes` points to `count` bytes outside the port.
@@ -670,6 +820,29 @@ size_t superio_serial_save(
  */
 uint32_t superio_serial_load(superio_serial *port, const uint8_t *bytes,
                              size_t count)
+    SUPERIO_MUST_USE SUPERIO_NONNULL SUPERIO_COUNTED
+    SUPERIO_ACCESS(write_only, 1) SUPERIO_ACCESS(read_only, 2, 3);
+
+/*
+ * Saves a console and returns how many bytes it wrote: 36, plus one for each
+ * byte of output that waits, plus one for each byte that the port holds. The
+ * other bytes do not change. `bytes` is outside the console.
+ */
+size_t superio_console_save(
+    const superio_console *console,
+    uint8_t bytes[SUPERIO_AT_LEAST(SUPERIO_CONSOLE_SAVED_MAX)])
+    SUPERIO_MUST_USE SUPERIO_NONNULL SUPERIO_ACCESS(read_only, 1)
+    SUPERIO_ACCESS(write_only, 2);
+
+/*
+ * Makes a console from `count` saved bytes, as superio_serial_load makes a
+ * port. Then, if your interrupt controller was not restored with the console,
+ * call superio_console_refuse, so that what it was told before is asked for
+ * again. In any case then make a turn, by superio_console_turn, and carry out
+ * its work. superio_serial_is_coherent takes `&console->port`.
+ */
+uint32_t superio_console_load(superio_console *console, const uint8_t *bytes,
+                              size_t count)
     SUPERIO_MUST_USE SUPERIO_NONNULL SUPERIO_COUNTED
     SUPERIO_ACCESS(write_only, 1) SUPERIO_ACCESS(read_only, 2, 3);
 
@@ -692,6 +865,10 @@ uint32_t superio_rtc_load(superio_rtc *clock, const uint8_t *bytes,
 
 /* The structs have the sizes that the library gives them. */
 typedef char superio_serial_has_75_bytes[sizeof(superio_serial) == 75 ? 1 : -1];
+/* It has 4 bytes less if a uint64_t is aligned to 4, as on i386. */
+typedef char superio_console_has_4192_bytes
+    [sizeof(superio_console) == 4192 || sizeof(superio_console) == 4188 ? 1
+                                                                       : -1];
 typedef char superio_rtc_has_32_bytes[sizeof(superio_rtc) == 32 ? 1 : -1];
 typedef char superio_serial_read_effects_has_3_bytes
     [sizeof(superio_serial_read_effects) == 3 ? 1 : -1];
@@ -699,6 +876,14 @@ typedef char superio_serial_write_effects_has_2_bytes
     [sizeof(superio_serial_write_effects) == 2 ? 1 : -1];
 typedef char superio_serial_enqueue_effects_has_2_words
     [sizeof(superio_serial_enqueue_effects) == 2 * sizeof(size_t) ? 1 : -1];
+typedef char superio_console_work_has_3_bytes
+    [sizeof(superio_console_work) == 3 ? 1 : -1];
+typedef char superio_console_wanted_has_2_words
+    [sizeof(superio_console_wanted) == 2 * sizeof(size_t) ? 1 : -1];
+typedef char superio_console_read_effects_has_4_bytes
+    [sizeof(superio_console_read_effects) == 4 ? 1 : -1];
+typedef char superio_console_receive_effects_has_2_words
+    [sizeof(superio_console_receive_effects) == 2 * sizeof(size_t) ? 1 : -1];
 typedef char superio_rtc_read_effects_has_8_bytes
     [sizeof(superio_rtc_read_effects) == 8 ? 1 : -1];
 typedef char superio_rtc_write_effects_has_1_byte

@@ -8,17 +8,18 @@
 ghost use Rattle.std.specs.Prelude.{◌≡◌};
 
 mod clock;
+mod console;
 mod controller;
 mod saved;
 mod serial;
 
 /// Changes with every change to a struct or to the meaning of a call.
-const ABI: u32 = 4;
+const ABI: u32 = 5;
 
 /// The binary interface of this library; compare it with the header's, `SUPERIO_ABI`.
 #[unsafe(no_mangle)]
 pub extern "C" fn superio_abi() -> u32
-    ensures { result ≡ 4 }
+    ensures { result ≡ 5 }
 {
     ABI
 }

@@ -13,10 +13,10 @@ use superio_core::serial::Uart;
 use superio_core::serial::encoding::SAVED_MAX;
 
 /// What a load returns on success.
-const LOADED: u32 = 0;
+pub(crate) const LOADED: u32 = 0;
 
 /// The number of an error in the header's `enum superio_saved_state_error`.
-fn load_status(error: SavedStateError) -> u32
+pub(crate) fn load_status(error: SavedStateError) -> u32
     ensures { result ≡ load_status (Some error) }
 {
     match error {
@@ -27,6 +27,7 @@ fn load_status(error: SavedStateError) -> u32
         SavedStateError::WrongLength => 5,
         SavedStateError::TooManyBytes => 6,
         SavedStateError::InvalidArmed => 7,
+        SavedStateError::InvalidFlags => 8,
     }
 }
 

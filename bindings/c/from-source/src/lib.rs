@@ -3,13 +3,15 @@
 #![no_std]
 #![deny(unsafe_op_in_unsafe_fn)]
 
+use superio::console::saved::CONSOLE_SAVED_MAX;
+use superio::console::{Console, ConsoleRead, ConsoleReceived, Wants, Work};
 use superio::rtc_pl031::encoding::SAVED_SIZE;
 use superio::saved::SavedStateError;
 use superio::serial::{EnqueueEffects, ReadEffects, WriteEffects};
 use superio::{is_reset_command, Pl031, RtcState, Uart};
 
 /// Changes with every change to a struct or to the meaning of a call.
-const ABI: u32 = 4;
+const ABI: u32 = 5;
 
 /// What `superio_rtc_alarm_due` returns if no access ever finds an alarm due.
 const NEVER: u64 = u64::MAX;
@@ -58,6 +60,7 @@ fn load_status(error: SavedStateError) -> u32 {
         SavedStateError::WrongLength => 5,
         SavedStateError::TooManyBytes => 6,
         SavedStateError::InvalidArmed => 7,
+        SavedStateError::InvalidFlags => 8,
     }
 }
 
@@ -124,6 +127,28 @@ pub unsafe extern "C" fn superio_serial_save(port: &Uart, bytes: *mut u8) -> usi
 pub unsafe extern "C" fn superio_serial_load(port: *mut Uart, bytes: *const u8, count: usize) -> u32 {
     // SAFETY: as the function requires of both.
     unsafe { store(port, Uart::from_bytes(bytes_at(bytes, count))) }
+}
+
+/// # Safety
+///
+/// `CONSOLE_SAVED_MAX` bytes outside the console can be written at `bytes`. They need not be set.
+#[no_mangle]
+pub unsafe extern "C" fn superio_console_save(console: &Console, bytes: *mut u8) -> usize {
+    let mut saved = [0; CONSOLE_SAVED_MAX];
+    let count = console.save(&mut saved);
+    // SAFETY: there is room for all of `saved` at `bytes`.
+    unsafe { bytes.copy_from_nonoverlapping(saved.as_ptr(), count) };
+    count
+}
+
+/// # Safety
+///
+/// A console can be written at `console`, which need not hold one. `count` bytes outside the console can be read at
+/// `bytes`, which may be null if `count` is 0.
+#[no_mangle]
+pub unsafe extern "C" fn superio_console_load(console: *mut Console, bytes: *const u8, count: usize) -> u32 {
+    // SAFETY: as the function requires of both.
+    unsafe { store(console, Console::from_bytes(bytes_at(bytes, count))) }
 }
 
 /// # Safety
@@ -197,6 +222,97 @@ pub extern "C" fn superio_serial_interrupt_line(port: &Uart) -> bool {
 #[no_mangle]
 pub extern "C" fn superio_serial_is_coherent(port: &Uart) -> bool {
     port.is_coherent()
+}
+
+/// # Safety
+///
+/// A console can be written at `console`, which need not hold one.
+#[no_mangle]
+pub unsafe extern "C" fn superio_console_new(console: *mut Console, is_polled: bool) {
+    // SAFETY: as the function requires. What the place held is not dropped: a console owns nothing.
+    unsafe { console.write(Console::new(is_polled)) };
+}
+
+#[no_mangle]
+pub extern "C" fn superio_console_read(console: &mut Console, offset: u8) -> ConsoleRead {
+    console.read(offset)
+}
+
+#[no_mangle]
+pub extern "C" fn superio_console_write(console: &mut Console, offset: u8, value: u8) -> Work {
+    console.write(offset, value)
+}
+
+#[no_mangle]
+pub extern "C" fn superio_console_wants(console: &Console) -> Wants {
+    console.wants()
+}
+
+/// # Safety
+///
+/// `count` bytes outside the console can be read at `bytes`, which may be null if `count` is 0.
+#[no_mangle]
+pub unsafe extern "C" fn superio_console_receive(
+    console: &mut Console,
+    bytes: *const u8,
+    count: usize,
+) -> ConsoleReceived {
+    // SAFETY: as the function requires, and `console` is borrowed alone: nobody writes the bytes during the call.
+    console.receive(unsafe { bytes_at(bytes, count) })
+}
+
+/// # Safety
+///
+/// `count` bytes outside the console can be written at `bytes`, which may be null if `count` is 0. They need not be set.
+#[no_mangle]
+pub unsafe extern "C" fn superio_console_output(console: &Console, bytes: *mut u8, count: usize) -> usize {
+    let oldest = console.output();
+    let copied = oldest.len().min(count);
+    if copied > 0 {
+        // SAFETY: there is room for `count` bytes at `bytes`, which is not null, since `count` is not 0.
+        unsafe { bytes.copy_from_nonoverlapping(oldest.as_ptr(), copied) };
+    }
+    copied
+}
+
+#[no_mangle]
+pub extern "C" fn superio_console_consume(console: &mut Console, count: usize) {
+    console.consume(count);
+}
+
+#[no_mangle]
+pub extern "C" fn superio_console_is_full(console: &Console) -> bool {
+    console.is_full()
+}
+
+#[no_mangle]
+pub extern "C" fn superio_console_dropped(console: &Console) -> u64 {
+    console.dropped()
+}
+
+#[no_mangle]
+pub extern "C" fn superio_console_turn(console: &mut Console) -> Work {
+    console.turn()
+}
+
+#[no_mangle]
+pub extern "C" fn superio_console_refuse(console: &mut Console) -> Work {
+    console.refuse()
+}
+
+#[no_mangle]
+pub extern "C" fn superio_console_reset(console: &mut Console) -> Work {
+    console.reset()
+}
+
+#[no_mangle]
+pub extern "C" fn superio_console_suspend(console: &mut Console) {
+    console.suspend();
+}
+
+#[no_mangle]
+pub extern "C" fn superio_console_set_polled(console: &mut Console, is_polled: bool) -> Work {
+    console.set_polled(is_polled)
 }
 
 #[no_mangle]
