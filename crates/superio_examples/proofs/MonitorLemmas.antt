@@ -1,32 +1,30 @@
 -- SPDX-License-Identifier: Apache-2.0 OR BSD-3-Clause
--- What one event keeps, and what a list of events keeps.
-use Rattle.std.proofs.Common.{◌≡◌, ℕ, Bool, true, false, List, [], ◌∷◌, ◌++◌, refl, sym, ap, subst, ◌∙◌, append_assoc, append-nil, inl, inr, if◌then◌else◌, Option, Some, None, map, ◌&&◌, arith}
-use Rattle.std.specs.Option.{option_map_or}
+-- The events' claims, by the laws of a console over the calls that they make.
+use Rattle.std.proofs.Common.{◌≡◌, ℕ, zero, suc, ◌+◌, ◌-◌, ◌^◌, ◌<◌, ◌==◌, Bool, true, false, not, ◌&&◌, nat_lt, min, List, [], ◌∷◌, ◌++◌, length, take, map, Option, Some, None, refl, sym, ap, subst, ◌∙◌, append_assoc, append-nil, length-append, take-append-drop, if◌then◌else◌, arith}
+use Rattle.std.specs.Option.{option_map}
 use Rattle.std.proofs.lemmas.Bool.Decides.{nat_tests}
-use Rattle.circular_buffer.specs.Buffer.{Buffer}
-use Rattle.vm_superio.specs.Serial.{Asked, Sent, State, fresh_state, Op, enqueued_bytes, step, step_response, decode_in}
-use Rattle.superio_laws.specs.Serial.History.{byte_read, accepted_by}
-use Rattle.superio_examples.specs.Queues.{Waiting, after_sent, after_byte, IsSplit}
-use Rattle.superio_examples.specs.Monitor.{Machine, call_of, asks_reset, after_call, typed_by, sent_at, act, noticed, is_open, takes_input, fed, after_event, answer_to, after, replies_to, in_each, is_reset_answer, is_reset_reply, left_at, looped_at, KeepsInput, KeepsOut, MachineEvent}
-use Rattle.superio_examples.proofs.QueueLemmas.{accepted-rest}
-use Rattle.superio_laws.proofs.Lemmas.Serial.Laws.OneCall.{one_read, received_bytes}
+use Rattle.std.proofs.lemmas.List.{take_all}
+use Rattle.superio_laws.specs.Serial.{DecodedOp, Write, not_empty, sent_by, decode_in}
+use Rattle.superio_console.specs.Console.{ConsoleState, Call, Reads, Writes, Receives, Consumes, Turns, Refuses, Resets, Suspends, SetsPolled, output_with, dropped_with, is_open, input_room, after}
+use Rattle.superio_console.specs.Laws.{after_calls, in_each, in_one, left_at, looped_at, received_at, taken_at, KeepsInput}
+use Rattle.superio_console.proofs.Lemmas.Input.{input_law, none-in}
+use Rattle.superio_console.proofs.Lemmas.Port.{first_none, later_none}
+use Rattle.superio_examples.specs.declared.monitor.Answer.TheVariants as answer
+use Rattle.superio_examples.specs.declared.monitor.MachineEvent.TheVariants.{PortRead, PortWrite, MemoryRead, MemoryWrite, Typed, Drained, Moment, Timer, Refused, Suspended}
+use Rattle.superio_examples.specs.Monitor.{Machine, MachineEvent, call_of, call_then, calls_of, console_after, after_event, after_events, answer_to, replies_to, asks_reset, is_reset_answer, is_reset_reply, accepted_by, accepted, InputInOrder, may_open, KeepsOut, kept_at, dropped_at, KeepsOutput, OutputInOrder}
 
--- ---- output
+-- ---- the console
 
-sent-append : (first second : List ℕ) (output : Waiting) → after_sent (first ++ second) output ≡ after_sent second (after_sent first output)
-sent-append [] second output = refl
-sent-append (byte ∷ first) second output = sent-append first second (after_byte byte output)
+one-call : (call : Option Call) (calls : List Call) (c : ConsoleState)
+    → after_calls calls (console_after call c) ≡ after_calls (call_then call calls) c
+one-call None calls c = refl
+one-call (Some call) calls c = refl
 
-given-output : (takes : Bool) (m more : Machine) → more.output ≡ m.output → (if takes then more else m).output ≡ m.output
-given-output takes m more same = grind arith
-
-pub output-run : (events : List MachineEvent) (m : Machine) → (after events m).output ≡ after_sent (in_each sent_at events m) m.output
-output-run [] m = refl
-output-run (event ∷ events) m =
-    output-run events (after_event event m)
-    ∙ ap (after_sent (in_each sent_at events (after_event event m)))
-    (given-output (takes_input (noticed (act event m))) (noticed (act event m)) _ refl)
-    ∙ sym (sent-append (sent_at event m) (in_each sent_at events (after_event event m)) m.output)
+pub console-run : (events : List MachineEvent) (m : Machine)
+    → (after_events events m).console ≡ after_calls (calls_of events) m.console
+console-run [] m = refl
+console-run (event ∷ events) m =
+    console-run events (after_event event m) ∙ one-call (call_of event) (calls_of events) m.console
 
 -- ---- resets
 
@@ -39,156 +37,132 @@ resets-run (event ∷ events) m =
     ap (λ asked. asked ∷ map is_reset_reply (replies_to events (after_event event m))) (reset-answer event m)
     ∙ ap (λ resets. asks_reset event ∷ resets) (resets-run events (after_event event m))
 
--- ---- input: lists that are split
+-- ---- input that is accepted
 
-split-first : (bytes : List ℕ) → IsSplit bytes bytes []
-split-first [] = (refl, refl)
-split-first (byte ∷ bytes) = inl (bytes, refl, split-first bytes)
+one-typed : (room byte : ℕ) → accepted_by (Typed byte) (if room == 0 then answer.Full else answer.Done) ≡ take room (byte ∷ [])
+one-typed zero byte = refl
+one-typed (suc room) byte =
+    let some : (suc room == 0) ≡ false = grind (arith, nat_tests) in
+    ap (λ none. accepted_by (Typed byte) (if none then answer.Full else answer.Done)) some
+    ∙ ap (λ more. byte ∷ more) (sym (take_all room [] (omega arith)))
 
-split-second : (bytes : List ℕ) → IsSplit bytes [] bytes
-split-second [] = (refl, refl)
-split-second (byte ∷ bytes) = inr (bytes, refl, split-second bytes)
+no-read : (offset : Option ℕ) (calls : List Call) (c : ConsoleState)
+    → in_each received_at calls (console_after (option_map Reads offset) c) ≡ in_each received_at (call_then (option_map Reads offset) calls) c
+no-read None calls c = refl
+no-read (Some offset) calls c = refl
 
-split-append : (all more first second first_more second_more : List ℕ) → IsSplit all first second → IsSplit more first_more second_more
-    → IsSplit (all ++ more) (first ++ first_more) (second ++ second_more)
-split-append [] more first second first_more second_more (no_first, no_second) later = rw (no_first, no_second) later
-split-append (byte ∷ all) more first second first_more second_more (inl (others, is, split)) later =
-    inl (others ++ first_more, ap (λ bytes. bytes ++ first_more) is, split-append all more others second first_more second_more split later)
-split-append (byte ∷ all) more first second first_more second_more (inr (others, is, split)) later =
-    inr (others ++ second_more, ap (λ bytes. bytes ++ second_more) is, split-append all more first others first_more second_more split later)
+no-write : (resets : Bool) (offset : Option ℕ) (value : ℕ) (calls : List Call) (c : ConsoleState)
+    → in_each received_at calls (console_after (if resets then Some Resets else option_map (λ offset. Writes offset value) offset) c)
+    ≡ in_each received_at (call_then (if resets then Some Resets else option_map (λ offset. Writes offset value) offset) calls) c
+no-write true offset value calls c = refl
+no-write false None value calls c = refl
+no-write false (Some offset) value calls c = refl
 
--- ---- input: an event alone
+one-accepted : (event : MachineEvent) (calls : List Call) (m : Machine)
+    → accepted_by event (answer_to event m) ++ in_each received_at calls (console_after (call_of event) m.console)
+    ≡ in_each received_at (call_then (call_of event) calls) m.console
+one-accepted (PortRead port) calls m = no-read _ calls m.console
+one-accepted (PortWrite port value) calls m = no-write _ _ value calls m.console
+one-accepted (MemoryRead address) calls m = refl
+one-accepted (MemoryWrite address value) calls m = refl
+one-accepted (Typed byte) calls m =
+    ap (λ bytes. bytes ++ in_each received_at calls (after (Receives (byte ∷ [])) m.console))
+    (one-typed (input_room m.console) byte)
+one-accepted (Drained count) calls m = refl
+one-accepted (Moment moment) calls m = refl
+one-accepted Timer calls m = refl
+one-accepted Refused calls m = refl
+one-accepted Suspended calls m = refl
 
--- a character timeout keeps the bytes
-call-held : (op : Op) (s : State) → (after_call (Some op) s).in_buffer ≡ (step s op Asked.Nothing).in_buffer
-call-held op s = grind arith
+accepted-run : (events : List MachineEvent) (m : Machine)
+    → accepted events (replies_to events m) ≡ in_each received_at (calls_of events) m.console
+accepted-run [] m = refl
+accepted-run (event ∷ events) m =
+    ap (λ bytes. accepted_by event (answer_to event m) ++ bytes) (accepted-run events (after_event event m))
+    ∙ one-accepted event (calls_of events) m
 
-abbrev left_by : (call : Option Op) (s : State) → List ℕ
-left_by call s =
-    option_map_or (λ op. byte_read (decode_in s op) s.in_buffer (step_response s op Asked.Nothing Sent.Nothing)) call []
+pub input-run : (events : List MachineEvent) (m : Machine) → InputInOrder events (replies_to events m) m (after_events events m)
+input-run events m =
+    let calls = calls_of events in
+    let left = in_each left_at calls m.console in
+    let looped = in_each looped_at calls m.console in
+    subst (λ (c : ConsoleState). KeepsInput left (accepted events (replies_to events m)) looped m.console c) (sym (console-run events m))
+    (subst (λ (bytes : List ℕ). KeepsInput left bytes looped m.console (after_calls calls m.console)) (sym (accepted-run events m))
+    (input_law calls m.console))
 
-abbrev looped_by : (call : Option Op) (s : State) → List ℕ
-looped_by call s = option_map_or (λ op. accepted_by (decode_in s op) s.in_buffer) call []
+-- ---- when input goes in
 
-call-in-order : (call : Option Op) (s : State) → left_by call s ++ (after_call call s).in_buffer ≡ s.in_buffer ++ looped_by call s
-call-in-order None s = sym (append-nil s.in_buffer)
-call-in-order (Some op) s =
-    ap (λ held. left_by (Some op) s ++ held) (call-held op s) ∙ one_read s op Asked.Nothing Sent.Nothing
+stays-shut : (call : Call) (c : ConsoleState) → is_open c ≡ false → may_open call c ≡ false → is_open (after call c) ≡ false
+stays-shut call c is none = grind arith
 
--- a reset is no call of the serial port
-reset-call : (event : MachineEvent) → asks_reset event ≡ true → call_of event ≡ None
-reset-call event asked = grind (arith, nat_tests)
+shut-run : (calls : List Call) (c : ConsoleState) → is_open c ≡ false → in_one may_open calls c ≡ false
+    → in_each received_at calls c ≡ []
+shut-run [] c is none = refl
+shut-run (call ∷ later) c is none =
+    let next = after call c in
+    ap (λ bytes. bytes ++ in_each received_at later next) (none-in call c is)
+    ∙ shut-run later next (stays-shut call c is (first_none (may_open call c) _ none)) (later_none (may_open call c) _ none)
 
-act-choice : (asked : Bool) (call : Option Op) (s : State) → (asked ≡ true → call ≡ None)
-    → (if asked then s.in_buffer else left_by call s) ++ (if asked then fresh_state else after_call call s).in_buffer
-    ≡ s.in_buffer ++ looped_by call s
-act-choice true call s none = ap (λ (call : Option Op). s.in_buffer ++ looped_by call s) (sym (none refl))
-act-choice false call s none = call-in-order call s
+pub gate-run : (events : List MachineEvent) (m : Machine) → KeepsOut events (replies_to events m) m
+gate-run events m is none = accepted-run events m ∙ shut-run (calls_of events) m.console is none
 
-act-in-order : (event : MachineEvent) (m : Machine) → left_at event m ++ (act event m).serial.in_buffer ≡ m.serial.in_buffer ++ looped_at event m
-act-in-order event m = act-choice (asks_reset event) (call_of event) m.serial (reset-call event)
+-- ---- output
 
--- ---- input: what the serial port takes
+one-byte : (room : Bool) (byte : ℕ) (output : List ℕ) (count : ℕ) → count < 2 ^ 64
+    → ((if room then output ++ byte ∷ [] else output) ≡ output ++ (if true && not room then [] else byte ∷ []))
+    × ((if room then count else min (count + 1) (2 ^ 64 - 1))
+    ≡ min (count + length (if true && not room then byte ∷ [] else [])) (2 ^ 64 - 1))
+one-byte true byte output count few = (refl, omega (arith, few))
+one-byte false byte output count few = (sym (append-nil output), refl)
 
-abbrev fed_bytes : (m : Machine) → List ℕ
-fed_bytes m = if takes_input (noticed m) then enqueued_bytes m.serial m.input.items else []
+one-kind : (kind : DecodedOp) (output : List ℕ) (count : ℕ) → count < 2 ^ 64
+    → (output_with (sent_by kind) output
+    ≡ output ++ (if not_empty (sent_by kind) && not (nat_lt (length output) 4096) then [] else sent_by kind))
+    × (dropped_with (sent_by kind) output count
+    ≡ min (count + length (if not_empty (sent_by kind) && not (nat_lt (length output) 4096) then sent_by kind else [])) (2 ^ 64 - 1))
+one-kind (DecodedOp.ThrWrite value) output count few = one-byte (nat_lt (length output) 4096) value output count few
+one-kind _ output count few = (sym (append-nil output), omega (arith, few))
 
-record Feeds (bytes : List ℕ) (old new : Machine) : Type 0 where
-  held : new.serial.in_buffer ≡ old.serial.in_buffer ++ bytes
-  waiting : bytes ++ new.input.items ≡ old.input.items
+one-output : (call : Call) (c : ConsoleState) → c.dropped < 2 ^ 64
+    → (taken_at call c ++ (after call c).output ≡ c.output ++ kept_at call c)
+    × ((after call c).dropped ≡ min (c.dropped + length (dropped_at call c)) (2 ^ 64 - 1))
+one-output (Writes offset value) c few = one-kind (decode_in c.port (Write offset value)) c.output c.dropped few
+one-output (Consumes count) c few = (take-append-drop count c.output ∙ sym (append-nil c.output), omega (arith, few))
+one-output (Reads offset) c few = (sym (append-nil c.output), omega (arith, few))
+one-output (Receives bytes) c few = (sym (append-nil c.output), omega (arith, few))
+one-output Turns c few = (sym (append-nil c.output), omega (arith, few))
+one-output Refuses c few = (sym (append-nil c.output), omega (arith, few))
+one-output Resets c few = (sym (append-nil c.output), omega (arith, few))
+one-output Suspends c few = (sym (append-nil c.output), omega (arith, few))
+one-output (SetsPolled is_polled) c few = (sym (append-nil c.output), omega (arith, few))
 
-given-choice : (takes : Bool) (m more : Machine) (bytes : List ℕ) → Feeds bytes m more
-    → Feeds (if takes then bytes else []) m (if takes then more else m)
-given-choice true m more bytes feeds = feeds
-given-choice false m more bytes feeds = record { held = sym (append-nil m.serial.in_buffer); waiting = refl }
+more_counted : (count one other limit : ℕ) → min (min (count + one) limit + other) limit ≡ min (count + (one + other)) limit
+more_counted count one other limit = omega arith
 
-feeds : (m : Machine) → Feeds (fed_bytes m) m (fed m)
-feeds m =
-    let bytes = enqueued_bytes m.serial m.input.items in
-    let given_now = given-choice (takes_input (noticed m)) (noticed m) _ bytes (record {
-      held = received_bytes bytes m.serial;
-      waiting = accepted-rest m.serial m.input.items;
-    }) in
-    record { held = given_now.held; waiting = given_now.waiting }
+still_few : (new count : ℕ) → new ≡ min count (2 ^ 64 - 1) → new < 2 ^ 64
+still_few new count is = omega (arith, is)
 
--- ---- input: an event, and a list of events
-
-keeps-event : (event : MachineEvent) (m : Machine) → KeepsInput (left_at event m) (looped_at event m) (typed_by event m) m (after_event event m)
-keeps-event event m =
-    let made = act event m in
-    let bytes = fed_bytes made in
-    let fed_now = feeds made in
-    let looped = looped_at event m in
+output-calls : (calls : List Call) (c : ConsoleState) → c.dropped < 2 ^ 64 → KeepsOutput calls c (after_calls calls c)
+output-calls [] c few = record { in_order = sym (append-nil c.output); counted = omega (arith, few) }
+output-calls (call ∷ later) c few =
+    let next = after call c in
+    let first = one-output call c few in
+    let rest = output-calls later next (still_few next.dropped _ first.1) in
     record {
-      arrived = looped ++ bytes;
-      input = bytes;
       in_order =
-          ap (λ held. left_at event m ++ held) fed_now.held
-          ∙ sym (append_assoc (left_at event m) made.serial.in_buffer bytes)
-          ∙ ap (λ held. held ++ bytes) (act-in-order event m)
-          ∙ append_assoc m.serial.in_buffer looped bytes;
-      sources = subst (λ (second : List ℕ). IsSplit (looped ++ bytes) bytes second) (append-nil looped)
-          (split-append looped bytes [] looped bytes [] (split-second looped) (split-first bytes));
-      none_lost = fed_now.waiting;
+          append_assoc (taken_at call c) (in_each taken_at later next) (after_calls later next).output
+          ∙ ap (λ bytes. taken_at call c ++ bytes) rest.in_order
+          ∙ sym (append_assoc (taken_at call c) next.output (in_each kept_at later next))
+          ∙ ap (λ bytes. bytes ++ in_each kept_at later next) first.0
+          ∙ append_assoc c.output (kept_at call c) (in_each kept_at later next);
+      counted =
+          rest.counted
+          ∙ ap (λ count. min (count + length (in_each dropped_at later next)) (2 ^ 64 - 1)) first.1
+          ∙ more_counted c.dropped (length (dropped_at call c)) (length (in_each dropped_at later next)) (2 ^ 64 - 1)
+          ∙ ap (λ more. min (c.dropped + more) (2 ^ 64 - 1)) (sym (length-append (dropped_at call c) (in_each dropped_at later next)));
     }
 
-keeps-then : (left looped typed left_more looped_more typed_more : List ℕ) (old middle new : Machine)
-    → KeepsInput left looped typed old middle → KeepsInput left_more looped_more typed_more middle new
-    → KeepsInput (left ++ left_more) (looped ++ looped_more) (typed ++ typed_more) old new
-keeps-then left looped typed left_more looped_more typed_more old middle new first second = record {
-  arrived = first.arrived ++ second.arrived;
-  input = first.input ++ second.input;
-  in_order =
-      append_assoc left left_more new.serial.in_buffer
-      ∙ ap (λ bytes. left ++ bytes) second.in_order
-      ∙ sym (append_assoc left middle.serial.in_buffer second.arrived)
-      ∙ ap (λ bytes. bytes ++ second.arrived) first.in_order
-      ∙ append_assoc old.serial.in_buffer first.arrived second.arrived;
-  sources = split-append first.arrived second.arrived first.input looped second.input looped_more first.sources second.sources;
-  none_lost =
-      append_assoc first.input second.input new.input.items
-      ∙ ap (λ bytes. first.input ++ bytes) second.none_lost
-      ∙ sym (append_assoc first.input middle.input.items typed_more)
-      ∙ ap (λ bytes. bytes ++ typed_more) first.none_lost
-      ∙ append_assoc old.input.items typed typed_more;
-}
-
-pub keeps-run : (events : List MachineEvent) (m : Machine)
-    → KeepsInput (in_each left_at events m) (in_each looped_at events m) (in_each typed_by events m) m (after events m)
-keeps-run [] m = record {
-  arrived = [];
-  input = [];
-  in_order = sym (append-nil m.serial.in_buffer);
-  sources = (refl, refl);
-  none_lost = sym (append-nil m.input.items);
-}
-keeps-run (event ∷ events) m =
-    let next = after_event event m in
-    keeps-then (left_at event m) (looped_at event m) (typed_by event m) _ _ _ m next (after events next)
-    (keeps-event event m) (keeps-run events next)
-
--- ---- input before the guest is ready
-
-given-open : (takes : Bool) (m more : Machine) → is_open more ≡ is_open m → is_open (if takes then more else m) ≡ is_open m
-given-open takes m more same = grind arith
-
-shut-first : (ready empty : Bool) → ready ≡ false → ready && empty ≡ false
-shut-first ready empty shut = grind arith
-
-given-none : (takes : Bool) (m more : Machine) → takes ≡ false → (if takes then more else m).input ≡ m.input
-given-none takes m more none = grind arith
-
-shut-event : (event : MachineEvent) (m : Machine) → is_open (after_event event m) ≡ false
-    → (after_event event m).input.items ≡ m.input.items ++ typed_by event m
-shut-event event m shut =
-    let made = noticed (act event m) in
-    let none = shut-first (is_open made) _ (sym (given-open (takes_input made) made _ refl) ∙ shut) in
-    ap (λ (input : Buffer ℕ). input.items) (given-none (takes_input made) made _ none)
-
-pub shut-run : (events : List MachineEvent) (m : Machine) → KeepsOut events m (after events m)
-shut-run [] m shut = sym (append-nil m.input.items)
-shut-run (event ∷ events) m (shut, later) =
-    let next = after_event event m in
-    shut-run events next later
-    ∙ ap (λ bytes. bytes ++ in_each typed_by events next) (shut-event event m shut)
-    ∙ append_assoc m.input.items (typed_by event m) (in_each typed_by events next)
+pub output-run : (events : List MachineEvent) (m : Machine) → m.console.dropped < 2 ^ 64 → OutputInOrder events m (after_events events m)
+output-run events m few =
+    subst (λ (c : ConsoleState). KeepsOutput (calls_of events) m.console c) (sym (console-run events m))
+    (output-calls (calls_of events) m.console few)

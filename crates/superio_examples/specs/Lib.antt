@@ -6,5 +6,4 @@ pub mod Mmio
 pub mod Monitor
 pub mod Queues
 pub mod SavedMonitor
-pub mod TimedRead
 pub mod Triggers

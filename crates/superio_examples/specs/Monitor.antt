@@ -1,71 +1,59 @@
 -- SPDX-License-Identifier: Apache-2.0 OR BSD-3-Clause
 -- A whole machine as one value: what an event does to it, what is replied, and what a list of events does.
-use Rattle.std.specs.Prelude.{◌≡◌, ◌≤◌, ℕ, ◌+◌, ◌-◌, Bool, true, false, ◌==◌, ◌&&◌, ◌||◌, not, nat_lt, if◌then◌else◌, List, [], ◌∷◌, ◌++◌, length, drop, Option, Some, None, unwrap_or, ⊤}
+use Rattle.std.specs.Prelude.{◌≡◌, ℕ, ◌+◌, ◌-◌, ◌^◌, Bool, true, false, ◌==◌, ◌&&◌, ◌||◌, min, if◌then◌else◌, List, [], ◌∷◌, ◌++◌, length, map, Option, Some, None, unwrap_or}
 use Rattle.std.specs.Option.{option_map, option_map_or}
-use Rattle.circular_buffer.specs.Buffer.{Buffer, buffer}
-use Rattle.vm_superio.specs.Serial.{Asked, Sent, State, fresh_state, has_bits, not_empty, Op, Read, Write, Enqueue, CharacterTimeout, sent_by, state_of_uart, step, step_response, decode_in, step_calls, conditions_due}
+use Rattle.superio_laws.specs.Serial.{State, Trace, irq_level}
+use Rattle.superio_laws.specs.Serial.Laws.Console.{Driver}
 use Rattle.superio_laws.specs.Rtc.{RtcState, rtc_irq_level, clock_step, clock_response, Access, read, write, fresh_clock, state_of_clock}
-use Rattle.superio_laws.specs.Serial.History.{byte_read, accepted_by}
-use Rattle.superio_examples.specs.Bus.{serial_offset, other_byte, is_reset, Keyboard}
+use Rattle.superio_console.specs.Console.{ConsoleState, state_of, new_console, wants_of, work_of, Call, Reads, Writes, Receives, Consumes, Turns, Refuses, Resets, Suspends, after, shown_at, sent_at, is_open}
+use Rattle.superio_console.specs.declared.Work.{Work}
+use Rattle.superio_console.specs.Laws.{in_each, in_one, is_reset, is_ready_write, lets_poll, finds_no_room, left_at, looped_at, taken_at, KeepsInput}
+use Rattle.superio_console.specs.Driver.{IsAt, AreRuns, AllIsThrough}
+use Rattle.superio_examples.specs.Bus.{serial_offset, other_byte, is_reset as is_reset_command, Keyboard}
 use Rattle.superio_examples.specs.Mmio.{is_inside}
-use Rattle.superio_examples.specs.Queues.{room_in, shows_ready, Waiting, after_sent, IsSplit}
-use Rattle.superio_examples.specs.TimedRead.{shown_at, state_after_read, calls_after_read}
 use Rattle.superio_examples.specs.declared.monitor.Answer.{Answer}
 use Rattle.superio_examples.specs.declared.monitor.Answer.TheVariants as answer
 pub use Rattle.superio_examples.specs.declared.monitor.MachineEvent.{MachineEvent}
-use Rattle.superio_examples.specs.declared.monitor.MachineEvent.TheVariants.{PortRead, PortWrite, MemoryRead, MemoryWrite, Typed, Moment, Timer, Refused}
+use Rattle.superio_examples.specs.declared.monitor.MachineEvent.TheVariants.{PortRead, PortWrite, MemoryRead, MemoryWrite, Typed, Drained, Moment, Timer, Refused, Suspended}
 use Rattle.superio_examples.specs.declared.monitor.MachineReply.{MachineReply}
 pub use Rattle.superio_examples.specs.declared.monitor.Monitor.{Monitor}
 
 -- ---- the machine
 
 pub record Machine : Type 0 where
-  pub serial : State
+  pub console : ConsoleState
   pub clock : RtcState
-  -- input that waits for room in the serial port
-  pub input : Buffer ℕ
-  -- what the guest sent, until a sink takes it
-  pub output : Waiting
   -- the host's time, in seconds since 1970
   pub moment : ℕ
-  -- an interrupt was refused, and no timer has asked for it since
-  pub is_refused : Bool
-  -- input need not wait until the guest is ready
-  pub is_early : Bool
-  -- the guest has shown that it is ready since the last reset
-  pub is_ready : Bool
 
 abbrev pub machine_of : (monitor : Monitor) → Machine
 machine_of monitor = record {
-  serial = state_of_uart monitor.port;
+  console = state_of monitor.console;
   clock = state_of_clock monitor.clock;
-  input = monitor.input;
-  output = monitor.output;
   moment = monitor.moment;
-  is_refused = monitor.is_refused;
-  is_early = monitor.is_early;
-  is_ready = monitor.is_ready;
 }
 
-abbrev pub new_machine : (input output : ℕ) → Machine
-new_machine input output = record {
-  serial = fresh_state;
-  clock = fresh_clock;
-  input = buffer [] input;
-  output = record { items = []; capacity = output; dropped = 0 };
-  moment = 0;
-  is_refused = false;
-  is_early = false;
-  is_ready = false;
-}
+abbrev pub new_machine : (is_polled : Bool) → Machine
+new_machine is_polled = record { console = new_console is_polled; clock = fresh_clock; moment = 0 }
 
 -- ---- what an event calls
 
--- the serial port at COM1
-abbrev pub call_of : (event : MachineEvent) → Option Op
-call_of (PortRead port) = option_map Read (serial_offset 0x3F8 port)
-call_of (PortWrite port value) = option_map (λ offset. Write offset value) (serial_offset 0x3F8 port)
-call_of Timer = Some CharacterTimeout
+-- the reset command of the controller
+abbrev pub asks_reset : (event : MachineEvent) → Bool
+asks_reset (PortWrite port value) = is_reset_command port value
+asks_reset _ = false
+
+-- the console at COM1. A reset is for its port alone: the clock goes on
+abbrev pub call_of : (event : MachineEvent) → Option Call
+call_of (PortRead port) = option_map Reads (serial_offset 0x3F8 port)
+call_of (PortWrite port value) =
+    if is_reset_command port value then Some Resets
+    else option_map (λ offset. Writes offset value) (serial_offset 0x3F8 port)
+call_of (Typed byte) = Some (Receives (byte ∷ []))
+call_of (Drained count) = Some (Consumes count)
+call_of Timer = Some Turns
+call_of Refused = Some Refuses
+call_of Suspended = Some Suspends
 call_of _ = None
 
 -- the clock, in a window of memory. A timer reads RTCMIS
@@ -78,88 +66,25 @@ access_of (MemoryWrite address value) now = option_map (λ offset. write offset 
 access_of Timer now = Some (read 0x018 now)
 access_of _ now = None
 
--- the reset command of the controller
-abbrev pub asks_reset : (event : MachineEvent) → Bool
-asks_reset (PortWrite port value) = is_reset port value
-asks_reset _ = false
-
 -- ---- what becomes of the machine
 
--- a character timeout follows each read of IIR that shows nothing pending
-abbrev pub after_call : (call : Option Op) (s : State) → State
-after_call None s = s
-after_call (Some (Read offset)) s = state_after_read offset s
-after_call (Some op) s = step s op Asked.Nothing
-
--- a reset makes the serial port anew. The clock goes on, and input that waits is for the guest that starts
-abbrev pub serial_after : (event : MachineEvent) (m : Machine) → State
-serial_after event m = if asks_reset event then fresh_state else after_call (call_of event) m.serial
+abbrev pub console_after : (call : Option Call) (c : ConsoleState) → ConsoleState
+console_after None c = c
+console_after (Some call) c = after call c
 
 abbrev pub clock_after : (event : MachineEvent) (m : Machine) → RtcState
 clock_after event m = option_map_or (clock_step m.clock) (access_of event m.moment) m.clock
-
--- a byte that is typed waits if there is room
-abbrev pub typed_by : (event : MachineEvent) (m : Machine) → List ℕ
-typed_by (Typed byte) m = if nat_lt (length m.input.items) m.input.capacity then byte ∷ [] else []
-typed_by _ m = []
-
--- the byte that a write to THR sends
-abbrev pub sent_at : (event : MachineEvent) (m : Machine) → List ℕ
-sent_at event m = option_map_or (λ op. sent_by (decode_in m.serial op)) (call_of event) []
 
 abbrev pub moment_after : (event : MachineEvent) (m : Machine) → ℕ
 moment_after (Moment moment) m = moment
 moment_after _ m = m.moment
 
--- a condition is pending, and IER enables none that is
-abbrev pub is_disabled : (s : State) → Bool
-is_disabled s =
-    (length (conditions_due s) == 0)
-    && (has_bits s.interrupt_identification 0x02 || has_bits s.interrupt_identification 0x04)
-
--- a timer asks for what was refused, unless IER disables it
-abbrev pub refused_after : (event : MachineEvent) (m : Machine) → Bool
-refused_after Refused m = true
-refused_after Timer m = m.is_refused && is_disabled (serial_after Timer m)
-refused_after _ m = m.is_refused
-
--- the event alone
-abbrev pub act : (event : MachineEvent) (m : Machine) → Machine
-act event m = record {
-  serial = serial_after event m;
-  clock = clock_after event m;
-  input = buffer (m.input.items ++ typed_by event m) m.input.capacity;
-  output = after_sent (sent_at event m) m.output;
-  moment = moment_after event m;
-  is_refused = refused_after event m;
-  is_early = m.is_early;
-  is_ready = if asks_reset event then false else m.is_ready;
-}
-
--- the guest is ready from the event on that leaves IER so
-abbrev pub noticed : (m : Machine) → Machine
-noticed m = record m { is_ready = m.is_ready || shows_ready m.serial.interrupt_enable }
-
--- input may go in: the guest is ready, or it is one that never says so
-abbrev pub is_open : (m : Machine) → Bool
-is_open m = m.is_ready || m.is_early
-
--- then the serial port takes input if it holds no byte
-abbrev pub takes_input : (m : Machine) → Bool
-takes_input m = is_open m && not (not_empty m.serial.in_buffer)
-
-abbrev pub given : (m : Machine) → Machine
-given m =
-    if takes_input m then record m {
-      serial = step m.serial (Enqueue m.input.items) Asked.Nothing;
-      input = buffer (drop (room_in m.serial) m.input.items) m.input.capacity;
-    } else m
-
-abbrev pub fed : (m : Machine) → Machine
-fed m = given (noticed m)
-
 abbrev pub after_event : (event : MachineEvent) (m : Machine) → Machine
-after_event event m = fed (act event m)
+after_event event m = record {
+  console = console_after (call_of event) m.console;
+  clock = clock_after event m;
+  moment = moment_after event m;
+}
 
 -- ---- what is replied
 
@@ -174,58 +99,52 @@ memory_shown address m =
     option_map_or (λ offset. unwrap_or (clock_response m.clock (read offset m.moment)) 0) (clock_offset address) 0
 
 abbrev pub answer_to : (event : MachineEvent) (m : Machine) → Answer
-answer_to (PortRead port) m = answer.Shows (port_shown port m.serial)
-answer_to (PortWrite port value) m = if asks_reset (PortWrite port value) then answer.Reset else answer.Done
+answer_to (PortRead port) m = answer.Shows (port_shown port m.console.port)
+answer_to (PortWrite port value) m = if is_reset_command port value then answer.Reset else answer.Done
 answer_to (MemoryRead address) m = answer.Shows (memory_shown address m)
-answer_to (Typed byte) m = if nat_lt (length m.input.items) m.input.capacity then answer.Done else answer.Full
+answer_to (Typed byte) m = if (wants_of m.console).input == 0 then answer.Full else answer.Done
 answer_to _ m = answer.Done
 
--- how often the event asks for the interrupt. After a refusal a timer asks again for all that are due
-abbrev pub calls_by : (call : Option Op) (s : State) → ℕ
-calls_by None s = 0
-calls_by (Some (Read offset)) s = calls_after_read offset s
-calls_by (Some op) s = step_calls s op
+-- nothing is left to do
+abbrev pub no_work : (c : ConsoleState) → Work
+no_work c = record { interrupts = 0; is_up = irq_level c.port; wakes = false }
 
-abbrev pub is_retry : (event : MachineEvent) (is_refused : Bool) → Bool
-is_retry Timer is_refused = is_refused
-is_retry _ is_refused = false
-
-abbrev pub interrupts_by : (event : MachineEvent) (m : Machine) → ℕ
-interrupts_by event m =
-    if is_retry event m.is_refused then length (conditions_due (serial_after event m))
-    else calls_by (call_of event) m.serial
-
-abbrev pub feed_calls : (m : Machine) → ℕ
-feed_calls m = if takes_input (noticed m) then step_calls m.serial (Enqueue m.input.items) else 0
+abbrev pub work_by : (event : MachineEvent) (m : Machine) → Work
+work_by (Drained count) m = no_work m.console
+work_by Suspended m = no_work m.console
+work_by event m = option_map_or (λ call. work_of call m.console) (call_of event) (no_work m.console)
 
 abbrev pub reply_to : (event : MachineEvent) (m : Machine) → MachineReply
 reply_to event m = record {
   answer = answer_to event m;
-  interrupts = interrupts_by event m + feed_calls (act event m);
+  work = work_by event m;
   clock_line = rtc_irq_level (clock_after event m);
 }
 
--- an event alone: what it answers, how often it asks for the interrupt, and what becomes of the machine
-pub record Acts (event : MachineEvent) (answered : Answer) (asked : ℕ) (old new : Machine) : Type 0 where
+-- an event: what it answers, what it leaves to do, and what becomes of the machine
+pub record Acts (event : MachineEvent) (answered : Answer) (left : Work) (old new : Machine) : Type 0 where
   pub answer : answered ≡ answer_to event old
-  pub interrupts : asked ≡ interrupts_by event old
-  pub at_most_2 : asked ≤ 2
-  pub machine : new ≡ act event old
+  pub work : left ≡ work_by event old
+  pub machine : new ≡ after_event event old
 
 -- ---- several events, in order
 
-abbrev pub after : (events : List MachineEvent) (m : Machine) → Machine
-after [] m = m
-after (event ∷ events) m = after events (after_event event m)
+abbrev pub after_events : (events : List MachineEvent) (m : Machine) → Machine
+after_events [] m = m
+after_events (event ∷ events) m = after_events events (after_event event m)
 
 abbrev pub replies_to : (events : List MachineEvent) (m : Machine) → List MachineReply
 replies_to [] m = []
 replies_to (event ∷ events) m = reply_to event m ∷ replies_to events (after_event event m)
 
--- what each event has, one after the other
-abbrev pub in_each : (of : MachineEvent → Machine → List ℕ) (events : List MachineEvent) (m : Machine) → List ℕ
-in_each of [] m = []
-in_each of (event ∷ events) m = of event m ++ in_each of events (after_event event m)
+-- the calls of the console
+abbrev pub call_then : (call : Option Call) (calls : List Call) → List Call
+call_then None calls = calls
+call_then (Some call) calls = call ∷ calls
+
+abbrev pub calls_of : (events : List MachineEvent) → List Call
+calls_of [] = []
+calls_of (event ∷ events) = call_then (call_of event) (calls_of events)
 
 -- ---- the claims
 
@@ -237,33 +156,52 @@ is_reset_answer _ = false
 abbrev pub is_reset_reply : (reply : MachineReply) → Bool
 is_reset_reply reply = is_reset_answer reply.answer
 
--- the byte that a read of RBR takes from the FIFO and shows. A reset takes all that are held
-abbrev pub left_at : (event : MachineEvent) (m : Machine) → List ℕ
-left_at event m =
-    if asks_reset event then m.serial.in_buffer
-    else option_map_or (λ op.
-    byte_read (decode_in m.serial op) m.serial.in_buffer (step_response m.serial op Asked.Nothing Sent.Nothing))
-    (call_of event) []
+-- the typed byte, unless its source keeps it
+abbrev pub accepted_by : (event : MachineEvent) (answer : Answer) → List ℕ
+accepted_by (Typed byte) answer.Full = []
+accepted_by (Typed byte) _ = byte ∷ []
+accepted_by _ _ = []
 
--- the byte that comes back to the guest in loopback
-abbrev pub looped_at : (event : MachineEvent) (m : Machine) → List ℕ
-looped_at event m =
-    option_map_or (λ op. accepted_by (decode_in m.serial op) m.serial.in_buffer) (call_of event) []
+-- what was typed, without the bytes that were answered `Full`
+abbrev pub accepted : (events : List MachineEvent) (replies : List MachineReply) → List ℕ
+accepted (event ∷ events) (reply ∷ replies) = accepted_by event reply.answer ++ accepted events replies
+accepted _ _ = []
 
--- what left the FIFO, then what is held, is what was held, then what arrived. What arrived is input and looped bytes,
--- each in order. The input that arrived, then what waits, is what waited, then what was typed
-pub record KeepsInput (left looped typed : List ℕ) (old new : Machine) : Type 0 where
-  pub arrived : List ℕ
-  pub input : List ℕ
-  pub in_order : left ++ new.serial.in_buffer ≡ old.serial.in_buffer ++ arrived
-  pub sources : IsSplit arrived input looped
-  pub none_lost : input ++ new.input.items ≡ old.input.items ++ typed
+-- the input that was accepted, and the bytes that the guest looped back, arrived in order, behind those that were held.
+-- What left the FIFO, by reads or a reset, then what is held, are these bytes
+abbrev pub InputInOrder : (events : List MachineEvent) (replies : List MachineReply) (old new : Machine) → Type 0
+InputInOrder events replies old new =
+    KeepsInput (in_each left_at (calls_of events) old.console) (accepted events replies)
+    (in_each looped_at (calls_of events) old.console) old.console new.console
 
--- input may go in after none of these events
-abbrev pub StaysShut : (events : List MachineEvent) (m : Machine) → Type 0
-StaysShut [] m = ⊤
-StaysShut (event ∷ events) m = (is_open (after_event event m) ≡ false) × StaysShut events (after_event event m)
+-- a call after which input may go in: a write of IER as a driver makes it that is ready, the monitor's word that the
+-- guest polls, or a reset of a guest that polls
+abbrev pub may_open : (call : Call) (c : ConsoleState) → Bool
+may_open call c = is_ready_write call c || lets_poll call c || (is_reset call c && c.is_polled)
 
--- then what waits is what waited, and behind it all that was typed
-abbrev pub KeepsOut : (events : List MachineEvent) (old new : Machine) → Type 0
-KeepsOut events old new = StaysShut events old → new.input.items ≡ old.input.items ++ in_each typed_by events old
+-- before such a call none is accepted, if none may go in at first
+abbrev pub KeepsOut : (events : List MachineEvent) (replies : List MachineReply) (old : Machine) → Type 0
+KeepsOut events replies old =
+    is_open old.console ≡ false → in_one may_open (calls_of events) old.console ≡ false → accepted events replies ≡ []
+
+-- the byte that the guest sends is kept if fewer than 4,096 wait, and otherwise dropped
+abbrev pub kept_at : (call : Call) (c : ConsoleState) → List ℕ
+kept_at call c = if finds_no_room call c then [] else sent_at call c
+
+abbrev pub dropped_at : (call : Call) (c : ConsoleState) → List ℕ
+dropped_at call c = if finds_no_room call c then sent_at call c else []
+
+-- what sinks took, then what waits, is what waited, then what was kept. What was dropped is counted, up to 2^64 - 1
+pub record KeepsOutput (calls : List Call) (old new : ConsoleState) : Type 0 where
+  pub in_order : in_each taken_at calls old ++ new.output ≡ old.output ++ in_each kept_at calls old
+  pub counted : new.dropped ≡ min (old.dropped + length (in_each dropped_at calls old)) (2 ^ 64 - 1)
+
+abbrev pub OutputInOrder : (events : List MachineEvent) (old new : Machine) → Type 0
+OutputInOrder events old new = KeepsOutput (calls_of events) old.console new.console
+
+-- runs of the guest's driver: each is what an interrupt makes it do, with all other events up to the next
+abbrev pub EachByteIsThrough : Type 0
+EachByteIsThrough =
+    (driver : Driver) (start : State) (before : Trace) (runs : List (List MachineEvent)) (m : Machine)
+    → IsAt start before m.console → AreRuns driver start before (map calls_of runs) m.console
+    → AllIsThrough driver start before (map calls_of runs) m.console

@@ -1,19 +1,6 @@
 -- SPDX-License-Identifier: Apache-2.0 OR BSD-3-Clause
--- What waits up to a limit: input for room in a serial port, and output for a monitor's sink.
-use Rattle.std.specs.Prelude.{ℕ, ◌-◌, ◌==◌, bit_and, Bool, if◌then◌else◌, length, ◌≡◌, ◌⊎◌, ◌+◌, ◌^◌, ◌<◌, nat_lt, min, List, [], ◌∷◌, ◌++◌, take, drop}
-use Rattle.vm_superio.specs.Serial.{State, is_loopback}
-
--- ---- input
-
--- how many bytes a serial port has room for: what is left of its 64, and none in loopback
-abbrev pub room_in : (s : State) → ℕ
-room_in s = if is_loopback s.modem_control then 0 else 64 - length s.in_buffer
-
--- IER enables RDA and not THRE, as a driver leaves it that has tested its port and wants input
-abbrev pub shows_ready : (enable : ℕ) → Bool
-shows_ready enable = bit_and enable 0x03 == 0x01
-
--- ---- output
+-- Output that waits for a monitor's sink, up to a limit.
+use Rattle.std.specs.Prelude.{ℕ, ◌-◌, ◌==◌, if◌then◌else◌, length, ◌≡◌, ◌⊎◌, ◌+◌, ◌^◌, ◌<◌, nat_lt, min, List, [], ◌∷◌, ◌++◌, take, drop}
 
 -- the bytes that wait, oldest first, how many may wait, and how many were dropped
 pub record Waiting : Type 0 where
@@ -33,12 +20,7 @@ after_byte byte output =
     then record output { items = output.items ++ byte ∷ [] }
     else record output { dropped = min (output.dropped + 1) (2 ^ 64 - 1) }
 
--- after several, in order
-abbrev pub after_sent : (bytes : List ℕ) (output : Waiting) → Waiting
-after_sent [] output = output
-after_sent (byte ∷ bytes) output = after_sent bytes (after_byte byte output)
-
--- ---- output, over any calls
+-- ---- any calls
 
 -- what happens to an output: its guest sends a byte, or a sink takes the first bytes that wait
 pub data Turn : Type 0 where

@@ -1,6 +1,6 @@
 // SPDX-License-Identifier: Apache-2.0 OR BSD-3-Clause
-//! Short modules to copy into a monitor: a bus, a clock's window in memory, triggers, input and output in an event
-//! loop, a migration, a whole monitor, and first claims about the devices.
+//! Short modules to copy into a monitor: a bus, a clock's window in memory, triggers, output that waits, a whole monitor
+//! and its migration, and first claims about the devices.
 #![tactic(auto)]
 
 pub mod bus;
@@ -11,5 +11,4 @@ pub mod mmio;
 pub mod monitor;
 pub mod queues;
 pub mod saved_monitor;
-pub mod timed_read;
 pub mod triggers;

@@ -1,126 +1,21 @@
 // SPDX-License-Identifier: Apache-2.0 OR BSD-3-Clause
-//! Two bounded queues. Input for a guest waits until the serial port's FIFO has room, and no byte of it is lost. A
-//! guest's output waits until the monitor's sink takes it, and the guest never waits for the sink.
+//! A bounded queue. A guest's output waits until the monitor's sink takes it, and the guest never waits for the sink.
 ghost use Rattle.std.specs.Prelude.{◌≡◌, ◌≤◌, ◌-◌, ◌==◌, ℕ, [], ◌∷◌, ◌++◌, length, take, drop, max, min, Some, IfOk, OnErr};
 ghost use Rattle.std.specs.Io.{WritesAtMost};
 ghost use Rattle.std.specs.Io.KnownBytes.{WriteAppends, Keeps};
-ghost use Rattle.circular_buffer.specs.Buffer.{Buffer, buffer};
-ghost use Rattle.vm_superio.specs.Serial.{state_of_uart, CoherentUart, Asked, Enqueue, step_calls, step};
-ghost use Rattle.superio_examples.specs.Queues.{room_in, shows_ready, Waiting, OutputLaw, after_sent, dropped_by};
+ghost use Rattle.superio_examples.specs.Queues.{Waiting, OutputLaw, after_byte, dropped_by};
 
 use circular_buffer::HeapCircularBuffer;
 use std::alloc::{AllocError, Global};
 use std::io;
 use std::io::Write;
 use std::marker::Model;
-use superio_core::Uart;
-
-// ---- input
-
-/// The bytes that wait for the guest, oldest first, in a ring. Their number is limited, and `new` allocates the memory
-/// for this limit. In contracts the bytes are `items`, and the limit is `capacity`.
-#[derive(Drop)]
-pub struct InputQueue {
-    waiting: HeapCircularBuffer<u8>,
-}
-
-impl Model for InputQueue {
-    ghost Value = { Buffer ℕ };
-
-    ghost view = { λ input. input.waiting };
-}
-
-impl InputQueue {
-    /// An empty queue of at most `limit` bytes.
-    ///
-    /// # Errors
-    ///
-    /// Returns `AllocError` if the allocator refuses memory.
-    pub fn new(alloc: Global, limit: usize) -> Result<InputQueue, AllocError>
-        ensures { IfOk result (λ input. input ≡ buffer [] limit) }
-    {
-        let waiting = HeapCircularBuffer::with_capacity(alloc, limit)?;
-        Ok(InputQueue { waiting })
-    }
-
-    /// A queue in which these bytes wait. At most `limit` may wait, or as many as wait now if these are more.
-    ///
-    /// # Errors
-    ///
-    /// Returns `AllocError` if the allocator refuses memory.
-    pub fn restored(alloc: Global, waiting: &[u8], limit: usize) -> Result<InputQueue, AllocError>
-        ensures { IfOk result (λ input. input ≡ buffer waiting.now (max limit (length waiting.now))) }
-    {
-        let mut input = InputQueue::new(alloc, limit.max(waiting.len()))?;
-        input.push(waiting);
-        Ok(input)
-    }
-
-    /// How many more bytes `push` takes. While it is 0, the monitor stops reading its source.
-    pub fn room(&self) -> usize
-        ensures { result ≡ self.now.capacity - length self.now.items }
-    {
-        self.limit() - self.waiting.len()
-    }
-
-    /// How many bytes may wait.
-    pub fn limit(&self) -> usize
-        ensures value { result ≡ self.now.capacity }
-        ensures bound { length self.now.items ≤ self.now.capacity }
-    {
-        self.waiting.capacity()
-    }
-
-    /// A copy of the bytes that wait, oldest first.
-    ///
-    /// # Errors
-    ///
-    /// Returns `AllocError` if memory is refused for the copy.
-    pub fn waiting(&self, alloc: Global) -> Result<Vec<u8>, AllocError>
-        ensures { IfOk result (λ waiting. waiting.items ≡ self.now.items) }
-    {
-        self.waiting.to_vec(alloc)
-    }
-
-    /// Appends the first of these bytes, as many as there is room for, and returns how many. The caller keeps the
-    /// others.
-    pub fn push(&mut self, bytes: &[u8]) -> usize
-        ensures count { result ≡ min (length bytes.now) (self.old.capacity - length self.old.items) }
-        ensures added { self.new ≡ buffer (self.old.items ++ take result bytes.now) self.old.capacity }
-    {
-        self.waiting.fill_from_slice(bytes)
-    }
-
-    /// Gives the port the first waiting bytes, as many as its FIFO has room for: 0 to 64, and none in loopback. The
-    /// others stay. Returns how often to raise the interrupt: 0 or 1 times.
-    pub fn feed(&mut self, port: &mut Uart) -> u8
-        ensures port { state_of_uart port.new ≡ step (state_of_uart port.old) (Enqueue self.old.items) Asked.Nothing }
-        ensures room { self.new ≡ buffer (drop (room_in (state_of_uart port.old)) self.old.items) self.old.capacity }
-        ensures interrupts { result ≡ step_calls (state_of_uart port.old) (Enqueue self.old.items) }
-        ensures at_most_1 { result ≤ 1 }
-        ensures coherent { CoherentUart port.old → CoherentUart port.new }
-    {
-        let enqueued = port.enqueue_raw_bytes(self.waiting.make_contiguous());
-        self.waiting
-            .truncate_front(self.waiting.len() - enqueued.accepted);
-        enqueued.interrupts
-    }
-}
-
-/// Whether a guest with this IER is ready for input: IER enables RDA and not THRE.
-pub(crate) fn shows_ready(enable: u8) -> bool
-    ensures { result ≡ shows_ready enable }
-{
-    enable & 0x03 == 0x01
-}
-
-// ---- output
 
 /// The bytes that wait for the monitor's sink, oldest first, in a ring. Their number is limited, and `new` allocates
 /// the memory for this limit. A byte that finds no room is dropped, and counted.
 ///
-/// A monitor passes each byte that the guest sends to [`OutputQueue::push`]. An `OutputQueue` may also be a port's own
-/// writer. Then the guest's write returns an I/O error of the kind `WriteZero` for a byte that is dropped, which the
+/// The monitor of a port without I/O passes each byte that the guest sends to [`OutputQueue::push`]. An `OutputQueue` may
+/// also be a port's own writer. Then the guest's write returns an I/O error of the kind `WriteZero` for a byte that is dropped, which the
 /// monitor can log, and no contract says what the output holds after an I/O error.
 #[derive(Drop)]
 pub struct OutputQueue {
@@ -209,7 +104,7 @@ impl OutputQueue {
 
     /// Takes a byte that the guest sent if there is room, and otherwise drops and counts it.
     pub fn push(&mut self, byte: u8)
-        ensures { self.new ≡ after_sent (byte ∷ []) self.old }
+        ensures { self.new ≡ after_byte byte self.old }
     {
         if self.ring.try_push_back(byte).is_err() {
             let dropped = &mut self.dropped;

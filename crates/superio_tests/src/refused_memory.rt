@@ -9,6 +9,7 @@ use superio_examples::echo::{echo, over_serial};
 use superio_examples::first_claims::{read_back, restored_reads_same};
 use superio_examples::many_calls::make_by_run;
 use superio_examples::monitor::{MachineEvent, Monitor};
+use superio_examples::queues::OutputQueue;
 use superio_examples::saved_monitor::{move_monitor, restore_monitor, save_monitor};
 use superio_script::{
     Board, Counts, Line, LineFault, LineRefused, Output, ScriptFault, drain, run_script,
@@ -402,12 +403,29 @@ fn calls_are_made_by_a_run_or_memory_is_refused(rt: HostRuntime) -> Result<(), F
 }
 
 #[test]
-fn a_monitor_is_made_and_runs_or_memory_is_refused(rt: HostRuntime) -> Result<(), Fail> {
+fn an_output_is_made_or_memory_is_refused(rt: HostRuntime) -> Result<(), Fail> {
     let alloc = rt.alloc();
-    let mut monitor = match Monitor::new(alloc, 3, 5) {
-        Ok(monitor) => monitor,
-        Err(AllocError) => Monitor::new(alloc, 3, 5)?,
+    let mut output = match OutputQueue::new(alloc, 5) {
+        Ok(output) => output,
+        Err(AllocError) => OutputQueue::new(alloc, 5)?,
     };
+    output.push(b'x');
+    let waiting = match output.waiting(alloc) {
+        Ok(waiting) => waiting,
+        Err(AllocError) => output.waiting(alloc)?,
+    };
+    let restored = match OutputQueue::restored(alloc, &waiting, 5, 0) {
+        Ok(restored) => restored,
+        Err(AllocError) => OutputQueue::restored(alloc, &waiting, 5, 0)?,
+    };
+    assert!(rt; !restored.is_empty());
+    Ok(())
+}
+
+#[test]
+fn a_monitor_runs_or_memory_is_refused(rt: HostRuntime) -> Result<(), Fail> {
+    let alloc = rt.alloc();
+    let mut monitor = Monitor::new(false);
     let events = [
         MachineEvent::Typed(b'a'),
         MachineEvent::PortWrite(0x3F8, b'x'),
@@ -417,30 +435,29 @@ fn a_monitor_is_made_and_runs_or_memory_is_refused(rt: HostRuntime) -> Result<()
         Err(AllocError) => monitor.run(alloc, &events)?,
     };
     assert!(rt; replies.len() == 2);
-    assert!(rt; monitor.input.room() == 2 && !monitor.output.is_empty());
+    assert!(rt; monitor.console.output() == b"x".as_slice());
     Ok(())
 }
 
 #[test]
 fn a_monitor_moves_or_memory_is_refused(rt: HostRuntime) -> Result<(), Fail> {
     let alloc = rt.alloc();
-    let mut monitor = match Monitor::new(alloc, 3, 5) {
-        Ok(monitor) => monitor,
-        Err(AllocError) => Monitor::new(alloc, 3, 5)?,
-    };
-    monitor.input.push(b"a");
-    monitor.output.push(b'x');
+    let mut monitor = Monitor::new(true);
+    monitor.step(MachineEvent::Typed(b'a'));
+    monitor.step(MachineEvent::PortWrite(0x3F8, b'x'));
     let saved = match save_monitor(alloc, &monitor) {
         Ok(saved) => saved,
         Err(AllocError) => save_monitor(alloc, &monitor)?,
     };
-    match restore_monitor(alloc, &saved) {
-        Ok(restored) => assert!(rt; restored.input.room() == 2 && !restored.output.is_empty()),
-        Err(fault) => assert!(rt; fault == LoadError::Memory),
-    }
+    assert!(rt; matches!(restore_monitor(&saved), Ok(restored) if is_moved(&restored)));
     match move_monitor(alloc, &monitor) {
-        Ok(moved) => assert!(rt; moved.input.room() == 2 && !moved.output.is_empty()),
+        Ok(moved) => assert!(rt; is_moved(&moved)),
         Err(fault) => assert!(rt; fault == LoadError::Memory),
     }
     Ok(())
+}
+
+/// Whether a monitor holds one byte of input, and `x` waits in its output.
+fn is_moved(monitor: &Monitor) -> bool {
+    monitor.console.wants().input == 63 && monitor.console.output() == b"x".as_slice()
 }

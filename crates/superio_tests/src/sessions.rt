@@ -8,11 +8,11 @@ use superio_examples::bus::{Bus, BusError, COM1, COM2, COM3, COM4, Keyboard};
 use superio_examples::mmio::ClockWindow;
 use superio_examples::monitor::Answer::{Done, Full, Reset, Shows};
 use superio_examples::monitor::MachineEvent::{
-    MemoryRead, MemoryWrite, Moment, PortRead, PortWrite, Refused, Timer, Typed,
+    Drained, MemoryRead, MemoryWrite, Moment, PortRead, PortWrite, Refused, Suspended, Timer, Typed,
 };
 use superio_examples::monitor::{Answer, MachineEvent, MachineReply, Monitor};
 use superio_examples::saved_monitor::{move_monitor, restore_monitor, save_monitor};
-use vm_superio::saved::{LoadError, SavedStateError};
+use vm_superio::saved::SavedStateError;
 use vm_superio::{I8042Device, Rtc};
 
 // ---- buses
@@ -169,46 +169,46 @@ fn a_clock_is_reached_in_its_window(rt: HostRuntime) {
 /// The clock's window.
 const CLOCK: u64 = 0x0901_0000;
 
-/// Events, and to each the answer, how often the interrupt is raised, and whether the clock's line is up. At most one
-/// byte waits.
-const SESSION: [(MachineEvent, Answer, u8, bool); 54] = [
-    // What is typed waits while the guest tests its port.
-    (Typed(b'a'), Done, 0, false),
+/// Events, and to each the answer, how often the interrupt is raised, and whether the clock's line is up.
+const SESSION: [(MachineEvent, Answer, u8, bool); 61] = [
+    // What is typed waits at its source while the guest tests its port.
+    (Typed(b'a'), Full, 0, false),
     (PortWrite(0x3F9, 0x0F), Done, 1, false),
     (PortRead(0x3FA), Shows(0xC2), 0, false),
     (PortRead(0x3FD), Shows(0x60), 0, false),
-    (Typed(b'b'), Full, 0, false),
-    // The guest enables the interrupts for received data, and takes a byte. The next one comes from the input.
-    (PortWrite(0x3F9, 0x01), Done, 1, false),
+    (Typed(b'a'), Full, 0, false),
+    // The guest enables the interrupts for received data, and takes a byte of two.
+    (PortWrite(0x3F9, 0x01), Done, 0, false),
+    (Typed(b'a'), Done, 1, false),
     (Typed(b'b'), Done, 0, false),
-    (Typed(b'c'), Full, 0, false),
     (PortRead(0x3FA), Shows(0xC4), 0, false),
     (PortRead(0x3FD), Shows(0x61), 0, false),
-    (PortRead(0x3F8), Shows(0x61), 1, false),
-    (PortRead(0x3FA), Shows(0xC4), 0, false),
-    // It leaves the byte in the FIFO.
+    (PortRead(0x3F8), Shows(0x61), 0, false),
+    // It leaves the other one in the FIFO.
     (PortRead(0x3FA), Shows(0xC1), 1, false),
     (Refused, Done, 0, false),
     (Timer, Done, 1, false),
     (Timer, Done, 0, false),
-    // What IER disables is asked for after the write that enables it.
+    // What IER disables is asked for by the write that enables it.
     (Refused, Done, 0, false),
     (PortWrite(0x3F9, 0x00), Done, 0, false),
     (Timer, Done, 0, false),
-    (PortWrite(0x3F9, 0x01), Done, 0, false),
-    (Timer, Done, 1, false),
+    (PortWrite(0x3F9, 0x01), Done, 1, false),
     (Timer, Done, 0, false),
     (PortRead(0x3F8), Shows(0x62), 0, false),
     (PortRead(0x3F8), Shows(0), 0, false),
     (PortRead(0x3FA), Shows(0xC1), 0, false),
-    // It sends two bytes. Another stays in loopback.
+    // It sends two bytes, and the sink takes one.
     (PortWrite(0x3F8, b'x'), Done, 0, false),
     (PortWrite(0x3F8, b'y'), Done, 0, false),
+    (Drained(1), Done, 0, false),
     // What is written while DLAB is set is the divisor.
     (PortWrite(0x3FB, 0x83), Done, 0, false),
     (PortWrite(0x3F8, b'w'), Done, 0, false),
     (PortWrite(0x3FB, 0x03), Done, 0, false),
+    // Another byte stays in loopback, where no input goes in.
     (PortWrite(0x3FC, 0x10), Done, 0, false),
+    (Typed(b'c'), Full, 0, false),
     (PortWrite(0x3F8, b'z'), Done, 1, false),
     (PortRead(0x3F8), Shows(0x7A), 0, false),
     (PortWrite(0x3FC, 0x08), Done, 0, false),
@@ -227,21 +227,29 @@ const SESSION: [(MachineEvent, Answer, u8, bool); 54] = [
     (PortRead(0x61), Shows(0xFF), 0, false),
     (PortRead(0x400), Shows(0xFF), 0, false),
     // It resets the machine. The byte that is held is lost, and input waits again.
-    (Typed(b'e'), Done, 1, false),
+    (Typed(b'c'), Done, 1, false),
     (PortRead(0x3FD), Shows(0x61), 0, false),
     (PortWrite(0x60, 0xFE), Done, 0, false),
     (PortWrite(0x64, 0xFF), Done, 0, false),
     (PortWrite(0x64, 0xFE), Reset, 0, false),
-    (Typed(b'd'), Done, 0, false),
+    (Typed(b'd'), Full, 0, false),
     (PortRead(0x3FD), Shows(0x60), 0, false),
     (PortRead(0x3FC), Shows(0x08), 0, false),
+    // It is ready again, and sleeps in memory until the next reset.
+    (PortWrite(0x3F9, 0x05), Done, 0, false),
+    (Typed(b'd'), Done, 1, false),
+    (PortRead(0x3F8), Shows(0x64), 0, false),
+    (Suspended, Done, 0, false),
+    (Typed(b'e'), Full, 0, false),
+    (PortWrite(0x64, 0xFE), Reset, 0, false),
+    (Typed(b'e'), Full, 0, false),
 ];
 
 /// The place of the first reply that is not as in the session.
 fn first_wrong(before: &[MachineReply], after: &[MachineReply]) -> Option<usize> {
     let replies = before.iter().chain(after.iter());
     SESSION.iter().zip(replies).position(|((_, answer, interrupts, line), reply)| {
-        reply.answer != *answer || reply.interrupts != *interrupts || reply.clock_line != *line
+        reply.answer != *answer || reply.work.interrupts != *interrupts || reply.clock_line != *line
     })
 }
 
@@ -254,38 +262,29 @@ fn a_monitor_replies_to_each_event_also_if_it_moves(rt: HostRuntime) -> Result<(
     }
     assert!(rt; events.len() == SESSION.len());
     for place in 0..=events.len() {
-        let mut monitor = Monitor::new(alloc, 1, 100)?;
+        let mut monitor = Monitor::new(false);
         let (first, others) = events.split_at(place);
         let before = monitor.run(alloc, first)?;
         let mut moved = move_monitor(alloc, &monitor)?;
         let after = moved.run(alloc, others)?;
         assert!(rt; (before.len(), after.len()) == (place, others.len()));
         assert!(rt; first_wrong(&before, &after).is_none(), "{place}");
-        assert!(rt;
-            moved.output.waiting(alloc)?.as_slice() == b"xy".as_slice(),
-            "{place}"
-        );
+        assert!(rt; moved.console.output() == b"y".as_slice(), "{place}");
     }
     Ok(())
 }
 
 #[test]
 fn a_guest_that_polls_gets_its_input_at_once(rt: HostRuntime) -> Result<(), Fail> {
-    let mut monitor = Monitor::new(rt.alloc(), 1, 0)?;
-    monitor.is_early = true;
+    let mut monitor = Monitor::new(true);
     monitor.step(Typed(b'a'));
     assert!(rt; matches!(monitor.step(PortRead(0x3FD)).answer, Shows(0x61)));
     assert!(rt; matches!(monitor.step(PortRead(0x3F8)).answer, Shows(0x61)));
     // Bytes of another device are no monitor.
     let mut saved = save_monitor(rt.alloc(), &monitor)?;
-    assert!(rt; restore_monitor(rt.alloc(), &saved).is_ok());
-    saved.serial = saved.clock.clone()?;
-    let error = restore_monitor(rt.alloc(), &saved).err();
-    assert!(rt;
-        matches!(
-            error,
-            Some(LoadError::Invalid(SavedStateError::OtherDevice))
-        )
-    );
+    assert!(rt; restore_monitor(&saved).is_ok());
+    saved.console = saved.clock.clone()?;
+    let error = restore_monitor(&saved).err();
+    assert!(rt; matches!(error, Some(SavedStateError::OtherDevice)));
     Ok(())
 }

@@ -12,10 +12,9 @@ use superio_examples::first_claims::{
     read_back, refused_keeps_bytes, restored_reads_same, sent_is_appended,
 };
 use superio_examples::monitor::{MachineEvent, Monitor};
-use superio_examples::queues::{InputQueue, OutputQueue};
+use superio_examples::queues::OutputQueue;
 use superio_examples::saved_monitor::{move_monitor, save_monitor};
 use vm_superio::run::{Call, run};
-use vm_superio::serial::Uart;
 use vm_superio::{Serial, SerialState};
 
 /// Whether the state goes to bytes and back, and to a port without I/O and back.
@@ -79,20 +78,6 @@ fn lists_of_each_size_are_taken(rt: HostRuntime) -> Result<(), Fail> {
     Ok(())
 }
 
-/// Whether a queue of this input takes all of it, and is made again with it, and with room for so many bytes.
-fn is_input_of(alloc: Global, bytes: &[u8], limit: usize) -> Result<bool, Fail> {
-    let mut input = InputQueue::new(alloc, bytes.len())?;
-    let is_full = input.push(bytes) == bytes.len() && input.room() == 0;
-    input.feed(&mut Uart::new());
-    let restored = InputQueue::restored(alloc, bytes, limit)?;
-    Ok(
-        is_full
-            && input.limit() == bytes.len()
-            && restored.waiting(alloc)?.as_slice() == bytes
-            && restored.limit() == bytes.len().max(limit),
-    )
-}
-
 /// Whether a queue of this output takes all of it and drops what follows, and is made again with it, and with room for
 /// so many bytes.
 fn is_output_of(alloc: Global, bytes: &[u8], limit: usize) -> Result<bool, Fail> {
@@ -110,20 +95,19 @@ fn is_output_of(alloc: Global, bytes: &[u8], limit: usize) -> Result<bool, Fail>
 }
 
 #[test]
-fn queues_of_each_size_are_made(rt: HostRuntime) -> Result<(), Fail> {
+fn outputs_of_each_size_are_made(rt: HostRuntime) -> Result<(), Fail> {
     for number in 0..SIZES {
         let size = size_of(number);
         let limit = (drawn(!number) % 2_000) as usize;
         let bytes = b"x".repeat(rt.alloc(), size)?;
-        assert!(rt; is_input_of(rt.alloc(), &bytes, limit)?, "{size} {limit}");
         assert!(rt; is_output_of(rt.alloc(), &bytes, limit)?, "{size} {limit}");
     }
     Ok(())
 }
 
-/// How many replies a monitor gives to so many typed bytes.
+/// How many replies a monitor gives while its guest sends so many bytes.
 fn replies_to(alloc: Global, monitor: &mut Monitor, size: usize) -> Result<usize, Fail> {
-    let events = vec![in alloc; MachineEvent::Typed(b'x'); size]?;
+    let events = vec![in alloc; MachineEvent::PortWrite(0x3F8, b'x'); size]?;
     Ok(monitor.run(alloc, &events)?.len())
 }
 
@@ -134,11 +118,10 @@ fn is_same_moved(alloc: Global, monitor: &Monitor) -> Result<bool, Fail> {
 }
 
 #[test]
-fn monitors_of_each_size_are_made(rt: HostRuntime) -> Result<(), Fail> {
+fn monitors_run_and_move_with_output_of_each_size(rt: HostRuntime) -> Result<(), Fail> {
     for number in 0..SIZES {
         let size = size_of(number);
-        let output = (drawn(!number) % 2_000) as usize;
-        let mut monitor = Monitor::new(rt.alloc(), size, output)?;
+        let mut monitor = Monitor::new(false);
         assert!(rt; replies_to(rt.alloc(), &mut monitor, size)? == size);
         assert!(rt; is_same_moved(rt.alloc(), &monitor)?, "{size}");
     }
