@@ -15,7 +15,7 @@ def erase(*words):
     return ran.returncode, ran.stdout
 
 
-@pytest.mark.parametrize("source, expected", at_least(13, [case.split("->\n") for case in CASES]),
+@pytest.mark.parametrize("source, expected", at_least(15, [case.split("->\n") for case in CASES]),
                          ids=lambda it: it.splitlines()[0])
 def test_erase(source, expected, tmp_path):
     folders = tmp_path / "source", tmp_path / "target"
@@ -31,4 +31,7 @@ def test_erase(source, expected, tmp_path):
     assert text.split("\n", 3)[3] == expected
     assert erase("--check", *folders) == (0, "")
     made.write_text(text + "\n", encoding="utf-8")
+    assert erase("--check", *folders)[0] == 1
+    made.write_text(text, encoding="utf-8")
+    made.with_name("other.rs").write_text(text, encoding="utf-8")
     assert erase("--check", *folders)[0] == 1

@@ -14,6 +14,7 @@ impl fmt::Display for SavedStateError {
             SavedStateError::WrongLength => f.write_str("A saved state of the wrong length"),
             SavedStateError::TooManyBytes => f.write_str("More than 64 received bytes"),
             SavedStateError::InvalidArmed => f.write_str("An alarm that is neither set nor clear"),
+            SavedStateError::InvalidFlags => f.write_str("A flag that no console has"),
         }
     }
 }

@@ -12,7 +12,7 @@ const MAGIC: [u8; 4] = *b"SIOS";
 const VERSION: u8 = 1;
 
 /// The length of the header.
-pub(crate) const HEADER_SIZE: usize = 8;
+pub const HEADER_SIZE: usize = 8;
 
 /// The kind of the serial port.
 pub(crate) const SERIAL_KIND: u8 = 1;
@@ -20,8 +20,11 @@ pub(crate) const SERIAL_KIND: u8 = 1;
 /// The kind of the clock.
 pub(crate) const CLOCK_KIND: u8 = 2;
 
-/// Why a state was not written or bytes were not read. Bytes are checked in the order of the cases; the first check
-/// that fails is the error.
+/// The kind of the console, a serial port with the monitor's end of its line.
+pub const CONSOLE_KIND: u8 = 3;
+
+/// Why bytes were not read. They are checked in the order of the cases; the first check that fails is the error. A
+/// console's own bytes come first, and then those of its port.
 #[derive(Clone, Copy, Debug, Eq, PartialEq)]
 pub enum SavedStateError {
     /// Fewer bytes than a header.
@@ -32,16 +35,19 @@ pub enum SavedStateError {
     OtherDevice,
     /// The encoding has this version, which is not 1.
     UnknownVersion(u8),
-    /// The length in the header is not that of the rest, is too small for the device or, for a clock, too large.
+    /// The length in the header is not that of the rest, or it is too small or too large for the device.
     WrongLength,
     /// The port would hold more than 64 received bytes.
     TooManyBytes,
     /// The clock's alarm byte is neither 0 nor 1.
     InvalidArmed,
+    /// The console's flags have a bit that means nothing.
+    InvalidFlags,
 }
 
 /// The header of a state of this kind, before `length` bytes.
-pub(crate) fn header(kind: u8, length: u16) -> [u8; 8] {
+// Clauses in crates/superio_core/src/saved.rt: returns.
+pub fn header(kind: u8, length: u16) -> [u8; 8] {
     let [m0, m1, m2, m3] = MAGIC;
     let [low, high] = length.to_le_bytes();
     [m0, m1, m2, m3, kind, VERSION, low, high]
@@ -53,7 +59,8 @@ pub(crate) fn header(kind: u8, length: u16) -> [u8; 8] {
 ///
 /// The first header check that fails: [`SavedStateError::TooShort`], [`SavedStateError::NotASavedState`],
 /// [`SavedStateError::OtherDevice`], [`SavedStateError::UnknownVersion`] or [`SavedStateError::WrongLength`].
-pub(crate) fn decode_header(kind: u8, bytes: &[u8]) -> Result<&[u8], SavedStateError> {
+// Clauses in crates/superio_core/src/saved.rt: encoding, fault.
+pub fn decode_header(kind: u8, bytes: &[u8]) -> Result<&[u8], SavedStateError> {
     match bytes {
         [
             m0,

@@ -183,8 +183,7 @@ impl Registers {
     /// Whether a condition that is raised becomes pending: it is enabled and not pending.
     #[inline(always)]
     fn becomes_pending(&self, condition: Condition) -> bool {
-        has_bits(self.interrupt_enable, condition.ier_bit())
-            && !has_bits(self.interrupt_identification, condition.iir_bit())
+        self.enables(condition) && !has_bits(self.interrupt_identification, condition.iir_bit())
     }
 
     /// Shows a condition as pending.
@@ -392,6 +391,7 @@ impl Registers {
     #[inline(always)]
     // Clauses in crates/superio_core/src/serial.rt: line, due.
     pub fn interrupt_line(&self) -> bool {
-        self.is_asserted(Condition::Thre) || self.is_asserted(Condition::Rda)
+        // Both are looked at, which takes fewer instructions.
+        self.is_asserted(Condition::Thre) | self.is_asserted(Condition::Rda)
     }
 }

@@ -5,15 +5,19 @@
 //! that they hold.
 
 // Offsets. DLL and DLM replace RBR, THR and IER while DLAB is set.
-pub(super) const DATA_OFFSET: u8 = 0;
+/// The offset of RBR and THR.
+pub const DATA_OFFSET: u8 = 0;
 
-pub(super) const IER_OFFSET: u8 = 1;
+/// The offset of IER.
+pub const IER_OFFSET: u8 = 1;
 
-pub(super) const IIR_OFFSET: u8 = 2;
+/// The offset of IIR.
+pub const IIR_OFFSET: u8 = 2;
 
 pub(super) const LCR_OFFSET: u8 = 3;
 
-pub(super) const MCR_OFFSET: u8 = 4;
+/// The offset of MCR.
+pub const MCR_OFFSET: u8 = 4;
 
 pub(super) const LSR_OFFSET: u8 = 5;
 
@@ -29,7 +33,8 @@ pub(super) const IER_THR_EMPTY_BIT: u8 = 0x02;
 pub(super) const IER_UART_VALID_BITS: u8 = 0x0F;
 
 // Interrupt identification: nothing pending, the same two conditions, and FIFOs enabled.
-pub(super) const IIR_NONE_BIT: u8 = 0x01;
+/// The bit of IIR that says that nothing is pending.
+pub const IIR_NONE_BIT: u8 = 0x01;
 
 pub(super) const IIR_THR_EMPTY_BIT: u8 = 0x02;
 
@@ -200,6 +205,13 @@ impl Registers {
     #[inline(always)]
     fn is_divisor_shown(&self) -> bool {
         has_bits(self.line_control, LCR_DLAB_BIT)
+    }
+
+    /// Whether IER enables a condition.
+    #[inline(always)]
+    // Clauses in crates/superio_core/src/serial/registers.rt: returns.
+    pub fn enables(&self, condition: Condition) -> bool {
+        has_bits(self.interrupt_enable, condition.ier_bit())
     }
 
     /// Whether loopback is on.

@@ -1,0 +1,157 @@
+// SPDX-License-Identifier: Apache-2.0 OR BSD-3-Clause
+// Made by the command tools/erase from crates/superio_console/src/saved.rt.
+// These are the lines that the prover checks, without their contracts. Change them there.
+//! A saved console as bytes.
+//!
+//! It is a header of eight bytes, as of each saved device; the four flags in one byte; the number of dropped bytes in
+//! eight; the number of bytes of output that wait in two, and these bytes; and then the port, as
+//! [`Uart::to_bytes`](crate::Uart) writes it. Numbers are little-endian.
+
+use super::Console;
+use super::output_ring::{OUTPUT_SIZE, OutputRing};
+use crate::Uart;
+use crate::saved::{CONSOLE_KIND, HEADER_SIZE, SavedStateError, decode_header, header};
+use crate::serial::encoding::SAVED_MAX as PORT_MAX;
+
+/// The size of the flags and of the two counts.
+const PREFIX_SIZE: usize = 11;
+
+/// The maximum size of a console's encoding: the header, the flags and counts, 4,096 bytes of output, and a port.
+pub const CONSOLE_SAVED_MAX: usize = HEADER_SIZE + PREFIX_SIZE + OUTPUT_SIZE + PORT_MAX;
+
+/// The bits of the flags.
+const POLLED_BIT: u8 = 0x01;
+
+const READY_BIT: u8 = 0x02;
+
+const ASLEEP_BIT: u8 = 0x04;
+
+const REFUSED_BIT: u8 = 0x08;
+
+const ALL_BITS: u8 = 0x0F;
+
+impl Console {
+    /// Writes the console's encoding to the start of `bytes`, and returns its length; [`load`](Self::load) reads it back.
+    /// The other bytes do not change. The encoding has no byte that the guest has read, nor one that the reader took.
+    // Clauses in crates/superio_console/src/saved.rt: count, at_most_4196, encoding, rest_unchanged.
+    pub fn save(&self, bytes: &mut [u8; CONSOLE_SAVED_MAX]) -> usize {
+        let port = self.port.to_bytes();
+        let port = port.as_bytes();
+        let (older, newer) = self.output.as_slices();
+        let waiting = older.len() + newer.len();
+        let prefix = self.encode_prefix(waiting, port.len());
+        let count = append(bytes, 0, &prefix);
+        let count = append(bytes, count, older);
+        let count = append(bytes, count, newer);
+        append(bytes, count, port)
+    }
+
+    /// Reads a console back from saved bytes: each later call answers as it would have before. The port in it may be
+    /// incoherent, as [`Uart::is_coherent`] tells.
+    ///
+    /// If your interrupt controller was not restored too, call [`refuse`](Self::refuse): it may have lost what it was
+    /// told before. In any case make a [`turn`](Self::turn) then.
+    ///
+    /// # Errors
+    ///
+    /// The first check that fails, in the order of [`SavedStateError`]: any case but [`SavedStateError::InvalidArmed`].
+    // Clauses in crates/superio_console/src/saved.rt: encoding, at_most_64, read, fault.
+    pub fn from_bytes(bytes: &[u8]) -> Result<Console, SavedStateError> {
+        let (flags, dropped, output, port) = decode_console(bytes)?;
+        Ok(Console {
+            port: Uart::from_bytes(port)?,
+            output: OutputRing::from_slice(output),
+            dropped,
+            is_polled: flags & POLLED_BIT,
+            is_ready: flags & READY_BIT,
+            is_asleep: flags & ASLEEP_BIT,
+            is_refused: flags & REFUSED_BIT,
+        })
+    }
+
+    /// Becomes the console of saved bytes. If they are none, nothing changes.
+    ///
+    /// # Errors
+    ///
+    /// As for [`from_bytes`](Self::from_bytes).
+    // Clauses in crates/superio_console/src/saved.rt: fault, loaded, read, at_most_64, refused.
+    pub fn load(&mut self, bytes: &[u8]) -> Result<(), SavedStateError> {
+        *self = Console::from_bytes(bytes)?;
+        Ok(())
+    }
+
+    /// The start of an encoding, before `waiting` bytes of output and `port` bytes of a port.
+    fn encode_prefix(&self, waiting: usize, port: usize) -> [u8; HEADER_SIZE + PREFIX_SIZE] {
+        let [m0, m1, m2, m3, kind, version, low, high] = header(
+            CONSOLE_KIND,
+            (PREFIX_SIZE + waiting + port) as u16,
+        );
+        let [d0, d1, d2, d3, d4, d5, d6, d7] = self.dropped.to_le_bytes();
+        let [count_low, count_high] = (waiting as u16).to_le_bytes();
+        [
+            m0,
+            m1,
+            m2,
+            m3,
+            kind,
+            version,
+            low,
+            high,
+            self.flags(),
+            d0,
+            d1,
+            d2,
+            d3,
+            d4,
+            d5,
+            d6,
+            d7,
+            count_low,
+            count_high,
+        ]
+    }
+
+    /// The flags in one byte.
+    fn flags(&self) -> u8 {
+        bit_if(self.is_polled, POLLED_BIT)
+            | bit_if(self.is_ready, READY_BIT)
+            | bit_if(self.is_asleep, ASLEEP_BIT)
+            | bit_if(self.is_refused, REFUSED_BIT)
+    }
+}
+
+/// A bit, if a flag is set.
+fn bit_if(flag: u8, bit: u8) -> u8 {
+    if flag == 0 { 0 } else { bit }
+}
+
+/// The parts of a console's encoding: the flags, how many bytes of output were dropped, the output that waits, and the
+/// encoding of the port, which is not checked.
+///
+/// # Errors
+///
+/// As for [`Console::from_bytes`], but for the port's own.
+fn decode_console(bytes: &[u8]) -> Result<(u8, u64, &[u8], &[u8]), SavedStateError> {
+    match decode_header(CONSOLE_KIND, bytes)? {
+        [flags, d0, d1, d2, d3, d4, d5, d6, d7, low, high, rest @ ..] => {
+            let waiting = usize::from(u16::from_le_bytes([*low, *high]));
+            if waiting > OUTPUT_SIZE || waiting > rest.len() {
+                return Err(SavedStateError::WrongLength);
+            }
+            if *flags > ALL_BITS {
+                return Err(SavedStateError::InvalidFlags);
+            }
+            let dropped = u64::from_le_bytes([*d0, *d1, *d2, *d3, *d4, *d5, *d6, *d7]);
+            let (output, port) = rest.split_at(waiting);
+            Ok((*flags, dropped, output, port))
+        }
+        _ => Err(SavedStateError::WrongLength),
+    }
+}
+
+/// Writes `part` behind the first `count` bytes, and returns how many bytes come first then.
+fn append(bytes: &mut [u8], count: usize, part: &[u8]) -> usize {
+    let end = count + part.len();
+    bytes[count..end].copy_from_slice(part);
+    end
+}
