@@ -1,10 +1,50 @@
 // SPDX-License-Identifier: Apache-2.0 OR BSD-3-Clause
 /**
- * Emulated legacy devices for virtual machine monitors, over proved code. A call returns its effects: what is left for
- * you to do. There are no callbacks. A wrong argument throws a TypeError or a RangeError that names it, and changes
- * nothing. Each access of the port and of the clock may take the name of a register in place of its offset, and then
- * throws a RegisterError if it would reach another one.
+ * Emulated legacy devices for virtual machine monitors, over proved code. For a monitor, `Console` is a serial port
+ * that also does the monitor's part. `Serial` is the bare port. A call returns its effects: what is left for you to do.
+ * There are no callbacks. A wrong argument throws a TypeError or a RangeError that names it, and changes nothing. Each
+ * access of a port and of the clock may take the name of a register in place of its offset, and then throws a
+ * RegisterError if it would reach another one.
  */
+
+/** What a call of a console leaves to you. */
+export interface Work {
+  /**
+   * If your interrupt controller takes edges: raise the interrupt so many times, 0 to 2. If one of them is refused,
+   * leave out the others and call `refuse`.
+   */
+  interrupts: number;
+  /** If your interrupt controller takes levels: set the line to this level. */
+  isUp: boolean;
+  /** Wake your event loop: `wants` names something that it did not name before. */
+  wakes: boolean;
+}
+
+/** What your event loop waits for. */
+export interface Wants {
+  /** Input, at most so many bytes, 0 to 64. While it is 0, do not read from the source of input. */
+  input: number;
+  /** Output waits: the loop waits until its reader has room. */
+  output: boolean;
+  /** The loop comes back after some milliseconds at most, and then calls `turn`, whatever happened. */
+  turn: boolean;
+}
+
+/** What a guest's read of a console did. */
+export interface ConsoleRead {
+  /** What the guest reads. */
+  byte: number;
+  /** What is left to you. */
+  work: Work;
+}
+
+/** What a `receive` did. */
+export interface ConsoleReceived {
+  /** How many of the bytes were accepted, from the first on. */
+  accepted: number;
+  /** What is left to you. */
+  work: Work;
+}
 
 /** What a read of the serial port did. */
 export interface ReadEffects {
@@ -20,10 +60,7 @@ export interface ReadEffects {
 export interface WriteEffects {
   /** The written value goes out. */
   sends: boolean;
-  /**
-   * How often to ask for the interrupt, up to the first refusal: 0 to 2 times. A refused interrupt stays pending: ask
-   * again later, as often as `interruptsDue` says.
-   */
+  /** How often to ask for the interrupt, up to the first refusal: 0 to 2 times. */
   interrupts: number;
 }
 
@@ -77,30 +114,128 @@ export interface RtcState {
   armed: boolean;
 }
 
-/** A 16550 serial port with a receive FIFO of 64 bytes. */
+/** The state of a console. */
+export interface ConsoleState {
+  /** The port. */
+  port: SerialState;
+  /** The output that waits for its reader, oldest first: at most 4,096 bytes. */
+  output: Uint8Array;
+  /** How many bytes of output were dropped. */
+  dropped: bigint;
+  /** Whether the guest polls, so that input goes in before a driver is ready. */
+  isPolled: boolean;
+  /** Whether a driver has shown that it is ready. */
+  isReady: boolean;
+  /** Whether the guest sleeps in memory. */
+  isAsleep: boolean;
+  /** Whether an interrupt was refused, and none was asked for since. */
+  isRefused: boolean;
+}
+
+/**
+ * A serial port with the monitor's end of its line: the port, at most 4,096 bytes of the guest's output that wait for
+ * their reader, and what it has to know of the guest. It has no timer, and opens and calls nothing: you carry out the
+ * `Work` of each call, and your event loop waits for what `wants` says.
+ */
+export class Console {
+  /**
+   * A new port, and no output that waits. If `isPolled`, input goes in at once, as a guest needs it that polls the
+   * port, such as a boot loader. Otherwise, and by default, it waits until the guest's driver is ready: until a write
+   * of IER enables RDA and not THRE.
+   */
+  constructor(isPolled?: boolean);
+  /** The guest reads at an offset, 0 to 255. */
+  read(offset: number | string): ConsoleRead;
+  /**
+   * The guest writes a value, 0 to 255, at an offset, 0 to 255. A byte that it sends waits for its reader, or is
+   * dropped and counted if 4,096 bytes wait. To lose none, hold the guest while `isFull` is true after this call.
+   */
+  write(offset: number | string, value: number): Work;
+  /** What your event loop waits for now. */
+  wants(): Wants;
+  /**
+   * Input arrives for the guest. The console accepts the first bytes, as many as `wants().input` says. Keep the others,
+   * and offer them again when it wants more.
+   */
+  receive(bytes: Uint8Array): ConsoleReceived;
+  /**
+   * All output that waits, oldest first: at most 4,096 bytes. Pass it to the reader, and then how many bytes the reader
+   * took to `consume`.
+   */
+  output(): Uint8Array;
+  /** The reader has taken the first bytes of the output that waits: so many, or all if fewer wait. */
+  consume(count: number): void;
+  /**
+   * Whether 4,096 bytes of output wait, so that the next byte that the guest sends is dropped. To lose none, hold the
+   * guest now, after its access, until the reader has taken some.
+   */
+  isFull(): boolean;
+  /** How many bytes of output were dropped, up to 2 ** 64 - 1. */
+  dropped(): bigint;
+  /**
+   * Your event loop makes a turn: it came back, for whatever reason. Bytes that the guest has left interrupt it again,
+   * and so does what was refused.
+   */
+  turn(): Work;
+  /**
+   * An interrupt that a call asked for was refused, or may be lost. Turns and writes of IER ask again for what is
+   * pending and enabled, until one of them finds something.
+   */
+  refuse(): Work;
+  /**
+   * The guest's machine is reset: the port is a new one, the bytes that it held are lost, and input waits again unless
+   * the guest polls. Output that waits stays.
+   */
+  reset(): Work;
+  /**
+   * The guest's machine sleeps in memory. It is reset when it wakes, so input waits from now on, also if the guest
+   * polls: until a reset, or until a write of IER shows that a driver is ready. It leaves no work.
+   */
+  suspend(): void;
+  /** Says from now on whether the guest polls: a boot loader that does and a kernel that does not are one guest. */
+  setPolled(isPolled: boolean): Work;
+  /** The console as a saved state, which `fromBytes` and the other languages read on any machine. */
+  toBytes(): Uint8Array;
+  /**
+   * The console of a saved state. Afterwards, if its interrupt controller was not restored too, call `refuse`; then
+   * make a `turn` in any case. Throws a SavedStateError if the bytes are not the saved state of a console.
+   */
+  static fromBytes(bytes: Uint8Array): Console;
+  /** The port's registers and held bytes, the output that waits and all else, as a plain object. */
+  readonly state: ConsoleState;
+  /**
+   * A console of this state. Afterwards do what `fromBytes` says. `Serial.fromState(state.port).isCoherent()` tells
+   * whether its port is coherent.
+   */
+  static fromState(state: ConsoleState): Console;
+  /** Another console in the same state. */
+  clone(): Console;
+}
+
+/**
+ * A 16550 serial port with a receive FIFO of 64 bytes, alone: docs/PORT.md says what your monitor then has to do, all
+ * of which a `Console` does.
+ */
 export class Serial {
   /** A new port: divisor 12, 8 bits a character, OUT2 set, and nothing enabled, pending or held. */
   constructor();
-  /** The guest reads at an offset, 0 to 255. If it reads IIR, see `characterTimeout`. */
+  /** The guest reads at an offset, 0 to 255. */
   read(offset: number | string): ReadEffects;
   /** The guest writes a value, 0 to 255, at an offset, 0 to 255. */
   write(offset: number | string, value: number): WriteEffects;
-  /**
-   * Bytes arrive for the guest. Keep those that are not accepted, and offer them again when a read reports
-   * `inBufferEmpty`, or when the guest leaves loopback.
-   */
+  /** Bytes arrive for the guest. Keep those that are not accepted. */
   enqueue(bytes: Uint8Array): EnqueueEffects;
   /**
    * Raises RDA again if bytes are held, IER enables RDA and RDA is not pending. Otherwise nothing changes. Returns how
-   * often to ask for the interrupt: 0 or 1 times. Make the call after each guest read of offset 2 whose byte has bit
-   * 0x01, and in each turn of your event loop.
+   * often to ask for the interrupt: 0 or 1 times. A read of IIR or RBR ends RDA even if bytes are left, which then wait
+   * without an interrupt.
    */
   characterTimeout(): number;
   /** How many bytes there is room for: 64 less those that are held. */
   fifoCapacity(): number;
   /**
    * How often to ask for the interrupt now: once for each condition that is pending and enabled, 0 to 2 times. What IER
-   * disables does not count: ask again after each write at offset 1.
+   * disables does not count.
    */
   interruptsDue(): number;
   /**
@@ -116,17 +251,11 @@ export class Serial {
   isCoherent(): boolean;
   /** The port as a saved state, which `fromBytes` and the other languages read on any machine. */
   toBytes(): Uint8Array;
-  /**
-   * The port of a saved state. Afterwards ask for the interrupt as often as `interruptsDue` says, and again after each
-   * write at offset 1. Throws a SavedStateError if the bytes are not the saved state of a serial port.
-   */
+  /** The port of a saved state. Throws a SavedStateError if the bytes are not the saved state of a serial port. */
   static fromBytes(bytes: Uint8Array): Serial;
   /** The registers and the held bytes, as a plain object. */
   readonly state: SerialState;
-  /**
-   * A port of this state. Afterwards ask for the interrupt as often as `interruptsDue` says, and again after each write
-   * at offset 1.
-   */
+  /** A port of this state. */
   static fromState(state: SerialState): Serial;
   /** Another port in the same state. */
   clone(): Serial;
@@ -186,5 +315,6 @@ export class SavedStateError extends Error {
     | "unknown version"
     | "wrong length"
     | "too many bytes"
-    | "invalid armed";
+    | "invalid armed"
+    | "invalid flags";
 }

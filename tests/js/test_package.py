@@ -7,25 +7,34 @@ import shutil
 import tarfile
 
 import pytest
+from console import random_runs
 from documents import Document
 from harness import ROOT, at_least, check
 from recorded import every_answer, recording_of, recordings
 from script_tests import board_scripts
+from seeds import seeds
 
 PACKAGE = ROOT / "bindings" / "js"
 LICENSES = "LICENSE", "LICENSES"
-REPLAY, SCRIPTS = (PACKAGE / "tests" / f"{name}.mjs" for name in ("replay_calls", "run_scripts"))
-RANDOM_SCRIPTS = 2_000
+REPLAY, SCRIPTS, CONSOLES = (PACKAGE / "tests" / f"{name}.mjs"
+                             for name in ("replay_calls", "run_scripts", "replay_consoles"))
+RANDOM_SCRIPTS, RANDOM_CONSOLES = 2_000, 300
 RECORDED = {"every answer": recording_of(every_answer()), **recordings()}
 # The first program of a document, as a module that `require` serves has it.
 IMPORT = re.compile(r'^import (\{.*\}) from ("superio");', re.M)
 # What TypeScript takes for each kind of module. The last line has a wrong type, so its error shows that types are
 # found.
-TYPED = """import { Rtc, SavedStateError, Serial } from "superio";
+TYPED = """import { Console, type ConsoleState, Rtc, SavedStateError, Serial, type Wants, type Work } from "superio";
 const port: Serial = new Serial();
 const due: number | null = new Rtc().alarmDue(5n);
 export const reason = (error: SavedStateError): string => error.reason;
 export const held: Uint8Array = port.state.inBuffer;
+const made: Console = new Console(true);
+export const work: Work = made.read("IER").work;
+export const wants: Wants = made.wants();
+export const state: ConsoleState = made.clone().state;
+export const dropped: bigint = made.dropped();
+made.consume(made.output().length);
 // @ts-expect-error
 export const wrong: string = port.read("IER").byte ?? due;
 """
@@ -51,7 +60,16 @@ def test_scripts():
     check(["node", SCRIPTS], f"{len(scripts)} scripts did the same, 0 did not\n", input=json.dumps(scripts))
 
 
-OWN_TESTS = at_least(2, sorted((PACKAGE / "tests").glob("*.test.mjs")))
+@pytest.mark.needs("node")
+def test_consoles():
+    """The calls of consoles that were worked out by hand, and random ones, do what they should."""
+    by_hand = (ROOT / "tests" / "c" / "console.txt").read_text("ascii")
+    rows = [row for row in (by_hand + random_runs(seeds("consoles", RANDOM_CONSOLES))).splitlines()
+            if " = " in row and row[0] != "#"]
+    check(["node", CONSOLES], f"{len(at_least(10_000, rows))} calls did the same, 0 did not\n", input="\n".join(rows))
+
+
+OWN_TESTS = at_least(4, sorted((PACKAGE / "tests").glob("*.test.mjs")))
 
 
 @pytest.mark.needs("node")

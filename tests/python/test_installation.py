@@ -36,7 +36,8 @@ MACHINES = sorted(path.parent.name.partition("-")[0] for path in ROOT.glob(f"pre
 TAGS = "manylinux_2_17_{0}.manylinux2014_{0}.musllinux_1_1_{0}"
 
 
-SOURCES = at_least(16, [*(PACKAGE / "superio").glob("*.py"), PACKAGE / "setup.py", ROOT / "superio"])
+SOURCES = at_least(17, [*(PACKAGE / "superio").glob("*.py"), PACKAGE / "setup.py", ROOT / "superio",
+                        *(ROOT / "examples" / "python").glob("*.py")])
 
 
 @pytest.mark.parametrize("path", SOURCES, ids=lambda it: it.name)
@@ -208,7 +209,7 @@ def parameter_of(declared):
     return type_of(declared._replace(kind=f"{declared.kind} *", length="") if declared.length else declared)
 
 
-@pytest.mark.parametrize("name", at_least(7, DECLARED.structs))
+@pytest.mark.parametrize("name", at_least(13, DECLARED.structs))
 def test_struct(name):
     """A struct has the fields and the size of the header."""
     fields = [(field.name, type_of(field)) for field in DECLARED.structs[name]]
@@ -223,7 +224,7 @@ def test_all_are_there():
     assert library.STRUCTS.keys() == DECLARED.structs.keys() == DECLARED.sizes.keys()
 
 
-@pytest.mark.parametrize("name", at_least(21, DECLARED.functions))
+@pytest.mark.parametrize("name", at_least(37, DECLARED.functions))
 def test_function(name):
     """A function has the prototype of the header. Otherwise ctypes passes and returns an `int`, whose 32 bits many
     numbers fit by chance."""
@@ -236,6 +237,7 @@ def test_function(name):
 def test_constants_are_those_of_the_header():
     named = {"VERSION": superio.__version__, "ABI": library.ABI, "SERIAL_SAVED_MAX": library.SERIAL_SAVED_MAX,
              "RTC_SAVED_SIZE": library.RTC_SAVED_SIZE, "SERIAL_FIFO_SIZE": registers.FIFO_SIZE,
+             "CONSOLE_SAVED_MAX": library.CONSOLE_SAVED_MAX, "CONSOLE_OUTPUT_SIZE": registers.OUTPUT_SIZE,
              "LOAD_OK": 0, **{f"LOAD_{reason.upper().replace(' ', '_')}": number
                               for number, reason in enumerate(SAVED_STATE_ERRORS, 1)}}
     assert {name: DECLARED.constants[f"SUPERIO_{name}"] for name in named} == named

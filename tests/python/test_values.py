@@ -8,12 +8,14 @@ from dataclasses import replace
 
 import pytest
 from hypothesis import given, strategies as st
-from superio import Rtc, RtcState, SavedStateError, Serial, SerialState
+from superio import Console, ConsoleState, Rtc, RtcState, SavedStateError, Serial, SerialState
 
 BYTE, WORD = st.integers(0, 255), st.integers(0, 2**32 - 1)
 SERIAL = st.builds(lambda held, *registers: SerialState(*registers, held), st.binary(max_size=64), *[BYTE] * 9)
 CLOCK = st.builds(RtcState, lr=WORD, mr=WORD, imsc=WORD, ris=WORD, offset=st.integers(-2**63, 2**63 - 1),
                   armed=st.booleans())
+CONSOLE = st.builds(ConsoleState, SERIAL, st.binary(max_size=4096), st.integers(0, 2**64 - 1),
+                    *[st.booleans()] * 4)
 NO_BYTE = st.integers(max_value=-1) | st.integers(min_value=256)
 OTHER = st.none() | st.floats() | st.text() | st.binary() | st.lists(st.integers(), max_size=2)
 
@@ -39,7 +41,12 @@ def test_clock_there_and_back(state):
     assert RtcState.from_vm_superio(json.loads(json.dumps(five.to_vm_superio()))) == five
 
 
-@pytest.mark.parametrize("device", [Serial, Rtc])
+@given(state=CONSOLE)
+def test_console_there_and_back(state):
+    assert [it.state for it in ways(Console.from_state(state))] == [state] * 5
+
+
+@pytest.mark.parametrize("device", [Console, Serial, Rtc])
 @given(data=st.binary(max_size=100))
 def test_any_bytes(device, data):
     """They are a saved state that is saved the same again, or are refused."""
@@ -49,19 +56,26 @@ def test_any_bytes(device, data):
         assert error.reason
 
 
+PORTS = pytest.mark.parametrize("make", [Serial.from_state, lambda state: Console.from_state(ConsoleState(state))])
+
+
+@PORTS
 @given(state=SERIAL, offset=BYTE | NO_BYTE, value=BYTE | NO_BYTE)
-def test_numbers_out_of_range(state, offset, value):
-    port = Serial.from_state(state)
+def test_numbers_out_of_range(make, state, offset, value):
+    port = make(state)
+    before = port.state
     for number, call in (offset, lambda: port.read(offset)), (value, lambda: port.write(0, value)):
         if not 0 <= number < 256:
             with pytest.raises(ValueError):
                 call()
-    assert port.state == state
+    assert port.state == before
 
 
+@PORTS
 @given(state=SERIAL, value=OTHER)
-def test_other_types(state, value):
-    port = Serial.from_state(state)
+def test_other_types(make, state, value):
+    port = make(state)
+    before = port.state
     with pytest.raises(TypeError):
         port.write(0, value)
-    assert port.state == state
+    assert port.state == before

@@ -11,7 +11,7 @@ import { ABI, SAVED_STATE_ERRORS } from "../module.mjs";
 import * as registers from "../registers.mjs";
 import * as superio from "../superio.mjs";
 
-const { I8042, Rtc, SavedStateError, Serial } = superio;
+const { Console, I8042, Rtc, SavedStateError, Serial } = superio;
 
 /** The same bytes in the middle of a buffer, so that what is passed is seldom a whole one. */
 function within(array) {
@@ -28,10 +28,11 @@ const PORT = {
   lineStatus: 0x61, modemControl: 0x08, modemStatus: 0xb5, scratch: 0x77, inBuffer: Uint8Array.of(0xa1, 0xa2, 0xa3),
 };
 const REGISTERS = Object.keys(PORT).filter((name) => name !== "inBuffer");
-// Saved states whose bytes differ, with the headers of those of docs/SAVED-STATES.md, and the fields in the order of its
-// tables.
+// Saved states whose bytes differ, with the headers of those of docs/SAVED-STATES.md, and the fields in the order of
+// its tables.
 const DOCUMENT = readFileSync(new URL("../../../docs/SAVED-STATES.md", import.meta.url), "utf8");
-const [PORT_TEXT, CLOCK_TEXT] = DOCUMENT.split("## A clock");
+const [PORT_TEXT, CLOCK_TEXT, CONSOLE_TEXT] = ["A serial port", "A clock", "A console"].map((heading) =>
+  DOCUMENT.split(`\n## ${heading}\n`)[1].split("\n## ")[0]);
 const [, PORT_HEADER] = PORT_TEXT.match(/^(\w{12})0b00\w+6162$/m);
 const PORT_FIELDS = Array.from(PORT_TEXT.matchAll(/^\| \d+ \| 1 \| `(\w+)`/gm), ([, name]) =>
   name.replace(/_(.)/g, (_, letter) => letter.toUpperCase()));
@@ -44,8 +45,27 @@ const CLOCK = Object.fromEntries(Array.from(CLOCK_TEXT.matchAll(/^\| (\d+) \| (\
   const value = BigInt(`0x${CLOCK_SAVED.slice(2 * place, 2 * (place + size)).match(/../g).reverse().join("")}`);
   return [row[2], { 1: value === 1n, 4: Number(value), 8: BigInt.asIntN(64, value) }[size]];
 }));
+// That of the document, whose driver is ready, which has sent `ok` and holds `x`; and one with two of its flags, and
+// with the two others.
+const [, CONSOLE_SHOWN] = CONSOLE_TEXT.match(/^(\w{30,})$/m);
+const CONSOLE = { port: PORT, output: Uint8Array.of(0xb1, 0xb2), dropped: 0x0102030405060708n, isPolled: true,
+  isReady: false, isAsleep: true, isRefused: false };
+const CONSOLE_HEADER = "53494f530301";
+const savedConsole = (flags) => `${CONSOLE_HEADER}2100${flags}08070605040302010200b1b2${PORT_SAVED}`;
 
 test("each field of a state has its place", () => {
+  for (const [flags, isPolled] of [["05", true], ["0a", false]]) {
+    const state = { ...CONSOLE, isPolled, isReady: !isPolled, isAsleep: isPolled, isRefused: !isPolled };
+    const made = Console.fromState(state);
+    assert.deepEqual(made.state, state);
+    assert.deepEqual(made.toBytes(), fromHex(savedConsole(flags)));
+    assert.deepEqual(Console.fromBytes(fromHex(savedConsole(flags))).state, state);
+  }
+  const made = new Console();
+  made.write("IER", 0x01);
+  for (const byte of bytes("ok")) made.write("THR", byte);
+  made.receive(bytes("x"));
+  assert.deepEqual(made.toBytes(), fromHex(CONSOLE_SHOWN));
   const port = Serial.fromState(PORT);
   assert.deepEqual(port.state, PORT);
   assert.deepEqual(port.toBytes(), fromHex(PORT_SAVED));
@@ -64,6 +84,10 @@ test("new devices", () => {
     lineStatus: 0x60, modemControl: 0x08, modemStatus: 0xb0, scratch: 0, inBuffer: new Uint8Array(),
   });
   assert.deepEqual(Object.values(new Rtc().state).filter(Number), []);
+  const fresh = { port: new Serial().state, output: new Uint8Array(), dropped: 0n, isPolled: false, isReady: false,
+    isAsleep: false, isRefused: false };
+  for (const isPolled of [false, true]) assert.deepEqual(new Console(isPolled).state, { ...fresh, isPolled });
+  assert.deepEqual(new Console().state, fresh);
 });
 
 test("one command resets the machine", () => {
@@ -82,19 +106,22 @@ test("a clock's alarm", () => {
 });
 
 test("devices share nothing", () => {
-  for (const [device, name] of [[Serial, "SCR"], [Rtc, "LR"]]) {
+  for (const [device, name] of [[Console, "SCR"], [Serial, "SCR"], [Rtc, "LR"]]) {
     const [one, other] = [new device(), new device()];
     one.write(name, 1, 0);
     const copy = one.clone();
     copy.write(name, 2, 0);
-    assert.deepEqual([one, other, copy].map((it) => it.state.scratch ?? it.state.lr), [1, 0, 2]);
+    const valueOf = ({ state }) => state.port?.scratch ?? state.scratch ?? state.lr;
+    assert.deepEqual([one, other, copy].map(valueOf), [1, 0, 2]);
   }
 });
 
 test("what a call gives is the caller's own, and what it takes stays as it was", () => {
-  const [port, clock] = [Serial.fromState(PORT), Rtc.fromState(CLOCK)];
+  const [port, clock, made] = [Serial.fromState(PORT), Rtc.fromState(CLOCK), Console.fromState(CONSOLE)];
   // Each gives the same again.
-  for (const call of [() => port.read(5), () => port.write(7, 0x77), () => port.enqueue(bytes("")),
+  for (const call of [() => made.read(5), () => made.write(7, 0x77), () => made.receive(bytes("")), () => made.wants(),
+    () => made.output(), () => made.turn(), () => made.toBytes(), () => made.state, () => port.read(5),
+    () => port.write(7, 0x77), () => port.enqueue(bytes("")),
     () => port.toBytes(), () => port.state, () => clock.read(4, 9), () => clock.write(16, 1, 9), () => clock.toBytes(),
     () => clock.state, () => new I8042().write(4, 0xfe)]) {
     const [first, second] = [call(), call()];
@@ -105,11 +132,13 @@ test("what a call gives is the caller's own, and what it takes stays as it was",
     }
     assert.deepEqual([first, call()], [before, before], `${call}`);
   }
-  for (const [device, state, saved] of [[Serial, PORT, PORT_SAVED], [Rtc, CLOCK, CLOCK_SAVED]]) {
+  for (const [device, state, saved] of [[Console, CONSOLE, savedConsole("05")], [Serial, PORT, PORT_SAVED],
+    [Rtc, CLOCK, CLOCK_SAVED]]) {
     const [encoding, given] = [fromHex(saved), structuredClone(state)];
     device.fromBytes(encoding);
     device.fromState(given);
     new Serial().enqueue(encoding);
+    new Console(true).receive(encoding);
     assert.deepEqual([encoding, given], [fromHex(saved), state]);
   }
 });
@@ -125,6 +154,22 @@ test("saved bytes that are refused say why", () => {
     assert.throws(() => Serial.fromBytes(fromHex(encoding)), { name: "SavedStateError", reason, message });
   }
   assert.throws(() => Rtc.fromBytes(fromHex(CLOCK_SAVED.replace(/01$/, "02"))), { reason: "invalid armed" });
+  const whole = savedConsole("05");
+  const withLength = (contents) => `${CONSOLE_HEADER}${Buffer.of(contents.length / 2, 0).toString("hex")}${contents}`;
+  for (const [encoding, reason] of [
+    [whole.slice(0, 14), "too short"], [`54${whole.slice(2)}`, "not a saved state"], [PORT_SAVED, "other device"],
+    [`53494f530302${whole.slice(12)}`, "unknown version"], [`${whole}00`, "wrong length"],
+    [whole.slice(0, -2), "wrong length"], [withLength("00".repeat(10)), "wrong length"],
+    [withLength(`${"00".repeat(9)}0300b1b2`), "wrong length"],               // fewer bytes than wait
+    [`${CONSOLE_HEADER}0c10${"00".repeat(9)}0110${"00".repeat(4097)}`, "wrong length"], // more than may wait
+    [savedConsole("10"), "invalid flags"], [savedConsole("85"), "invalid flags"],
+    [withLength("00".repeat(11)), "too short"],                               // and from here on the port in it
+    [withLength(`${"00".repeat(11)}${PORT_SAVED}00`), "wrong length"],
+    [withLength(`${"00".repeat(11)}${CLOCK_SAVED}`), "other device"],
+    [withLength(`${"00".repeat(11)}${PORT_HEADER}4a00${"00".repeat(74)}`), "too many bytes"]]) {
+    const message = SAVED_STATE_ERRORS[reason];
+    assert.throws(() => Console.fromBytes(fromHex(encoding)), { name: "SavedStateError", reason, message });
+  }
   assert.throws(() => Rtc.fromBytes(fromHex(PORT_SAVED)), SavedStateError);
 });
 
@@ -140,7 +185,8 @@ test("any Uint8Array is taken as bytes, and nothing else is", () => {
   const encoding = fromHex(PORT_SAVED);
   const others = ["53", encoding.buffer, new DataView(encoding.buffer), new Int8Array(8), new Uint8ClampedArray(8)];
   for (const call of [(it) => new Serial().enqueue(it), (it) => Serial.fromState({ ...PORT, inBuffer: it }),
-    (it) => Serial.fromBytes(it), (it) => Rtc.fromBytes(it)]) {
+    (it) => Serial.fromBytes(it), (it) => Rtc.fromBytes(it), (it) => new Console().receive(it),
+    (it) => Console.fromBytes(it), (it) => Console.fromState({ ...CONSOLE, output: it })]) {
     for (const other of [...OF_OTHER_KINDS, ...others]) refused(() => call(other), "TypeError", "a Uint8Array");
   }
   refused(() => new Serial().enqueue([65]), "TypeError", "bytes is of class Array, and a Uint8Array is wanted");
@@ -158,6 +204,10 @@ test("any Uint8Array is taken as bytes, and nothing else is", () => {
 // Each argument that is a number: its name, the range, and a call with it.
 const [OF_BYTE, OF_WORD, OF_MOMENT] = [[0, 0xff], [0, 2 ** 32 - 1], [0n, 2n ** 64n - 1n]];
 const NUMBERS = [
+  ["offset", OF_BYTE, (it) => new Console().read(it)], ["offset", OF_BYTE, (it) => new Console().write(it, 0)],
+  ["value", OF_BYTE, (it) => new Console().write(7, it)],
+  ["count", [0, Number.MAX_SAFE_INTEGER], (it) => new Console().consume(it)],
+  ["dropped", OF_MOMENT, (it) => Console.fromState({ ...CONSOLE, dropped: it })],
   ["offset", OF_BYTE, (it) => new Serial().read(it)], ["offset", OF_BYTE, (it) => new Serial().write(it, 0)],
   ["value", OF_BYTE, (it) => new Serial().write(7, it)],
   ["offset", [0, 0xffff], (it) => new Rtc().read(it, 0)], ["offset", [0, 0xffff], (it) => new Rtc().write(it, 0, 0)],
@@ -191,10 +241,22 @@ test("each number is taken at its edges, and refused beyond them by its name, it
 });
 
 test("a refused argument changes nothing", () => {
-  const [port, clock] = [Serial.fromState(PORT), Rtc.fromState(CLOCK)];
+  const [port, clock, made] = [Serial.fromState(PORT), Rtc.fromState(CLOCK), Console.fromState(CONSOLE)];
   for (const call of [() => port.write(7, 256), () => port.read(-1), () => port.enqueue([65]), () => clock.read(0, -1),
-    () => clock.write(8, 2 ** 32, 0), () => clock.write(8, 0)]) assert.throws(call);
-  assert.deepEqual([port.state, clock.state], [PORT, CLOCK]);
+    () => clock.write(8, 2 ** 32, 0), () => clock.write(8, 0), () => made.read(256), () => made.write(0, -1),
+    () => made.write("THR"), () => made.write("DLL", 1), () => made.receive("a"), () => made.consume(-1),
+    () => made.consume(1n), () => made.consume(), () => made.setPolled()]) assert.throws(call);
+  assert.deepEqual([port.state, clock.state, made.state], [PORT, CLOCK, CONSOLE]);
+});
+
+test("a flag is true or false", () => {
+  for (const other of [0, 1, "true", new Boolean(true), ...OF_OTHER_KINDS.filter((it) => it !== true)]) {
+    const names = ["isPolled", "isReady", "isAsleep", "isRefused"];
+    for (const call of [...names.map((name) => () => Console.fromState({ ...CONSOLE, [name]: other })),
+      () => new Console().setPolled(other), ...(other === undefined ? [] : [() => new Console(other)])]) {
+      refused(call, "TypeError", "true or false is wanted");
+    }
+  }
 });
 
 test("a state is refused if it is none, or if one of its fields is", () => {
@@ -202,7 +264,10 @@ test("a state is refused if it is none, or if one of its fields is", () => {
   for (const other of [0, 1, "true", new Boolean(true), ...OF_OTHER_KINDS.filter((it) => it !== true)]) {
     refused(() => Rtc.fromState({ ...CLOCK, armed: other }), "TypeError", "true or false is wanted");
   }
-  for (const [device, state] of [[Serial, PORT], [Rtc, CLOCK]]) {
+  refused(() => Console.fromState({ ...CONSOLE, output: new Uint8Array(4097) }), "RangeError", "output.length is 4097");
+  refused(() => Console.fromState({ ...CONSOLE, port: 5 }), "TypeError", "port is 5, and an object is wanted");
+  refused(() => Console.fromState({ ...CONSOLE, port: { ...PORT, scratch: -1 } }), "RangeError", "scratch is -1");
+  for (const [device, state] of [[Console, CONSOLE], [Serial, PORT], [Rtc, CLOCK]]) {
     for (const other of OF_OTHER_KINDS.filter((it) => typeof it !== "object" || it === null)) {
       refused(() => device.fromState(other), "TypeError", `state is ${String(other)}, and an object is wanted`);
     }
@@ -220,6 +285,11 @@ test("a name in any case is the register that is there", () => {
       const made = (port, place) => (isWrite ? port.write(place, 0x9a) : port.read(place));
       const isReached = access.includes(isWrite ? "w" : "r");
       assert.equal(registers.serialRegister(offset, lineControl, isWrite)?.name === name, isReached);
+      const inConsole = { ...CONSOLE, port: { ...PORT, lineControl } };
+      const [namedOne, numberedOne] = [1, 2].map(() => Console.fromState(inConsole));
+      if (isReached) assert.deepEqual(made(namedOne, name.toLowerCase()), made(numberedOne, offset));
+      else refused(() => made(namedOne, name), "RegisterError", name);
+      assert.deepEqual(namedOne.state, numberedOne.state);
       if (!isReached) refused(() => made(named, name), "RegisterError", name);
       else assert.deepEqual([made(named, name.toLowerCase()), named.state], [made(numbered, offset), numbered.state]);
     }
@@ -272,8 +342,8 @@ function membersOf(made) {
 }
 
 /** What is declared of a plain object: each field with its type, and the same of an object. */
-const fieldsOf = (name) =>
-  new RegExp(`interface ${name} \\{(.*?)\\n\\}`, "s").exec(declarations)[1].match(/\w+: \w+(?=;)/g);
+const fieldsOf = (name) => new RegExp(`interface ${name} \\{(.*?)\\n\\}`, "s").exec(declarations)[1]
+  .match(/\w+: \w+(?=;)/g).map((field) => field.replace(/: (Work|SerialState)$/, ": object"));
 const typed = ([field, value]) => `${field}: ${value instanceof Uint8Array ? "Uint8Array" : typeof value}`;
 
 const CLASS = /export class (\w+)(?: extends (\w+))? \{(?:\}|(.*?)\n\})/gs;
@@ -290,9 +360,10 @@ for (const [, name, base = "", body = ""] of classes) {
 }
 
 test("superio.d.ts declares the fields of what calls give", () => {
-  const [port, clock] = [new Serial(), new Rtc()];
+  const [port, clock, made] = [new Serial(), new Rtc(), new Console()];
   const given = { ReadEffects: port.read(0), WriteEffects: port.write(7, 0), SerialState: port.state,
-    EnqueueEffects: port.enqueue(port.toBytes()), RtcState: clock.state };
+    EnqueueEffects: port.enqueue(port.toBytes()), RtcState: clock.state, ConsoleState: made.state, Work: made.turn(),
+    Wants: made.wants(), ConsoleRead: made.read(0), ConsoleReceived: made.receive(port.toBytes()) };
   for (const [name, value] of Object.entries(given)) {
     assert.deepEqual(Object.entries(value).map(typed).sort(), fieldsOf(name).sort());
   }
@@ -320,7 +391,7 @@ test("require gives what import does", () => {
 test("a module of another binary interface is refused", async () => {
   const here = (_, name) => `"${new URL(`..${name}`, import.meta.url)}"`;
   const source = read("superio.mjs").replace(/"\.(\/\w+\.mjs)"/g, here);
-  const changed = Buffer.from(`const ABI = ${ABI + 1};${source.replace("{ ABI, ", "{ ")}`).toString("base64");
+  const changed = Buffer.from(`const ABI = ${ABI + 1};${source.replace("ABI, ", "")}`).toString("base64");
   const message = `the module has the binary interface ${ABI}, and this package is for ${ABI + 1}`;
   await assert.rejects(import(`data:text/javascript;base64,${changed}`), { message });
 });

@@ -9,7 +9,7 @@ import process from "node:process";
 import test from "node:test";
 import * as superio from "../superio.mjs";
 
-const { I8042, Rtc, SavedStateError, Serial } = superio;
+const { Console, I8042, Rtc, SavedStateError, Serial } = superio;
 const ROUNDS = 10_000;
 
 /** Numbers below a bound, by the generator mulberry32. TEST_SEED gives others, as each commit does. */
@@ -39,8 +39,24 @@ function anyClock(below) {
   return Object.fromEntries(Object.entries(new Rtc().state).map(([name, value]) => [name, any[typeof value]()]));
 }
 
+const any64 = (below) => BigInt(anyWord(below)) << 32n | BigInt(anyWord(below));
+const anyFlag = (below) => below(2) === 1;
+
+/** A console, with no output, little or nearly as much as may wait. */
+function anyConsole(below) {
+  const count = [0, below(9), 4096 - below(9)][below(3)];
+  return { port: anyPort(below), output: Uint8Array.from({ length: count }, () => below(256)),
+    dropped: below(2) ? any64(below) : 2n ** 64n - 1n, isPolled: anyFlag(below), isReady: anyFlag(below),
+    isAsleep: anyFlag(below), isRefused: anyFlag(below) };
+}
+
 // The members of each class, with arguments for each. Those that a port or a clock stays the same in come last.
 const CALLS = new Map([
+  [Console, { state: anyConsole, changing: {
+    read: (below) => [below(9)], write: (below) => [below(9), below(256)], receive: (below) => [anyBytes(below, 70)],
+    consume: (below) => [below(2) ? below(9) : below(2 ** 53)], setPolled: (below) => [anyFlag(below)],
+    ...Object.fromEntries(["turn", "refuse", "reset", "suspend"].map((name) => [name, () => []])),
+  }, constant: ["clone", "dropped", "isFull", "output", "state", "toBytes", "wants"] }],
   [Serial, { state: anyPort, changing: {
     read: (below) => [below(9)], write: (below) => [below(9), below(256)], enqueue: (below) => [anyBytes(below, 70)],
     characterTimeout: () => [],
@@ -80,7 +96,8 @@ test("each member of each class is in the table", () => {
 
 test("what a call gives and what it is passed is the same after all later calls", () => {
   const below = randomNumbers(1);
-  const devices = [new Serial(), new Rtc(), new I8042(), Serial.fromState(anyPort(below))];
+  const devices = [new Console(), new Serial(), new Rtc(), new I8042(), Console.fromState(anyConsole(below)),
+    Serial.fromState(anyPort(below))];
   const kept = [];
   for (let round = 0; round < ROUNDS; round += 1) {
     const device = devices[below(devices.length)];
@@ -130,7 +147,7 @@ test("a device keeps nothing that is the caller's", () => {
 });
 
 test("devices that take turns do what each does alone", () => {
-  const kinds = [Serial, Rtc, Serial, Rtc, I8042];
+  const kinds = [Console, Serial, Rtc, Console, Serial, Rtc, I8042];
   const below = randomNumbers(3);
   const calls = Array.from({ length: ROUNDS }, () => {
     const which = below(kinds.length);
@@ -248,7 +265,9 @@ function loadedOr(bytes, load) {
 test("saved bytes that are cut, longer or changed in a bit are refused, or are another state", () => {
   const below = randomNumbers(6);
   for (const [kind, { state }] of STATES) {
-    const saved = kind.fromState(state(below)).toBytes();
+    const some = state(below);
+    if (some.output) some.output = Uint8Array.of(1, 2, 3);
+    const saved = kind.fromState(some).toBytes();
     const flipped = Array.from(saved, (_, place) => Array.from({ length: 8 }, (_, bit) =>
       saved.map((one, at) => at === place ? one ^ (1 << bit) : one))).flat();
     const longer = [1, 9, 0x10000].map((count) => Uint8Array.from([...saved, ...new Uint8Array(count)]));
@@ -271,12 +290,13 @@ test("the longest bytes whose header has their length hold too many, and longer 
   }
 });
 
-test("an enqueue takes the first 64 bytes of any number", () => {
+test("an enqueue or a receive takes the first 64 bytes of any number", () => {
   for (const count of [63, 64, 65, 2 ** 16, 2 ** 24 + 1, 2 ** 32]) {
-    const port = new Serial();
+    const [port, polled] = [new Serial(), new Console(true)];
     const input = new Uint8Array(count); // pages that nobody reads take no memory
     input.set(Uint8Array.from({ length: 63 }, (_, place) => place));
     const fits = Math.min(count, 64);
     assert.deepEqual([port.enqueue(input).accepted, port.state.inBuffer], [fits, input.slice(0, fits)]);
+    assert.deepEqual([polled.receive(input).accepted, polled.state.port.inBuffer], [fits, input.slice(0, fits)]);
   }
 });

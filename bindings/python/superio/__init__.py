@@ -1,7 +1,8 @@
 # SPDX-License-Identifier: Apache-2.0 OR BSD-3-Clause
 """Emulated legacy devices for virtual machine monitors, over a proved library.
 
-Among them are a 16550 serial port (`Serial`) and a PL031 real-time clock (`Rtc`). Each function of the library in
+Among them are a 16550 serial port, with the monitor's part of its work (`Console`) or without (`Serial`), and a PL031
+real-time clock (`Rtc`). Each function of the library in
 `prebuilt` is proved to do what its specification says. This package around it is tested.
 
 `python3 -m superio` is a shell for a board with the devices, and `Board` is that board.
@@ -10,11 +11,11 @@ from . import devices
 from .board import Board, Call
 from .devices import *  # noqa: F403, all that `__all__` of the module names
 from .library import LibraryError
-from .registers import AlarmIsSetError, RegisterError, RtcState, SerialState
+from .registers import AlarmIsSetError, ConsoleState, RegisterError, RtcState, SerialState
 from .saved import SavedStateError
 from .script import Command, ScriptError, parse
 
-__all__ = [*devices.__all__, "AlarmIsSetError", "Board", "Call", "Command", "LibraryError", "RegisterError",
-           "RtcState", "SavedStateError", "ScriptError", "SerialState", "parse", "__version__"]
+__all__ = [*devices.__all__, "AlarmIsSetError", "Board", "Call", "Command", "ConsoleState", "LibraryError",
+           "RegisterError", "RtcState", "SavedStateError", "ScriptError", "SerialState", "parse", "__version__"]
 
 __version__ = "0.2.0"

@@ -6,7 +6,7 @@ import os
 import re
 from functools import lru_cache
 from pathlib import Path
-from typing import Any, List
+from typing import Any, Dict, List
 
 _PACKAGE = Path(__file__).resolve().parent
 _TABLE = (_PACKAGE / "superio.abi").read_text(encoding="ascii")
@@ -26,23 +26,30 @@ VARIABLE = "SUPERIO_LIBRARY"
 
 _CONSTANTS = {name: int(value) for name, value in _found(r"constant SUPERIO_(\w+) (\d+)")}
 SERIAL_SAVED_MAX, RTC_SAVED_SIZE = _CONSTANTS["SERIAL_SAVED_MAX"], _CONSTANTS["RTC_SAVED_SIZE"]
-"""The length of the longest saved state of a serial port, and that of a clock's saved state."""
+CONSOLE_SAVED_MAX = _CONSTANTS["CONSOLE_SAVED_MAX"]
+"""The lengths of the longest saved state of a serial port, of a clock's saved state, and of a console's longest."""
 
 _TYPES = {"void": None, "bool": ctypes.c_bool, "size_t": ctypes.c_size_t, "const uint8_t *": ctypes.c_char_p,
           **{f"{name}_t": getattr(ctypes, f"c_{name}") for name in ("uint8", "uint16", "uint32", "uint64", "int64")}}
 
 
-def _struct(name: str) -> Any:
-    fields = _found(rf"field {name}\.(\w+) (\w+) at (\d+) size (\d+)")
-    return type(name, (ctypes.Structure,), {"_fields_": [
-        (field, _TYPES[kind] * int(size) if kind == "uint8_t" and size != "1" else _TYPES[kind])
-        for field, kind, _, size in sorted(fields, key=lambda it: int(it[2]))]})
-
-
-STRUCTS = {name: _struct(name) for name in _found(r"struct (\w+) size \d+")}
+STRUCTS: Dict[str, Any] = {}
 """The structs of superio.h by their names there."""
 
-SerialStruct, RtcStruct = STRUCTS["superio_serial"], STRUCTS["superio_rtc"]
+
+def _struct(name: str) -> Any:
+    """The struct of this name. Its fields may be other structs."""
+    if name not in STRUCTS:
+        fields = _found(rf"field {name}\.(\w+) (\w+) at (\d+) size (\d+)")
+        kinds = {kind: _TYPES.get(kind) or _struct(kind) for _, kind, _, _ in fields}
+        STRUCTS[name] = type(name, (ctypes.Structure,), {"_fields_": [
+            (field, kinds[kind] * int(size) if kind == "uint8_t" and size != "1" else kinds[kind])
+            for field, kind, _, size in sorted(fields, key=lambda it: int(it[2]))]})
+    return STRUCTS[name]
+
+
+SerialStruct, RtcStruct, ConsoleStruct, *_ = map(_struct, (
+    "superio_serial", "superio_rtc", "superio_console", *_found(r"struct (\w+) size \d+")))
 
 
 def _type(kind: str) -> Any:

@@ -1,5 +1,5 @@
 # SPDX-License-Identifier: Apache-2.0 OR BSD-3-Clause
-"""The registers of the serial port and of the clock, by names, offsets and bits, the states that they make, and how
+"""The registers of the serial port and of the clock, by names, offsets and bits, the states of the devices, and how
 numbers and bytes for them are checked."""
 import reprlib
 from ctypes import c_int64, c_uint8, c_uint32, c_uint64, sizeof
@@ -10,6 +10,9 @@ from typing import Any, Dict, List, Mapping, NamedTuple, Optional, Tuple, Type, 
 
 FIFO_SIZE = 64
 """How many received bytes a serial port holds at most."""
+
+OUTPUT_SIZE = 4096
+"""How many bytes of output wait in a console at most."""
 
 DLAB = 0x80
 """The bit of LCR that puts the divisor at the offsets 0 and 1."""
@@ -186,16 +189,14 @@ def _kept(kind: Any, default: Any = 0) -> Any:
     return field(default=default, metadata={"kind": kind})
 
 
-_State = TypeVar("_State", bound="State")
-
-
 class State:
-    """The state of a device. Its fields are checked, and convert to and from those of vm-superio."""
+    """The state of a device, whose fields are checked."""
 
     def __post_init__(self) -> None:
         for name, kind in self.kinds().items():
             value = getattr(self, name)
-            checked = bool(value) if name == "armed" else number(name, value, 8 * sizeof(kind), kind is c_int64)
+            is_flag = isinstance(getattr(type(self), name), bool)
+            checked = bool(value) if is_flag else number(name, value, 8 * sizeof(kind), kind is c_int64)
             object.__setattr__(self, name, checked)
 
     @classmethod
@@ -203,6 +204,13 @@ class State:
     def kinds(cls) -> Dict[str, Any]:
         """The fields that the struct of superio.h has under the same names, each with its kind there."""
         return {one.name: one.metadata["kind"] for one in fields(cls) if one.metadata}
+
+
+_State = TypeVar("_State", bound="MovableState")
+
+
+class MovableState(State):
+    """The state of a device that vm-superio has too. Its fields convert to and from those there."""
 
     @classmethod
     def _moved(cls) -> List[str]:
@@ -233,7 +241,7 @@ class State:
 
 
 @dataclass(frozen=True)
-class SerialState(State):
+class SerialState(MovableState):
     """The state of a serial port: nine registers, and the bytes that it received and the guest has not read.
 
     The defaults are those of a new port. `dataclasses.replace` makes a changed copy. `docs/SAVED-STATES.md` has the
@@ -263,7 +271,7 @@ FIELDS = dict(zip(("DLL", "DLM", "IER", "IIR", "LCR", "LSR", "MCR", "MSR", "SCR"
 
 
 @dataclass(frozen=True)
-class RtcState(State):
+class RtcState(MovableState):
     """The state of a clock.
 
     The defaults are those of a new one. `docs/SAVED-STATES.md` has the meaning of each field.
@@ -283,3 +291,26 @@ class RtcState(State):
 
 CLOCK_KEPT = tuple(name for name in CLOCK if name.lower() in RtcState.kinds())
 """The registers of the clock that are fields of its state."""
+
+
+@dataclass(frozen=True)
+class ConsoleState(State):
+    """The state of a console: its port, the output that waits, and what it knows of its guest.
+
+    The defaults are those of a new one. `docs/SAVED-STATES.md` has the meaning of each field.
+    """
+
+    port: SerialState = SerialState()  # the port
+    output: bytes = b""  # the output that waits for its reader, oldest first: at most 4,096 bytes
+    dropped: int = _kept(c_uint64)            # how many bytes of output were dropped
+    is_polled: bool = _kept(c_uint8, False)   # whether the guest polls, so that input goes in before a driver is ready
+    is_ready: bool = _kept(c_uint8, False)    # whether a driver has shown that it is ready
+    is_asleep: bool = _kept(c_uint8, False)   # whether the guest sleeps in memory
+    is_refused: bool = _kept(c_uint8, False)  # whether an interrupt was refused, and none was asked for since
+
+    def __post_init__(self) -> None:
+        check_kind("port", self.port, SerialState)
+        object.__setattr__(self, "output", byte_string("output", self.output))
+        if len(self.output) > OUTPUT_SIZE:
+            raise ValueError(f"output has {len(self.output)} bytes, and in a console at most {OUTPUT_SIZE} wait")
+        super().__post_init__()

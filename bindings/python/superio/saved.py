@@ -4,7 +4,7 @@ from ctypes import byref, c_uint8
 from typing import Any, Callable, Tuple, Type, TypeVar
 
 from .library import load
-from .registers import State, byte_string, check_kind
+from .registers import byte_string
 
 _Device = TypeVar("_Device", bound="Saved")
 
@@ -17,6 +17,7 @@ SAVED_STATE_ERRORS = {
     "wrong length": "A saved state of the wrong length",
     "too many bytes": "More than 64 received bytes",
     "invalid armed": "An alarm that is neither set nor clear",
+    "invalid flags": "A flag that no console has",
 }
 """Why bytes are no saved state, in the words of a script, each with its text in every language. The order is that of
 the checks, and so of `enum superio_saved_state_error`, which begins with 1."""
@@ -24,7 +25,8 @@ the checks, and so of `enum superio_saved_state_error`, which begins with 1."""
 
 class SavedStateError(ValueError):
     """Bytes are not the saved state of this device. `reason` is the reason, as a script replies it: "too short",
-    "not a saved state", "other device", "unknown version", "wrong length", "too many bytes" or "invalid armed".
+    "not a saved state", "other device", "unknown version", "wrong length", "too many bytes", "invalid armed" or
+    "invalid flags".
     """
 
     def __init__(self, reason: str) -> None:
@@ -38,7 +40,7 @@ class SavedStateError(ValueError):
 class Saved:
     """A device whose `copy` and `pickle` use its saved state, so that equal states make the same pickle everywhere.
 
-    The state has neither the place where a port's ring begins nor bytes that the guest has read.
+    The state has neither the places where rings begin nor bytes that a guest or a reader has taken.
     """
 
     __slots__ = ("_library", "_struct", "_pointer")
@@ -47,8 +49,11 @@ class Saved:
 
     def __init__(self) -> None:
         self._library = load()
-        self._struct = self._function("new")()
+        self._struct = self._new()
         self._pointer = byref(self._struct)
+
+    def _new(self) -> Any:
+        return self._function("new")()
 
     def _function(self, name: str) -> Callable[..., Any]:
         return getattr(self._library, f"superio_{self._name}_{name}")
@@ -57,11 +62,14 @@ class Saved:
         """The device as a saved state, which `from_bytes` and the other languages read on any machine."""
         room = (c_uint8 * self._saved_max)()
         count = self._function("save")(self._pointer, room)
-        return bytes(room[:count])
+        return bytes(room)[:count]
 
     @classmethod
     def from_bytes(cls: Type[_Device], data: bytes) -> _Device:
-        """The device of a saved state. For a port, then ask for the interrupt as `interrupts_due` says of a restore.
+        """The device of a saved state.
+
+        If a console's interrupt controller was not restored too, then call `refuse` of it. Then make a `turn` in any
+        case.
 
         Raises `SavedStateError` if the bytes are no saved state of this device.
         """
@@ -73,12 +81,6 @@ class Saved:
         error = self._function("load")(self._pointer, data, len(data))
         if error:
             raise SavedStateError([*SAVED_STATE_ERRORS][error - 1])
-
-    def _set(self, state: State, kind: Type[State]) -> None:
-        """Takes the fields of a state, which has to be of this class."""
-        check_kind("state", state, kind)
-        for name in kind.kinds():
-            setattr(self._struct, name, getattr(state, name))
 
     def __reduce__(self) -> Tuple[Any, ...]:
         """Attributes of a subclass go along."""

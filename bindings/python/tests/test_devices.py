@@ -15,7 +15,7 @@ from unittest import mock
 from support import ROOT
 
 import superio
-from superio import (AlarmIsSetError, Board, Command, I8042, LibraryError, RegisterError, Rtc, RtcState,
+from superio import (AlarmIsSetError, Board, Command, Console, I8042, LibraryError, RegisterError, Rtc, RtcState,
                      SavedStateError, ScriptError, Serial, SerialState, board, devices, library, parse, registers,
                      saved)
 from superio.saved import SAVED_STATE_ERRORS
@@ -126,7 +126,7 @@ class Arguments(unittest.TestCase):
     def test_each_device_says_that_there_is_no_library(self):
         with mock.patch.object(devices, "load", side_effect=LibraryError), \
                 mock.patch.object(saved, "load", side_effect=LibraryError):
-            for kind in (Serial, Rtc, I8042):
+            for kind in (Console, Serial, Rtc, I8042):
                 self.assertRaises(LibraryError, kind)
 
 

@@ -15,7 +15,8 @@ from unittest import mock
 
 from support import FolderTest
 
-from superio import AlarmIsSetError, I8042, Rtc, RtcState, SavedStateError, Serial, SerialState
+from superio import (AlarmIsSetError, Console, ConsoleState, I8042, Rtc, RtcState, SavedStateError, Serial,
+                     SerialState)
 from superio import devices, library, saved
 from superio.board import LINES, MASK, PROGRAM_LINES
 from superio.recording import replay
@@ -43,14 +44,27 @@ class Drawn(random.Random):
 
     def clock(self):
         offset = self.choice([self.randrange(-9, 9), self.getrandbits(64) - (1 << 63)])
-        return RtcState(*(self.word() for _ in range(4)), offset=offset, armed=self.random() < 0.5)
+        return RtcState(*(self.word() for _ in range(4)), offset=offset, armed=self.flag())
 
     def clock_offset(self):
         return self.choice([4 * self.randrange(8), self.getrandbits(16)])
 
+    def flag(self):
+        return self.random() < 0.5
+
+    def console(self):
+        output = self.randbytes(self.choice([0, self.randrange(9), 4096 - self.randrange(9)]))
+        dropped = self.choice([self.randrange(9), (1 << 64) - 1 - self.randrange(9)])
+        return ConsoleState(self.port(), output, dropped, *(self.flag() for _ in range(4)))
+
 
 # The calls of each class that may change a device, with arguments for them, and those that may not.
 CHANGING = {
+    Console: {"read": lambda it: (it.randrange(9),), "write": lambda it: (it.randrange(9), it.randrange(256)),
+              "receive": lambda it: (bytearray(it.randbytes(it.randrange(70))),),
+              "consume": lambda it: (it.choice([it.randrange(9), it.getrandbits(64)]),),
+              "set_polled": lambda it: (it.flag(),),
+              **{name: lambda it: () for name in ("turn", "refuse", "reset", "suspend")}},
     Serial: {"read": lambda it: (it.randrange(9),), "write": lambda it: (it.randrange(9), it.randrange(256)),
              "enqueue": lambda it: (bytearray(it.randbytes(it.randrange(70))),), "character_timeout": lambda it: ()},
     Rtc: {"read": lambda it: (it.clock_offset(), it.moment()),
@@ -58,11 +72,12 @@ CHANGING = {
     I8042: {"read": lambda it: (it.randrange(256),), "write": lambda it: (it.randrange(8), 0xFE - it.randrange(2))},
 }
 CONSTANT = {
+    Console: ["dropped", "is_full", "output", "state", "to_bytes", "wants"],
     Serial: ["fifo_capacity", "interrupt_line", "interrupts_due", "is_coherent", "state", "to_bytes"],
     Rtc: ["alarm_due", "interrupt_line", "state", "to_bytes"],
     I8042: [],
 }
-STATES = {Serial: Drawn.port, Rtc: Drawn.clock}
+STATES = {Console: Drawn.console, Serial: Drawn.port, Rtc: Drawn.clock}
 
 
 def drawn_call(source, kind):
@@ -79,7 +94,7 @@ def made(device, name, arguments):
 
 class Watched:
     """The library, whose calls are compared with their rows of superio.abi: an array has at least the bytes that the
-    row says, and a count is that of the bytes before it."""
+    row says, and a count is that of the bytes before it, of which C writes no more."""
 
     def __init__(self, found):
         self.called, self._found = set(), found
@@ -95,6 +110,8 @@ class Watched:
                     assert isinstance(argument, ctypes.Array) and ctypes.sizeof(argument) >= size, name
                 if parameter == "const uint8_t *":
                     assert isinstance(argument, bytes) and len(argument) == following, name
+                if parameter == "uint8_t *":
+                    assert isinstance(argument, ctypes.Array) and ctypes.sizeof(argument) == following, name
             return getattr(self._found, name)(*arguments)
         return call
 
@@ -109,7 +126,7 @@ class EveryCall(unittest.TestCase):
     def test_arrays_are_as_large_as_the_table_says(self):
         source, watched = Drawn("arrays"), Watched(library.load())
         with mock.patch.object(devices, "load", lambda: watched), mock.patch.object(saved, "load", lambda: watched):
-            objects = [Serial(), Rtc(), I8042()]
+            objects = [Console(), Serial(), Rtc(), I8042()]
             for _ in range(ROUNDS):
                 device = source.choice(objects)
                 made(device, *drawn_call(source, type(device)))
@@ -121,7 +138,8 @@ class EveryCall(unittest.TestCase):
 
     def test_what_a_call_gives_and_takes_is_the_same_after_all_later_calls(self):
         source, kept = Drawn("kept"), []
-        objects = [Serial(), Rtc(), I8042(), Serial.from_state(source.port())]
+        objects = [Console(), Serial(), Rtc(), I8042(), Console.from_state(source.console()),
+                   Serial.from_state(source.port())]
         for _ in range(ROUNDS):
             device = source.choice(objects)
             name, arguments = drawn_call(source, type(device))
@@ -133,7 +151,7 @@ class EveryCall(unittest.TestCase):
             self.assertEqual((before, passed), (given, arguments))
 
     def test_devices_that_take_turns_do_what_each_does_alone(self):
-        source, kinds = Drawn("turns"), [Serial, Rtc, Serial, Rtc, I8042]
+        source, kinds = Drawn("turns"), [Console, Serial, Rtc, Console, Serial, Rtc, I8042]
         order = [source.randrange(len(kinds)) for _ in range(ROUNDS)]
         calls = [(which, *drawn_call(source, kinds[which])) for which in order]
         objects = [kind() for kind in kinds]
@@ -156,8 +174,9 @@ class EveryCall(unittest.TestCase):
 
     def test_an_enqueue_takes_the_first_64_bytes_of_any_number(self):
         for count in (63, 64, 65, 1 << 16, (1 << 24) + 1):
-            port, data = Serial(), bytes(range(63)) + bytes(count - 63)
-            self.assertEqual((min(count, 64), data[:64]), (port.enqueue(data).accepted, port.state.in_buffer))
+            port, console, data = Serial(), Console(polled=True), bytes(range(63)) + bytes(count - 63)
+            self.assertEqual([min(count, 64)] * 2, [port.enqueue(data).accepted, console.receive(data).accepted])
+            self.assertEqual([data[:64]] * 2, [port.state.in_buffer, console.state.port.in_buffer])
 
 
 def wrong_values(kind):
@@ -185,6 +204,8 @@ class EveryState(unittest.TestCase):
 
     def test_a_state_goes_to_vm_superio_and_back_unless_an_alarm_is_set(self):
         for kind, state in self.drawn("moved"):
+            if kind is Console:  # which vm-superio has not
+                continue
             if getattr(state, "armed", False):
                 self.assertRaises(AlarmIsSetError, state.to_vm_superio)
                 state = dataclasses.replace(state, armed=False)
@@ -206,8 +227,20 @@ class EveryState(unittest.TestCase):
                             make()
             self.assertRaises(TypeError, type(state), further=0)
 
+    def test_a_field_of_a_console_that_is_wrong_is_refused(self):
+        others = (None, 5, "a", [b"a"], SerialState(), RtcState())
+        wrong = {"port": (*others[:-2], RtcState(), Serial()), "output": (*others, bytes(4097)),
+                 "dropped": wrong_values(ctypes.c_uint64)}
+        for name, values in wrong.items():
+            for value in values:
+                with self.subTest(name, value=value), self.assertRaises((TypeError, ValueError)):
+                    ConsoleState(**{name: value})
+        for other in others:
+            self.assertRaises(TypeError, Console.from_state, other)
+
     def test_saved_bytes_that_are_damaged_are_refused_or_are_another_state(self):
-        for kind, state in ((Serial, Drawn(1).port()), (Rtc, Drawn(2).clock())):
+        console = dataclasses.replace(Drawn(3).console(), output=b"abc")
+        for kind, state in ((Serial, Drawn(1).port()), (Rtc, Drawn(2).clock()), (Console, console)):
             data = kind.from_state(state).to_bytes()
             flipped = [bytes([*data[:place], data[place] ^ 1 << bit, *data[place + 1:]])
                        for place in range(len(data)) for bit in range(8)]

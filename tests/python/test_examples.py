@@ -1,0 +1,72 @@
+# SPDX-License-Identifier: Apache-2.0 OR BSD-3-Clause
+"""The examples in Python, as programs."""
+import os
+import random
+import select
+import subprocess
+import sys
+import time
+
+import pytest
+from harness import ROOT
+
+EXAMPLE = ROOT / "examples" / "python" / "pty_console.py"
+GREETING = b"Type, and Ctrl-D to switch off.\r\n"
+LIMIT = 60   # seconds
+
+
+class Console:
+    """The example's console, as somebody has it who opened its path."""
+
+    def __init__(self, program):
+        self.path = program.stdout.readline().rstrip("\n")
+        self.file = os.open(self.path, os.O_RDWR | os.O_NOCTTY)
+        os.set_blocking(self.file, False)
+
+    def exchange(self, typed, count, pause=0.0):
+        """Types, and gives what the console shows meanwhile, up to so many bytes."""
+        shown, end = b"", time.monotonic() + LIMIT
+        while len(shown) < count:
+            assert time.monotonic() < end, f"{len(shown)} of {count} bytes are shown"
+            readable, writable, _ = select.select([self.file], [self.file] if typed else [], [], 1)
+            if writable:
+                typed = typed[os.write(self.file, typed[:999]):]
+            if readable:
+                shown += os.read(self.file, min(count - len(shown), 999))
+                time.sleep(pause)
+        return shown
+
+
+@pytest.fixture
+def program():
+    started = subprocess.Popen([sys.executable, EXAMPLE], stdout=subprocess.PIPE, text=True,
+                               env={**os.environ, "PYTHONPATH": str(ROOT / "bindings" / "python")})
+    with started:
+        yield started
+        started.kill()
+
+
+def test_console_on_a_terminal(program):
+    """It echoes what is typed, and a text of any length, also to a slow reader and after nobody has read for a while.
+    Ctrl-D ends it."""
+    console = Console(program)
+    assert console.exchange(b"", len(GREETING)) == GREETING
+    assert console.exchange(b"hi\r", 4) == b"hi\r\n"
+    text = bytes(random.choices(b"abcdefgh", k=20_000))
+    assert console.exchange(text, len(text), pause=0.001) == text
+    few = text[:2_000]
+    os.write(console.file, few)
+    time.sleep(0.3)
+    assert console.exchange(b"", len(few)) == few
+    os.write(console.file, b"\x04")
+    assert program.wait(LIMIT) == 0
+    assert program.stdout.read() == "The guest is off.\n"
+
+
+def test_nobody_has_to_look(program):
+    """The guest goes on if nobody opens the path, and what it sends is there later."""
+    console = Console(program)
+    os.close(console.file)
+    time.sleep(0.2)
+    console.file = os.open(console.path, os.O_RDWR | os.O_NOCTTY | os.O_NONBLOCK)
+    assert console.exchange(b"a", len(GREETING) + 1) == GREETING + b"a"
