@@ -2,16 +2,27 @@
 """The C functions that Cargo builds, as one more file of the crate that they use, without what is `unsafe` in them."""
 import re
 
+from rust_tree import Parser, Refused
+from rust_types import MORE
+
 # What is translated in place of a text. A pointer to a struct is the struct; one to bytes, with their count, is the bytes;
 # one to write bytes at is the memory from there on. The crate superio has the items of its devices.
 STANDS_FOR = {
     "port: *mut Uart": "port: &mut Uart",
     "clock: *mut Pl031": "clock: &mut Pl031",
+    "console: *mut Console": "console: &mut Console",
+    "unsafe { console.write(Console::new(is_polled)) }": "*console = Console::new(is_polled)",
     "bytes: *const u8, count: usize": "bytes: &[u8]",
+    "bytes: *const u8,\n    count: usize": "bytes: &[u8]\n",
     "bytes: *mut u8": "bytes: &mut [u8]",
     "unsafe { bytes_at(bytes, count) }": "bytes",
     "unsafe { bytes.copy_from_nonoverlapping(saved.as_ptr(), saved.len()) }": "bytes[0..saved.len()].copy_from_slice(saved)",
     "unsafe { bytes.copy_from_nonoverlapping(saved.as_ptr(), SAVED_SIZE) }": "bytes[0..SAVED_SIZE].copy_from_slice(&saved)",
+    "unsafe { bytes.copy_from_nonoverlapping(saved.as_ptr(), count) }": "bytes[0..count].copy_from_slice(&saved[..count])",
+    "unsafe { bytes.copy_from_nonoverlapping(oldest.as_ptr(), copied) }":
+        "bytes[0..copied].copy_from_slice(&oldest[..copied])",
+    "unsafe { store(console, Console::from_bytes(bytes_at(bytes, count))) }":
+        "match Console::from_bytes(bytes) { Ok(loaded) => { *console = loaded; LOADED } Err(error) => load_status(error) }",
     "unsafe { store(port, Uart::from_bytes(bytes_at(bytes, count))) }":
         "match Uart::from_bytes(bytes) { Ok(loaded) => { *port = loaded; LOADED } Err(error) => load_status(error) }",
     "unsafe { store(clock, RtcState::from_bytes(bytes_at(bytes, count)).map(|state| Pl031::from_state(&state))) }":
@@ -19,19 +30,40 @@ STANDS_FOR = {
         "Err(error) => load_status(error) }",
     "use superio::": "use crate::",
     "u64::MAX": str(2 ** 64 - 1),
-    "#[no_mangle]": "",
 }
 
 
-def safe_part(text):
-    """What is translated of lib.rs: one item follows another after an empty line. The lines keep their numbers."""
-    return "\n\n".join(safe_item(item) for item in text.split("\n\n"))
+EXPORTED = re.compile(r'^#\[no_mangle\]\npub (?:unsafe )?extern "C" fn (\w+)', re.M)
 
 
-def safe_item(item):
-    item = re.sub(r"^#!\[.*", "", item, flags=re.M)
+def safe_part(text, left_out=()):
+    """What is translated of lib.rs. The lines keep their numbers. What else is `unsafe`, or exported in another way, stays,
+    and the parser refuses it."""
+    if re.search(r"^\s*pub(?: const)? fn", text, re.M):
+        raise Refused(f"{MORE}: a public function that is not exported")
+    text = without(text, left_out)
     for old, new in STANDS_FOR.items():
-        item = item.replace(old, new)
-    item = re.sub(r'^pub (unsafe )?extern "C" fn', "pub fn", item, flags=re.M)
-    left_out = re.search(r"\bunsafe\b|\*mut|\*const|#\[panic_handler\]", item)
-    return "\n" * item.count("\n") if left_out else item
+        text = text.replace(old, new)
+    text = re.sub(r"^#!\[deny\(unsafe_op_in_unsafe_fn\)\]$", "", text, flags=re.M)
+    return EXPORTED.sub(r"\npub fn \1", text)
+
+
+def without(text, left_out):
+    """The text without these items, of which each has lines of its own."""
+    parser, left_out, lines = Parser(text, MORE), list(left_out), text.split("\n")
+    while parser.next == "#" and parser.peek(1) == "!":
+        parser.at += 2
+        while not parser.has("]"):
+            parser.at += 1
+    while parser.next:
+        words, end = parser.item_ahead()
+        found = [token.line for token in parser.tokens[parser.at:end]]
+        if words in left_out:
+            left_out.remove(words)
+            if found[0] <= parser.tokens[parser.at - 1].line or found[-1] == parser.tokens[end].line:
+                raise Refused(f"{MORE}:{found[0]}: two items in a line")
+            lines[found[0] - 1:found[-1]] = [""] * (found[-1] - found[0] + 1)
+        parser.at = end
+    if left_out:
+        raise Refused(f"{MORE}: it has not what is left out: {' '.join(left_out[0])}")
+    return "\n".join(lines)

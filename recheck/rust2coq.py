@@ -158,8 +158,6 @@ class Writer:
         function = self.crate.functions.get(key)
         if not function:
             raise Refused(f"there is no function {key}")
-        if function.refused:
-            raise function.refused
         self.open.append(key)
         saved = self.__dict__.get("where"), self.__dict__.get("changed"), self.count
         self.where, self.count = function.file, 0
@@ -229,7 +227,7 @@ class Writer:
 
     def _name(self, node, env, then):
         if node.local:
-            return then(env[node.local], env)
+            return then(self.read(node.local.place, env) if node.local.mode == "borrowed" else env[node.local], env)
         if node.name == "None":
             return then("None", env)
         return then(self.constant(node.name), env)
@@ -245,6 +243,9 @@ class Writer:
     def _field(self, node, env, then):
         return self.expr(node.value, env, lambda value, after:
                          then(f"({actual(node.value.type)}_{node.name} {value})", after))
+
+    def _part(self, node, env, then):
+        return self.expr(node.value, env, lambda value, after: then(f"({('fst', 'snd')[node.at]} {value})", after))
 
     def _if(self, node, env, then):
         def chosen(condition, after):
@@ -516,6 +517,8 @@ class Writer:
             return self.bind(f"split_index {a} {values[1]}", "parts", lambda parts: then(parts, env))
         if name == "to_le_bytes":
             return then(f"(to_le_bytes 64 (cast_unsigned 64 {a}))" if of == "i64" else f"(to_le_bytes {WIDTHS[of]} {a})", env)
+        if name == "saturating_add":
+            return then(f"(N.min ({a} + {values[1]}) {2 ** WIDTHS[of] - 1})", env)
         if name == "wrapping_add":
             return then(f"(N.modulo ({a} + {values[1]}) {2 ** WIDTHS[of]})", env)
         text = {"len": f"(length {a})", "is_empty": f"(N.eqb (length {a}) 0)", "unsigned_abs": f"(unsigned_abs {a})",
@@ -562,6 +565,8 @@ class Writer:
         pattern = node.pattern
         if node.value.kind == "method" and node.value.name == "split_at_mut":
             return self.split(node, env, rest)
+        if node.value.kind == "refmut":
+            return rest(env)
 
         def bound(value, after):
             self.known(node.value)
@@ -618,7 +623,7 @@ class Writer:
         return (f"let* {pattern(ends)} := while_some 1000 (fun {pattern(names)} =>\n  {indented(turn)}) {state(env)} in\n{after}")
 
 
-HEAD = "(* Made by recheck/rust2coq.py from bindings/superio/src/devices. *)\n"
+HEAD = "(* Made by recheck/rust2coq.py from bindings/superio/src. *)\n"
 
 
 def translate(crate, functions):

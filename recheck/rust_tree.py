@@ -5,10 +5,12 @@ import re
 WIDTHS = {"u8": 8, "u16": 16, "u32": 32, "u64": 64, "usize": 64}  # usize: that of a 64-bit machine
 INTEGERS = {*WIDTHS, "i64"}
 BUILTIN = {*INTEGERS, "bool", "Option", "Result", "Some", "None", "Ok", "Err", "Self", "self", "i8", "i16", "i32",
-           "i128", "u128", "isize", "char", "str", "String", "Vec", "Box"}
+           "i128", "u128", "isize", "char", "str", "String", "Vec", "Box", "drop", "size_of", "align_of"}
 KEYWORDS = set("""as async await break const continue crate dyn else enum extern false fn for if impl in let loop match
     mod move mut pub ref return self Self static struct super trait true type unsafe use where while""".split())
-ATTRIBUTES = re.compile(r"inline(\((always|never)\))?|repr\(C\)|derive\([\w, ]*\)|must_use|rustfmt::skip")
+# Attributes that change no call; lints among them.
+ATTRIBUTES = re.compile(r"""inline(\((always|never)\))?|repr\(C\)|derive\([\w, ]*\)|must_use(="[^"]*")?|cold|rustfmt::skip|no_std
+    |(allow|deny|forbid)\([\w:, ]*\)|doc=include_str!\("[./\w]*"\)""", re.X)
 DERIVES = {"Clone", "Copy", "Debug", "Default", "PartialEq", "Eq"}
 UNIT = ("tuple",)
 
@@ -30,7 +32,7 @@ class List(tuple):
 TOKEN = re.compile(r"""
       (?P<doc>///[^\n]*) | (?P<comment>//[^\n]*) | (?P<space>\s+)
     | (?P<number>0x[0-9A-Fa-f_]+|0b[01_]+|0o[0-7_]+|[0-9][0-9_]*)(?P<suffix>[A-Za-z]\w*)?
-    | (?P<bytes>b"[ !#-\[\]-~]*") | (?P<name>[A-Za-z_]\w*)
+    | (?P<bytes>b"[ !#-\[\]-~]*") | (?P<name>[A-Za-z_]\w*) | (?<!\w)(?P<string>"(?:[^"\\]|\\.)*") | (?P<lifetime>'[a-z_]\w*)(?!') | (?P<char>'(?:[^'\\\n]|\\.)')
     | (?P<block>/\*) | (?P<sign>\.\.=|\.\.\.|<<=|>>=|::|->|=>|\.\.|&&|\|\||<<|>>|[=!<>+\-*/%&|^]=|[-+*/%&|^!<>=.,;:?@\#(){}\[\]])
     """, re.X | re.A)
 
@@ -40,10 +42,10 @@ class Token:
         self.kind, self.text, self.line, self.suffix = kind, text, line, suffix
 
 
-def tokens(text, file, token=TOKEN):
+def tokens(text, file):
     found, at, line = [], 0, 1
     while at < len(text):
-        match = token.match(text, at)
+        match = TOKEN.match(text, at)
         if not match or match["block"]:
             raise Refused(f"{file}:{line}: {text[at:at + 20]!r}")
         kind = "number" if match["number"] else match.lastgroup
@@ -68,6 +70,27 @@ class Node:
         yield from walk(value for name, value in self.__dict__.items() if name not in ("sum", "type"))
 
 
+def source(file):
+    """The text of a file. An end of a line that is none for rustc is refused."""
+    text = file.read_bytes().decode()
+    if "\r" in text:
+        raise Refused(f"{file}: a carriage return")
+    return text
+
+
+def left_out(text):
+    """What is left out of each file, by its path: sections of items, each after `//: PATH`."""
+    found = {}
+    for section in re.split(r"^//: ", text, flags=re.M)[1:]:
+        path, _, items = section.partition("\n")
+        parser = Parser(items, path)
+        found[path] = []
+        while parser.next:
+            words, parser.at = parser.item_ahead()
+            found[path].append(words)
+    return found
+
+
 def walk(values):
     for value in values:
         if isinstance(value, Node):
@@ -82,13 +105,14 @@ ASSIGNING = {"=", "|=", "&=", "^=", "+=", "-=", "*=", "/=", "%="}
 
 
 class Parser:
-    """Reads one file."""
-    token, attributes = TOKEN, ATTRIBUTES
+    """Reads one file. `left_out` has the items that are not read, each as the texts of its tokens."""
+    attributes = ATTRIBUTES
 
-    def __init__(self, text, file):
-        self.file, self.at = file, 0
+    def __init__(self, text, file, left_out=()):
+        self.file, self.at, self.left_out = file, 0, list(left_out)
         self.modules, self.imports = set(), []  # the names of `mod`, and the paths of `use`
-        self.tokens = tokens(text, file, self.token) + [Token("end", "", 0)]
+        self.renamed = {}  # the paths of constants that have another name in this file, by that name
+        self.tokens = tokens(text, file) + [Token("end", "", 0)]
 
     # -- tokens
     @property
@@ -117,7 +141,7 @@ class Parser:
 
     def name(self):
         token = self.tokens[self.at]
-        if token.kind != "name" or token.text in KEYWORDS:
+        if token.kind != "name" or token.text in KEYWORDS or token.text in self.renamed:
             self.refuse("a name expected")
         self.at += 1
         return token.text
@@ -132,9 +156,49 @@ class Parser:
         return found
 
     # -- items
+    def file_items(self):
+        """All items of the file. Each is read, or is left out, word by word."""
+        while self.next == "#" and self.peek(1) == "!":
+            self.at += 1
+            self.eat("!")
+            self.attribute()
+        found = self.items()
+        if self.next:
+            self.refuse("an item")
+        if self.left_out:
+            raise Refused(f"{self.file}: it has not what is left out: {' '.join(self.left_out[0])}")
+        return found
+
+    def item_ahead(self):
+        """The texts of the tokens of the item ahead, with its attributes but without its docs, and where it ends."""
+        at, depth, keyword = self.at, 0, None
+        while self.tokens[at].kind != "end":
+            token = self.tokens[at]
+            if token.kind == "sign":
+                depth += {"{": 1, "(": 1, "[": 1, "}": -1, ")": -1, "]": -1}.get(token.text, 0)
+            elif depth == 0 and token.kind == "name" and token.text != "pub":
+                keyword = keyword or token.text
+            at += 1
+            if depth == 0 and (token.text == ";" or token.text == "}" and keyword != "use"):
+                break
+        return [token.text + (token.suffix or "") for token in self.tokens[self.at:at] if token.kind != "doc"], at
+
+    def is_left_out(self):
+        """Whether the item ahead is left out. If so, it is behind now."""
+        if not self.left_out:
+            return False
+        words, end = self.item_ahead()
+        if words not in self.left_out:
+            return False
+        self.left_out.remove(words)
+        self.at = end
+        return True
+
     def items(self, owner=None, trait=None):
         found = []
         while self.next not in ("", "}"):
+            if not owner and self.is_left_out():
+                continue
             doc, derived = self.doc_and_attributes()
             public = self.visibility()
             item = self.item(owner, trait, doc, derived)
@@ -161,22 +225,26 @@ class Parser:
             if token.kind == "doc":
                 doc.append(token.text[3:].strip())
                 self.at += 1
-            elif token.text == "#":
-                self.at += 1
-                self.has("!")
-                self.eat("[")
-                text = ""
-                while not self.has("]"):
-                    text += self.next + (" " if self.next == "," else "")
-                    self.at += 1
-                if not self.attributes.fullmatch(text):
-                    self.refuse(f"the attribute {text}")
+            elif self.has("#"):
+                text = self.attribute()
                 if text.startswith("derive"):
                     derived |= set(re.findall(r"\w+", text[7:]))
-                    if derived - DERIVES:
+                    if derived - DERIVES - {"repr(C)"}:
                         self.refuse(f"the attribute {text}")
+                if text == "repr(C)":
+                    derived.add(text)
             else:
                 return doc, derived
+
+    def attribute(self):
+        self.eat("[")
+        text = ""
+        while not self.has("]"):
+            text += self.next + (" " if self.next == "," else "")
+            self.at += 1
+        if not self.attributes.fullmatch(text):
+            self.refuse(f"the attribute {text}")
+        return text
 
     def item(self, owner, trait, doc, derived):
         line = self.line()
@@ -222,16 +290,19 @@ class Parser:
         return None
 
     def use(self):
-        """Paths of this crate. A name is that of its item: no `as` and no `*`."""
+        """Paths of this crate. A constant may have another name in the file: `as`."""
         path = [self.segment()]
         while self.has("::"):
             if self.has("{"):
                 self.imports += [[*path, name] for name in self.until("}", self.segment)]
                 self.eat(";")
                 return
-            path.append(self.segment())
+            path.append("*" if self.has("*") else self.segment())
+        if self.has("as"):
+            self.renamed[self.name()] = path
+        else:
+            self.imports.append(path)
         self.eat(";")
-        self.imports.append(path)
 
     def segment(self):
         for word in ("super", "self", "crate"):
@@ -271,23 +342,10 @@ class Parser:
         parameters = self.until(")", lambda: self.parameter(owner))
         result = self.type() if self.has("->") else UNIT
         function = Node("fn", line, name=name, owner=owner, parameters=parameters, bounds=bounds, result=result, doc=doc,
-                        body=None, refused=None, file=self.file)
+                        body=None, file=self.file)
         if trait and self.has(";"):
             return function
-        start = self.at
-        try:
-            function.body = self.block()
-        except Refused as refused:  # only a function that is asked for has to be known
-            self.at = start
-            depth = 0
-            while True:
-                depth += {"{": 1, "}": -1}.get(self.next, 0)
-                if self.tokens[self.at].kind == "end":
-                    raise
-                self.at += 1
-                if depth == 0:
-                    break
-            function.body, function.refused = Node("block", line, statements=[]), refused
+        function.body = self.block()
         return function
 
     def parameter(self, owner):
@@ -509,6 +567,10 @@ class Parser:
         while True:
             line = self.line()
             if self.has("."):
+                if self.next in ("0", "1"):
+                    value = Node("part", line, value=value, at=int(self.next))
+                    self.at += 1
+                    continue
                 name = self.name()
                 if self.next == "::":
                     self.refuse("type arguments")
@@ -566,6 +628,9 @@ class Parser:
             return Node("match", line, value=value, arms=arms)
         if self.has("self"):
             return Node("name", line, name="self")
+        if token.text in self.renamed:
+            self.at += 1
+            return Node("name", line, name=self.renamed[token.text][-1])
         path = ["Self"] if self.has("Self") else [self.name()]
         while self.has("::"):
             path.append(self.name())

@@ -3,7 +3,8 @@
 import re
 from pathlib import Path
 
-from rust_tree import BINARY, BUILTIN, INTEGERS, UNIT, WIDTHS, List, Node, Parser, Refused
+from rust_paths import Paths, module_of
+from rust_tree import BINARY, BUILTIN, INTEGERS, UNIT, WIDTHS, List, Node, Parser, Refused, source
 
 
 MORE = "from-source/lib.rs"
@@ -14,15 +15,14 @@ OF_COQ = {"Bytes", "FitsSigned", "Forall", "Prop", "Type", "Set", "Bool", "Nat",
 
 class Crate:
     """The items of the files of a folder, and of one more that uses them, by their names."""
-    def __init__(self, folder, more=None):
+    def __init__(self, folder, more=None, left_out=None):
         self.consts, self.functions, self.types, self.traits, self.impls, self.variants = {}, {}, {}, {}, {}, set()
-        self.scopes, folder = {}, Path(folder)
-        parsers = [Parser(file.read_text(), file.relative_to(folder)) for file in sorted(folder.rglob("*.rs"))]
-        parsers += [Parser(more, Path(MORE))] if more else []
+        self.scopes, folder, left_out = {}, Path(folder), left_out or {}
+        texts = {file.relative_to(folder): source(file) for file in sorted(folder.rglob("*.rs"))}
+        texts |= {Path(MORE): more} if more else {}
+        parsers = [Parser(text, file, left_out.get(file, ())) for file, text in texts.items()]
         for parser in parsers:
-            items = parser.items()
-            if parser.next:
-                parser.refuse("an item")
+            items = parser.file_items()
             for item in items:
                 self.add(item)
             self.scopes[parser.file] = {item.name for item in items if hasattr(item, "name")}
@@ -32,22 +32,30 @@ class Crate:
 
     def check_modules(self, parsers):
         """Cargo compiles the files that `mod` names, and these are all that are here."""
-        named = {Path("mod.rs") if Path("mod.rs") in self.scopes else Path("lib.rs")} | {Path(MORE)} & set(self.scopes)
+        named = {Path("lib.rs")} | {Path(MORE)} & set(self.scopes)
         for parser in parsers:
-            folder = parser.file.parent if parser.file.name in ("mod.rs", "lib.rs") else parser.file.with_suffix("")
-            named |= {folder / f"{name}.rs" for name in parser.modules}
+            for name in parser.modules:
+                file = Path(*module_of(parser.file), f"{name}.rs")
+                named.add(file.with_suffix("") / "mod.rs" if file.with_suffix("") / "mod.rs" in self.scopes else file)
         if odd := named ^ set(self.scopes):
             raise Refused(f"{', '.join(map(str, sorted(odd)))}: a file without its `mod`, or a `mod` without its file")
 
     def check_imports(self, parsers):
-        """An import brings an item of this crate under its own name, or the name of a module."""
-        modules = set().union(*(parser.modules for parser in parsers))
-        names = {*self.consts, *self.types, *self.traits, *(name for name in self.functions if "::" not in name)}
+        """An import brings an item of this crate, or a module, from where its path says."""
+        self.paths = Paths()
+        for parser in parsers:
+            self.paths.add(module_of(parser.file), self.scopes[parser.file], parser.imports)
         for parser in parsers:
             for path in parser.imports:
-                if path[0] not in ("super", "self", "crate") and path[0] not in modules or path[-1] not in names | {"self"}:
+                found = self.paths.resolve(module_of(parser.file), path[:-1] if path[-1] == "*" else path)
+                if not found or path[-1] == "*" and found[2]:
                     raise Refused(f"{parser.file}: a use of {'::'.join(path)}")
-                self.scopes[parser.file].add(path[-1])
+                if found[2]:
+                    self.scopes[parser.file].add(found[2])
+            for name, path in parser.renamed.items():
+                found = self.paths.resolve(module_of(parser.file), path)
+                if not found or found[2] not in self.consts or name in self.scopes[parser.file]:
+                    raise Refused(f"{parser.file}: a use of {'::'.join(path)} as {name}")
 
     def check_names(self):
         """No name hides one of the language, or of Coq's."""
@@ -215,6 +223,9 @@ class Checker:
             if node.value.kind == "method" and node.value.name == "split_at_mut":
                 self.views(node)
                 return UNIT
+            if node.value.kind == "refmut":
+                self.borrow(node)
+                return UNIT
             given = self.crate.known(node.given, self.owner) if node.given else None
             self.pattern(node.pattern, self.expr(node.value, given), "let")
         elif node.kind == "for":
@@ -261,6 +272,16 @@ class Checker:
         self.unify(node, self.expr(node.value.arguments[0], "usize"), "usize")
         for part in node.pattern.parts:
             self.bind(part, part.name, type_, "view")
+
+    def borrow(self, node):
+        """`let name = &mut place;`: until its last use, no other name reaches the place"""
+        if node.pattern.kind != "variable" or node.pattern.changes or node.given:
+            self.refuse(node, "a mutable reference in a variable")
+        type_ = self.place(node.value.value)
+        if type_ not in INTEGERS and type_ != "bool":
+            self.refuse(node, f"a mutable reference to {type_} in a variable")
+        self.bind(node.pattern, node.pattern.name, type_, "borrowed")
+        node.pattern.local.place = node.value.value
 
     # -- patterns
     def pattern(self, node, type_, role):
@@ -386,7 +407,7 @@ class Checker:
     def _name(self, node, want, bare=True):
         node.local = self.find(node.name)
         if node.local:
-            if node.local.mode == "view" or bare and node.local.mode == "mut":
+            if node.local.mode == "view" or bare and node.local.mode in ("mut", "borrowed"):
                 self.refuse(node, f"the reference {node.name} as a value")
             return node.local.type
         if node.name == "None":
@@ -420,6 +441,12 @@ class Checker:
     def _field(self, node, want):
         self.base(node.value)
         return self.field(node)
+
+    def _part(self, node, want):
+        type_ = actual(self.base(node.value))
+        if not isinstance(type_, tuple) or type_[0] != "tuple" or len(type_) != 3:
+            self.refuse(node, f".{node.at} of {type_}")
+        return type_[1 + node.at]
 
     def _block(self, node, want):
         return self.block(node, want)
@@ -523,8 +550,11 @@ class Checker:
     def _assign(self, node, want):
         """The value is evaluated before the place, as Rust does for assignments of numbers"""
         inner = node.place.value if node.place.kind == "deref" else None
-        if inner and inner.kind == "name" and getattr(self.find(inner.name), "mode", None) == "mut":
+        local = self.find(inner.name) if inner and inner.kind == "name" else None
+        if local and local.mode == "mut":
             node.place = inner   # all that a parameter refers to
+        elif local and local.mode == "borrowed":
+            node.place = local.place
         at_index = node.place.kind == "index"
         if at_index:
             type_ = actual(self.place(node.place.value))
@@ -533,6 +563,8 @@ class Checker:
             if changes(node.place.index):
                 self.refuse(node, "an index that changes something")
             type_ = type_[1]
+        elif local and local.mode == "borrowed":
+            type_ = local.type   # the place was found when it was borrowed: its names may be hidden by now
         else:
             type_ = self.place(node.place)
         given = self.expr(node.value, type_)
@@ -708,7 +740,7 @@ class Checker:
             return ("list", "u8")
         if type_ == "i64" and name == "unsigned_abs" and count(0):
             return "u64"
-        if (type_ in WIDTHS and name in ("min", "max", "saturating_sub", "wrapping_add")
+        if (type_ in WIDTHS and name in ("min", "max", "saturating_sub", "saturating_add", "wrapping_add")
                 or type_ == "i64" and name == "checked_add") and count(1):
             self.unify(node, self.expr(arguments[0], type_), type_)
             return ("option", type_) if name == "checked_add" else type_

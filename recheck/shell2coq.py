@@ -148,8 +148,6 @@ class ShellWriter(Writer):
         if key in self.open:
             raise Refused(f"{key} calls itself")
         function = self.crate.functions[key]
-        if function.refused:
-            raise function.refused
         saved = self.__dict__.get("where"), self.__dict__.get("changed"), self.count, self.crate.instance
         self.open.append(key)
         self.where, self.count, self.crate.instance = function.file, 0, self.crate.instance_of(function)

@@ -4,7 +4,7 @@ closures and ranges in calls. Each name becomes the one that no other item has, 
 item of the shell, and an item of `sansio` keeps its own."""
 import re
 
-from rust_tree import ATTRIBUTES, TOKEN, List, Node, Parser, Refused, Token
+from rust_tree import ATTRIBUTES, List, Node, Parser, Refused, Token
 
 # The traits of the objects that a monitor passes, and what stands for each in Coq; and the other types of objects.
 OBJECTS = {"Trigger": "T", "SerialEvents": "EV", "RtcEvents": "EV", "Write": "W"}
@@ -12,22 +12,17 @@ OPAQUE = {**OBJECTS, "Trigger::E": "E", "io::Error": "Fault"}
 # What the shell uses of the library, by other means than a call that is known.
 STD = {"std::error::Error": "StdError", "std::fmt": "fmt", "std::io": "io", "std::io::Write": "Write", "std::sync::Arc": "Arc",
        "std::time::SystemTime": "SystemTime", "std::time::UNIX_EPOCH": "UNIX_EPOCH"}
-# Implementations that are no part of the shell: what is printed, defaults, and objects of its own.
-LEFT = {"fmt::Debug", "fmt::Display", "StdError", "Default", *OBJECTS}
-SHELL_ATTRIBUTES = r"""cold|allow\(\w+\)|forbid\(unsafe_code\)|deny\(missing_(docs|copy_implementations)\)
-    |cfg_attr\(feature="serde",\ derive\(serde::Deserialize,\ serde::Serialize\)\)|doc=include_str!\("[./\w]*"\)"""
-SANSIO = "{ pub use superio :: * ; }"
+SHELL_ATTRIBUTES = r"""cfg_attr\(feature="serde",\ derive\(serde::Deserialize,\ serde::Serialize\)\)"""
 
 
 class ShellParser(Parser):
     """Reads one file of the shell. `all` are the parsers of all files, and `core` is the crate that `sansio` names."""
-    token = re.compile(TOKEN.pattern.replace("(?P<block>", r'(?P<string>"(?:[^"\\]|\\.)*") | (?P<block>'), re.X | re.A)
     attributes = re.compile(f"{ATTRIBUTES.pattern}|{SHELL_ATTRIBUTES}", re.X)
 
-    def __init__(self, text, file, core):
-        super().__init__(text, file)
+    def __init__(self, text, file, core, left_out=()):
+        super().__init__(text, file, left_out)
         self.core, self.all, self.imported = core, [self], {}
-        self.variables, self.header, self.trait, self.is_test = {}, None, None, False
+        self.variables, self.header, self.trait = {}, None, None
         self.own = dict(self.items_ahead())
 
     def items_ahead(self):
@@ -71,6 +66,7 @@ class ShellParser(Parser):
             return
         if alias not in (None, name):
             self.refuse(f"a use of {text} as {alias}")
+        self.imports.append(path)
         if name == "sansio":
             return
         having = [] if "sansio" in path else [parser for parser in self.all if name in parser.own]
@@ -90,34 +86,17 @@ class ShellParser(Parser):
         return True
 
     # -- items
-    def doc_and_attributes(self):
-        if [self.peek(at) for at in range(7)] == ["#", "[", "cfg", "(", "test", ")", "]"]:
-            self.at += 7
-            self.is_test = True
-        return super().doc_and_attributes()
-
-    def block_text(self):
-        """What stands from here to the end of the next block in braces."""
-        start, depth = self.at, 0
-        while True:
-            if self.tokens[self.at].kind == "end":
-                self.refuse("a block that does not end")
-            depth += {"{": 1, "}": -1}.get(self.next, 0)
-            self.at += 1
-            if depth == 0 and self.tokens[self.at - 1].text == "}":
-                return " ".join(token.text for token in self.tokens[start:self.at])
-
     def generics(self):
         """The type variables, each with what stands for it: the trait of an object, or the refusal of a trigger"""
         found = {}
         if not self.has("<"):
             return found
         while not self.has_close():
-            name, bounds = self.name(), []
-            while self.has(":" if not bounds else "+"):
-                bounds.append(self.path())
-            objects = [bound for bound in bounds if bound in OBJECTS]
-            stands = " + ".join(objects or bounds) or "Trigger::E"
+            name, stands = self.name(), "Trigger::E"
+            if self.has(":"):
+                stands = self.path()
+                if stands not in OBJECTS or self.next == "+":
+                    self.refuse(f"a bound of {name}")
             if name in found or stands in found.values():
                 self.refuse(f"the type variable {name}")
             found[name] = stands
@@ -139,14 +118,6 @@ class ShellParser(Parser):
 
     def item(self, owner, trait, doc, derived):
         line = self.line()
-        if self.next == "mod" and (self.is_test or self.peek(2) == "{"):
-            is_test, self.is_test = self.is_test, False
-            self.at += 2
-            if self.block_text() != SANSIO and not is_test:
-                self.refuse("a module in a file")
-            return None
-        if self.is_test:
-            self.refuse("cfg(test)")
         for kind in ("struct", "enum"):
             if self.has(kind):
                 return self.type_item(kind, line, doc, derived)
@@ -201,10 +172,6 @@ class ShellParser(Parser):
         self.variables, start = self.generics(), self.at
         name, of = self.path(), None
         if self.has("for"):
-            if name in LEFT:
-                self.block_text()
-                self.variables = {}
-                return None
             of = name
         else:
             self.at = start

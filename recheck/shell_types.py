@@ -2,9 +2,10 @@
 """The items and types of the shell. An object of the monitor has the type of its trait: nothing else of it is known."""
 from pathlib import Path
 
-from rust_tree import BINARY, BUILTIN, UNIT, Node, Refused
+from rust_paths import Paths, module_of
+from rust_tree import BINARY, BUILTIN, UNIT, Node, Refused, source
 from rust_types import Checker, Crate, actual, changes
-from shell_tree import OBJECTS, OPAQUE, ShellParser
+from shell_tree import OBJECTS, OPAQUE, STD, ShellParser
 
 FAULT = ("result", UNIT, "io::Error")
 # The methods of std::io::Write that are known: their parameters and results.
@@ -16,21 +17,25 @@ HOST_TIME = {
                     "( 0 , | since | since . as_secs ( ) ) }"}
 
 
-# Public functions that are not translated: a mutable reference that is returned.
-LEFT_OUT = {"VmSerial::writer_mut"}
+# Public functions that are not translated, word by word: a mutable reference that is returned.
+LEFT_OUT = {"VmSerial::writer_mut": "writer_mut ( & mut self ) -> & mut W { & mut self . out }"}
 
 
 class ShellCrate(Crate):
     """The items of the shell, with those of the devices without I/O. `instance` is what stands for the types of objects
     in the function that is at work, such as `NoEvents`."""
-    def __init__(self, folder, core):
-        self.core, self.instance, folder = core, {}, Path(folder)
-        parsers = [ShellParser(file.read_text(), file.relative_to(folder), core) for file in sorted(folder.rglob("*.rs"))]
+    def __init__(self, folder, core, left_out=None):
+        self.core, self.instance, folder, left_out = core, {}, Path(folder), left_out or {}
+        files = {file.relative_to(folder): source(file) for file in sorted(folder.rglob("*.rs"))}
+        parsers = [ShellParser(text, file, core, left_out.get(file, ())) for file, text in files.items()]
         for parser in parsers:
             parser.all = parsers
-        items = {parser.file: self.read(parser) for parser in parsers}
+        items = {parser.file: parser.file_items() for parser in parsers}
         self.scopes = {file: {item.name for item in found if hasattr(item, "name")} for file, found in items.items()}
         self.check_modules(parsers)
+        self.check_imports(parsers)
+        for name in set().union(*(parser.own for parser in parsers)) & {*BUILTIN, *STD.values()}:
+            raise Refused(f"an item named {name}")
         self.consts, self.functions, self.types, self.traits, self.impls = {}, {}, {}, {}, {}
         self.variants = set()
         for found in items.values():
@@ -41,12 +46,23 @@ class ShellCrate(Crate):
         for table in ("consts", "functions", "types"):
             setattr(self, table, {**getattr(core, table), **getattr(self, table)})
 
-    @staticmethod
-    def read(parser):
-        found = parser.items()
-        if parser.next:
-            parser.refuse("an item")
-        return found
+    def check_imports(self, parsers):
+        """A name that a file imports stands for the item at the path, in the shell or in the crate that is `sansio`."""
+        self.paths = Paths({"sansio": self.core.paths})
+        for parser in parsers:
+            self.paths.add(module_of(parser.file), parser.own, parser.imports)
+        files = {module_of(parser.file): parser for parser in parsers}
+        for parser in parsers:
+            for path in parser.imports:
+                found = self.paths.resolve(module_of(parser.file), path)
+                if found and found[2]:
+                    paths, module, name = found
+                    meant = parser.imported.get(path[-1], path[-1])
+                    if meant == (files[module].canonical(name) if paths is self.paths else name):
+                        continue
+                elif found:
+                    continue
+                raise Refused(f"{parser.file}: a use of {'::'.join(path)}")
 
     def check_shell(self):
         for name in {*self.consts, *self.functions, *self.types}:
@@ -55,7 +71,7 @@ class ShellCrate(Crate):
         for trait, owners in self.impls.items():
             if trait not in self.traits or len(owners) != 1:
                 raise Refused(f"the implementations of {trait}")
-        for name, text in HOST_TIME.items():
+        for name, text in (HOST_TIME | LEFT_OUT).items():
             if name in self.functions and self.functions[name].text != text:
                 raise Refused(f"{name} is another function")
 

@@ -44,17 +44,30 @@ REFUSED = {
         "pub fn case() -> u32 { let x: Option<Option<u32> > = Some(None); match x { Some(None) => 1, _ => 2 } }"),
     "bare variant": ("a use of self::Color::Red",
         COLOR + "use self::Color::Red; pub fn case() -> u32 { let c = Color::Green; match c { Red => 1, _ => 2 } }"),
-    "glob use": ("a name expected",
+    "glob use": ("a use of Color::*",
         COLOR + "use Color::*; pub fn case() -> u32 { match Color::Green { Color::Red => 1, _ => 2 } }"),
-    "use as": ("; expected", "use core::cmp::min as least; pub fn case() -> u32 { least(1, 2) }"),
+    "use as": ("a call of a value", "use core::cmp::min as least; pub fn case() -> u32 { least(1, 2) }"),
+    "a function under another name": ("a use of self::n as other",
+        "fn n() -> u32 { 1 } use self::n as other; pub fn case() -> u32 { n() }"),
+    "another name as a pattern": ("a name expected",
+        "const FIVE: u32 = 5; use self::FIVE as NUMBER; pub fn case() -> u32 { let x: u32 = 5; match x { NUMBER => 1, _ => 2 } }"),
+    "another name in a path": ("; expected",
+        "pub mod one { pub const FIVE: u32 = 5; } use self::one::FIVE as NUMBER; pub fn case() -> u32 { NUMBER }"),
     "use core": ("a use of core::cmp::max", "use core::cmp::max; pub fn case() -> u32 { max(1, 2) }"),
     "variable as arm": ("the variable all as an arm",
         "pub fn case() -> u32 { let x: u32 = 5; match x { 1 => 2, all if all > 3 => all, _ => 0 } }"),
     "last arm a variable": ("the variable other as an arm",
         "pub fn case() -> u32 { let x: u32 = 5; match x { 1 => 2, other => other } }"),
-    "alias": ("a mutable reference outside an argument",
-        PAIR + "pub fn case() -> u32 { let mut q = Pair { a: 1, b: 2 }; let r = &mut q.a; *r = 5; q.a }"),
-    "alias of all": ("a mutable reference outside an argument",
+    "alias as an argument": ("a mutable reference",
+        PAIR + "pub fn case() -> u32 { let mut q = Pair { a: 1, b: 2 }; let r = &mut q.a; bump(r) }"),
+    "alias of an alias": ("the reference r as a value",
+        PAIR + "pub fn case() -> u32 { let mut q = Pair { a: 1, b: 2 }; let r = &mut q.a; let s = r; *s = 5; q.a }"),
+    "alias of an item": ("a place that is changed",
+        "pub fn case() -> u32 { let mut q = [1u32, 2]; let r = &mut q[1]; *r = 5; q[1] }"),
+    "alias that may be changed": ("a mutable reference in a variable",
+        """pub fn case() -> u32 { let mut a = 1u32; let mut b = 2u32; let mut r = &mut a; *r = 3; r = &mut b; *r = 4;
+        a + b }"""),
+    "alias of all": ("a mutable reference to Pair in a variable",
         PAIR + "pub fn case() -> u32 { let mut q = Pair { a: 1, b: 2 }; let r = &mut q; r.a = 5; q.a }"),
     "reference as a value": ("the reference q as a value",
         PAIR + """fn set(q: &mut Pair) { let r = q; r.a = 9; } pub fn case() -> u32 { let mut q = Pair { a: 1, b: 2 };
@@ -103,7 +116,6 @@ REFUSED = {
         pub fn case() -> u32 { n() }"""),
     "cfg in a body": ("a name expected",
         "pub fn case() -> u32 { #[cfg(debug_assertions)] let x = 1; #[cfg(not(debug_assertions))] let x = 2; x }"),
-    "tuple field": ("a name expected", "pub fn case() -> u32 { let t = (1u32, 2u32); t.1 }"),
     "tuple struct": ("{ expected", "pub struct Holder(pub u32); pub fn case() -> u32 { let t = Holder(5); t.0 }"),
     "equal names in modules": ("; expected",
         "mod a { pub fn n() -> u32 { 1 } } fn n() -> u32 { 2 } pub fn case() -> u32 { n() + a::n() }"),
@@ -112,6 +124,8 @@ REFUSED = {
     "call of a variable": ("the name two",
         "fn one() -> u32 { 1 } fn two() -> u32 { 2 } pub fn case() -> u32 { let one = two; one() }"),
     "negative": ("an expression", "pub fn case() -> u32 { let x: i64 = -5; if x < 0 { 1 } else { 2 } }"),
+    "part of three": (".0 of", "pub fn case() -> u32 { let p = (1u32, 2u32, 3u32); p.0 }"),
+    "part that is changed": ("a place that is changed", "pub fn case() -> u32 { let mut p = (1u32, 2u32); p.0 = 5; p.0 }"),
     "product of i64": ("* of i64", "pub fn case() -> u32 { let x: i64 = 7; let y = x * x; y as u32 }"),
     "division of i64": ("/ of i64",
         "pub fn case() -> u32 { let x: i64 = 0 - 7; let y: i64 = x / 2; (y + 100) as u32 }"),
@@ -198,6 +212,20 @@ REFUSED = {
 }
 
 RIGHT = {
+    "alias": PAIR + """pub fn case() -> u32 { let mut q = Pair { a: 1, b: 2 }; let r = &mut q.a; *r = 5; *r += *r + r.wrapping_add(2);
+        q.a * 10 + q.b }""",
+    "alias of what is hidden": "pub fn case() -> u32 { let mut n = 1u32; let r = &mut n; let n = 5u32; *r = 7; n * 10 + *r }",
+    "alias of what another hides": """pub fn case() -> u32 { let mut n = 1u32; let r = &mut n; { let mut n = 5u32; n += 1; *r += n; }
+        n }""",
+    "alias in a loop": "pub fn case() -> u32 { let mut n = 1u32; let r = &mut n; for _i in 0..3 { *r = *r * 2; } n }",
+    "alias of a parameter's field": PAIR + """fn set(q: &mut Pair) { let r = &mut q.b; if *r == 2 { *r = r.saturating_add(7); } }
+        pub fn case() -> u32 { let mut q = Pair { a: 1, b: 2 }; set(&mut q); q.a * 100 + q.b }""",
+    "another name": "const FIVE: u32 = 5; use self::FIVE as NUMBER; const MORE: u32 = NUMBER + 1; pub fn case() -> u32 { NUMBER * MORE }",
+    "parts": """fn both(n: u32) -> (u32, (u32, u32)) { (n, (n + 1, n + 2)) } pub fn case() -> u32 { let p = both(3); p.0 * 100 +
+        p.1.0 * 10 + both(4).1.1 }""",
+    "saturating_add": """pub fn case() -> u32 { let a: u8 = 250; let b: u64 = 18446744073709551615; u32::from(a.saturating_add(4)) * 1000 +
+        u32::from(a.saturating_add(9)) + (b.saturating_add(5) / 18446744073709551615) as u32 }""",
+    "must_use with a text": '#[must_use = "it, counts"] pub fn n() -> u32 { 3 } pub fn case() -> u32 { n() }',
     "assignment through a reference":
         "fn set(x: &mut u32) { *x = 5; } pub fn case() -> u32 { let mut n = 1; set(&mut n); n }",
     "sum through a reference":

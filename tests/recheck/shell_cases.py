@@ -99,7 +99,7 @@ REFUSED = {
     "another time": ("vm_moment is another function", device("1", items="fn moment() -> u64 { 5 }")),
     "some of the fields": ("a name expected", device("let Pair { b, .. } = Pair { a: 1, b: 2 }; b")),
     "a field under another name": (", expected", device("let Pair { b, a: c } = Pair { a: 1, b: 2 }; b + c")),
-    "an object that is replaced": ("a mutable reference outside an argument", device(
+    "an object that is replaced": ("a mutable reference to Write in a variable", device(
         "let out = &mut self.out; match out.flush() { Ok(()) => 1, Err(_) => 2 }")),
     "a macro of its own": ("'$", device("one!()", items="macro_rules! one { ($($more:tt)*) => { 1 } }")),
     "a condition of the build": ("cfg(test)", device("1", items="#[cfg(test)] fn two() -> u32 { 2 }")),

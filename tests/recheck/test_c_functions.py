@@ -4,8 +4,10 @@ import re
 
 from harness import ROOT
 
+import rerun
 from c_functions import STANDS_FOR, safe_part
 
+LEFT_OUT = rerun.left_out()[0]["c"][rerun.Path("lib.rs")]
 SOURCE = (ROOT / "bindings/c/from-source/src/lib.rs").read_text()
 RECHECK = (ROOT / "docs/RECHECK.md").read_text()
 FUNCTION = r"^.*\bfn (\w+)"
@@ -17,7 +19,7 @@ def test_unsafe_lines_are_listed():
 
 
 def test_what_is_left_out():
-    left_out = set(re.findall(FUNCTION, SOURCE, re.M)) - set(re.findall(FUNCTION, safe_part(SOURCE), re.M))
+    left_out = set(re.findall(FUNCTION, SOURCE, re.M)) - set(re.findall(FUNCTION, safe_part(SOURCE, LEFT_OUT), re.M))
     assert left_out == {"bytes_at", "store", "stop"}
 
 
@@ -28,5 +30,5 @@ def test_what_stands_for_a_text_is_needed():
 def test_lines_keep_their_numbers():
     """So that a comment in Code.v names the line of lib.rs."""
     named = [{found[1]: at for at, line in enumerate(text.splitlines()) if (found := re.match(FUNCTION, line))}
-             for text in (SOURCE, safe_part(SOURCE))]
+             for text in (SOURCE, safe_part(SOURCE, LEFT_OUT))]
     assert named[1].items() <= named[0].items()

@@ -30,7 +30,7 @@ WRONG = [(DEVICES + file, old, new, proofs) for file, old, new, proofs in [
     ("serial.rs", "if in_buffer_empty {", "if !in_buffer_empty {", CODE),
     ("serial.rs", "if due == 2 && matches!", "if due == 1 && matches!", CODE),
     ("serial.rs", "sends = true;", "sends = false;", CODE),
-    ("serial.rs", "self.is_asserted(Condition::Thre) || self", "self.is_asserted(Condition::Thre) && self", CODE),
+    ("serial.rs", "self.is_asserted(Condition::Thre) | self", "self.is_asserted(Condition::Thre) & self", CODE),
     ("serial.rs", "Register::Scr => self.scratch = value", "Register::Scr => self.line_control = value", CODE),
     ("serial.rs", "usize::from(self.in_buffer.len) <= FIFO_SIZE", "usize::from(self.in_buffer.len) < FIFO_SIZE", CODE),
     ("serial/registers.rs", "MCR_LOOP_BIT: u8 = 0x10", "MCR_LOOP_BIT: u8 = 0x08", CODE),
@@ -75,6 +75,58 @@ WRONG += [(C_FUNCTIONS, old, new, {"Saved", "Claims"}) for old, new in [
     ("const LOADED: u32 = 0", "const LOADED: u32 = 1"),
     ("const NEVER: u64 = u64::MAX", "const NEVER: u64 = 0"),
 ]]
+CONSOLE, RING, CALLS, SAVED_CONSOLE = "bindings/superio/src/console/", {"OutputRing"}, {"ConsoleCode"}, {"ConsoleSaved"}
+WRONG += [(CONSOLE + file, old, new, proofs) for file, old, new, proofs in [
+    ("output_ring.rs", "+ distance) % OUTPUT_SIZE", "+ distance) % 4095", RING),
+    ("output_ring.rs", "if waiting == OUTPUT_SIZE {", "if waiting == 4095 {", RING),
+    ("output_ring.rs", "self.len = (waiting + 1) as u16", "self.len = (waiting + 2) as u16", RING),
+    ("output_ring.rs", "self.head.wrapping_add(taken as u16)", "self.head.wrapping_add(1)", RING),
+    ("output_ring.rs", "self.len = (waiting - taken) as u16", "self.len = waiting as u16", RING),
+    ("output_ring.rs", "(&to_end[..older], &from_start[..waiting - older])", "(&from_start[..waiting - older], &to_end[..older])", RING),
+    ("mod.rs", "&& self.is_asleep == 0;", "&& self.is_asleep != 0;", CALLS),
+    ("mod.rs", "|| self.is_refused != 0 && self", "|| self.is_refused == 0 && self", CALLS),
+    ("mod.rs", "        self.is_refused = 0;\n        if byte", "        if byte", CALLS),
+    ("mod.rs", "(byte, self.port.character_timeout())", "(byte, 0)", CALLS),
+    ("mod.rs", "dropped.saturating_add(1)", "dropped.saturating_add(2)", CALLS),
+    ("mod.rs", "            && !registers.enables(Condition::Thre)\n", "", CALLS),
+    ("mod.rs", "        if due > 0 {\n            self.is_refused = 0;\n        }\n", "", CALLS),
+    ("mod.rs", "            || !before.turn && after.turn;", "            || before.turn && after.turn;", CALLS),
+    ("mod.rs", "DATA_OFFSET | IER_OFFSET | MCR_OFFSET)", "DATA_OFFSET | IER_OFFSET)", CALLS),
+    ("mod.rs", "offset == DATA_OFFSET && self", "offset == IER_OFFSET && self", CALLS),
+    ("mod.rs", "self.retry(true, raised)", "self.retry(false, raised)", CALLS),
+    ("mod.rs", "        self.is_asleep = 0;\n        self.is_refused = 0;\n        self.work", "        self.is_refused = 0;\n        self.work", CALLS),
+    ("saved.rs", "waiting > rest.len()", "waiting >= rest.len()", SAVED_CONSOLE),
+    ("saved.rs", "ALL_BITS: u8 = 0x0F", "ALL_BITS: u8 = 0x1F", SAVED_CONSOLE),
+    ("saved.rs", "is_ready: *flags & READY_BIT", "is_ready: *flags & POLLED_BIT", SAVED_CONSOLE),
+    ("saved.rs", "append(bytes, count, older);\n        let count = append(bytes, count, newer)",
+     "append(bytes, count, newer);\n        let count = append(bytes, count, older)", SAVED_CONSOLE),
+]]
+WRONG += [(SPECS + "superio_console/specs/" + file, old, new, proofs) for file, old, new, proofs in [
+    ("Console.antt", "(c.is_ready || c.is_polled) && not c.is_asleep", "(c.is_ready || c.is_polled)", CALLS),
+    ("Console.antt", "retries Turns = true", "retries Turns = false", CALLS),
+    ("OutputRing.antt", "drop (head % 4096) bytes ++ take (head % 4096) bytes", "drop (head % 64) bytes ++ take (head % 64) bytes", RING),
+    ("Saved.antt", "if nat_lt 15 (slice_index contents 0)", "if nat_lt 31 (slice_index contents 0)", SAVED_CONSOLE),
+]]
+# Definitions and laws of a console that the laws' proofs refuse.
+WRONG += [(SPECS + "superio_console/specs/" + file, old, new, {"ConsoleLaws"}) for file, old, new in [
+    ("Console.antt", "owes_turn c = has_waiting_input c.port || (c.is_refused && irq_level c.port)", "owes_turn c = has_waiting_input c.port"),
+    ("Console.antt", " || (not old.turn && new.turn)", ""),
+    ("Console.antt", "port_calls Turns c = CharacterTimeout ∷ []", "port_calls Turns c = []"),
+    ("Console.antt", "(if answers_none offset (shown_at offset c.port) then CharacterTimeout ∷ [] else [])", "[]"),
+    ("Console.antt", "if c.is_refused && retries call then length (conditions_due (port_after call c))", "if c.is_refused && retries call then 0"),
+    ("Console.antt", "refused_after (Reads offset) c = if offset == 2 then false else c.is_refused", "refused_after (Reads offset) c = false"),
+    ("Console.antt", "ready_after Resets c = false", "ready_after Resets c = c.is_ready"),
+    ("Console.antt", "asleep_after Suspends c = true", "asleep_after Suspends c = c.is_asleep"),
+    ("Console.antt", "if nat_lt (length output) 4096 then output ++ byte ∷ [] else output", "output"),
+    ("Laws.antt", "take (length runs) c.port.in_buffer", "take (1 + length runs) c.port.in_buffer"),
+]]
+WRONG += [(C_FUNCTIONS, old, new, SAVED_CONSOLE | {"Claims"}) for old, new in [
+    ("oldest.len().min(count)", "oldest.len()"),
+    ("Console::new(is_polled)", "Console::new(!is_polled)"),
+]]
+# Conditions of laws that no call meets.
+WRONG += [(SPECS + "superio_laws/specs/Serial/Laws/Console.antt", old, old + "  pub never : IsTrue false\n", {"PortLaws", "Witnesses"})
+          for old in ("  pub asks : AsksWhenGiven driver start before run\n", "  pub unread : NoIirRead start turn before\n")]
 EMPTY = "        if effects.in_buffer_empty {\n            self.events.in_buffer_empty();\n        }\n"
 READ = "        if effects.buffer_read {\n            self.events.buffer_read();\n        }\n"
 WRONG += [(SHELL + file, old, new, {"Shell", "Claims"}) for file, old, new in [
@@ -110,28 +162,52 @@ HARMLESS = [(DEVICES + file, old, new) for file, old, new in [
 HARMLESS += [(SHELL + file, old, new) for file, old, new in [
     ("i8042.rs", "self.reset_evt.trigger()?;", "return self.reset_evt.trigger();"),
 ]]
+# Definitions that say less, with which all is proved: Coq says other things of them.
+WEAKER = [
+    (SPECS + "superio_laws/specs/Serial/Laws/Transmit.antt", "  pub due : IsTrue (is_call_due condition start (earlier ++ before) entry)\n",
+     "  pub due : later ≡ later\n", "-Definitions of crates"),
+    ("recheck/Calls.v", "  | Read offset => offset < 256\n", "  | Read offset => offset < 3\n", "+| Read offset => offset < 3"),
+]
+
+
+def copy_sources(folder):
+    """What the run reads of the repository, but for recheck."""
+    for source in ("superio", "rust", "c"):
+        shutil.copytree(ROOT / "bindings" / source, folder / "bindings" / source, ignore=shutil.ignore_patterns("target"))
+    for crate in ("superio_core", "superio_laws", "superio_console", "vm_superio"):
+        shutil.copytree(ROOT / SPECS / crate / "specs", folder / SPECS / crate / "specs")
 
 
 def planted(checked, folder, file, old, new):
     """A copy of what is checked, with one change of a source, and the names of the files that are to be checked anew."""
-    for source in (DEVICES, SHELL, *(f"{SPECS}{crate}/specs" for crate in ("superio_core", "superio_laws", "vm_superio"))):
-        shutil.copytree(ROOT / source, folder / source)
-    (folder / C_FUNCTIONS).parent.mkdir(parents=True)
-    shutil.copy(ROOT / C_FUNCTIONS, folder / C_FUNCTIONS)
-    text = (folder / file).read_text(encoding="utf-8")
-    assert old in text, f"{file} has no {old!r}"
-    (folder / file).write_text(text.replace(old, new, 1), encoding="utf-8")
     proofs = folder / "proofs"
     shutil.copytree(checked[0], proofs)
+    if file.startswith("recheck/"):
+        changed = {replaced(proofs / file.rpartition("/")[2], old, new).stem}
+        return proofs, with_requiring(proofs, changed)
+    copy_sources(folder)
+    replaced(folder / file, old, new)
     changed = set()
-    for name, translation in rerun.translated(folder)[0].items():
+    for name, translation in rerun.translated(folder, around=False)[0].items():
         if (proofs / f"{name}.v").read_text() != translation:
             (proofs / f"{name}.v").write_text(translation)
             changed.add(name)
-    needs = rerun.requirements(proofs)
+    return proofs, with_requiring(proofs, changed)
+
+
+def replaced(file, old, new):
+    text = file.read_text(encoding="utf-8")
+    assert old in text, f"{file} has no {old!r}"
+    file.write_text(text.replace(old, new, 1), encoding="utf-8")
+    return file
+
+
+def with_requiring(folder, changed):
+    """These files, and all that require them."""
+    needs = rerun.requirements(folder)
     while more := {name for name, required in needs.items() if required & changed} - changed:
-        changed |= more
-    return proofs, changed - {"Audit"}
+        changed = changed | more
+    return changed - {"Audit", "Statements"}
 
 
 def with_required(folder, names):
@@ -163,3 +239,14 @@ def test_harmless(file, old, new, checked, tmp_path):
     folder, changed = planted(checked, tmp_path, file, old, new)
     assert "Claims" in changed
     rerun.check(folder, JOBS, changed)
+
+
+@pytest.mark.where("variable RECHECK_PLANTS")
+@pytest.mark.needs("coq")
+@pytest.mark.parametrize("file, old, new, line", WEAKER, ids=short)
+def test_weaker(file, old, new, line, checked, tmp_path):
+    folder, changed = planted(checked, tmp_path, file, old, new)
+    rerun.check(folder, JOBS, changed)
+    with pytest.raises(rerun.Failed) as failed:
+        rerun.compare_statements(folder)
+    assert line in str(failed.value), failed.value

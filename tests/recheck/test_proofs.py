@@ -12,7 +12,7 @@ pytestmark = pytest.mark.needs("coq", "cargo")
 
 
 def test_every_claim_is_proved(checked):
-    assert int(re.fullmatch(r"proved again: (\d+) theorems\n", checked[1])[1]) >= 128
+    assert int(re.fullmatch(r"proved again: (\d+) theorems\n", checked[1])[1]) >= 197
 
 
 def test_code_does_what_coq_computes(checked, tmp_path):
@@ -80,3 +80,33 @@ Theorem retries : RetryLaw. Proof. exact I. Qed.
 """)
     assert found.startswith("Audit.v is not proved")
     assert 'has type "Claims.RetryLaw" while it is expected to have type "Definitions.RetryLaw"' in " ".join(found.split())
+
+
+def test_a_warning_fails(tmp_path):
+    (tmp_path / "Warned.v").write_text("Lemma fact : 0 = 0. Proof. reflexivity. Qed.\nHint Resolve fact : core.\n")
+    with pytest.raises(rerun.Failed, match="Warned.v is not proved"):
+        rerun.coqc(tmp_path, "Warned")
+
+
+# A change of what is proved, in a file of Coq, and a line of what the run says then.
+OTHERS = {
+    "a theorem that is gone": ("Claims", r"Theorem uart_new : (?s:.*?)Qed\.\n", "", "-Claims.uart_new"),
+    "a weaker theorem": ("Claims", r"Theorem retries : RetryLaw\. .*", "Theorem retries : RetryLaw + True. Proof. right. exact I. Qed.",
+                         "+     : RetryLaw + True"),
+    "a hypothesis": ("Claims", r"(?=Implicit Types \(calls)", "Context {never : T -> False}.\nDefinition used := never.\n", "+Claims.used = "),
+    "a witness that is gone": ("Witnesses", r"Definition used_waiting_bytes (?s:.*?)\.\n", "", "-Witnesses.used_waiting_bytes"),
+}
+
+
+@pytest.mark.parametrize("name", OTHERS)
+def test_another_statement_fails(name, checked, tmp_path):
+    file, old, new, line = OTHERS[name]
+    folder = tmp_path / "changed"
+    shutil.copytree(checked[0], folder)
+    text, count = re.subn(old, new, (folder / f"{file}.v").read_text(), count=1)
+    assert count == 1
+    (folder / f"{file}.v").write_text(text)
+    rerun.check(folder, 1, {"Claims", "Witnesses"} if file == "Claims" else {file})
+    with pytest.raises(rerun.Failed) as failed:
+        rerun.compare_statements(folder)
+    assert line in str(failed.value), failed.value

@@ -61,6 +61,12 @@ CRATES = {
     "a constant that is not in scope": ("which is not in scope", {
         "lib.rs": "mod more; pub fn case() -> u32 { let x: u32 = 5; match x { FIVE => 1, _ => 2 } }",
         "more.rs": "pub const FIVE: u32 = 4;"}),
+    "the own name of what has another": ("which is not in scope", {
+        "lib.rs": "mod more; use more::FOUR as NUMBER; pub fn case() -> u32 { let x: u32 = 5; match x { FOUR => 1, _ => NUMBER } }",
+        "more.rs": "pub const FOUR: u32 = 4;"}),
+    "another name that is brought in": ("a use of more::NUMBER", {
+        "lib.rs": "mod more; use more::NUMBER; pub fn case() -> u32 { NUMBER }",
+        "more.rs": "pub const FOUR: u32 = 4; pub use self::FOUR as NUMBER;"}),
     "another crate": ("a use of superio::n", {"lib.rs": "use superio::n; pub fn case() -> u32 { n() }"}),
     "equal names in two files": ("two items are named n", {
         "lib.rs": "mod more; fn n() -> u32 { 1 } pub fn case() -> u32 { n() }", "more.rs": "pub fn n() -> u32 { 2 }"}),

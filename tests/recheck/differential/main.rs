@@ -1,12 +1,17 @@
 // SPDX-License-Identifier: Apache-2.0 OR BSD-3-Clause
 //! Makes random calls of every public function, and prints how many, and a sum of all that they return and leave.
 //! Differential.v does the same with the translation: the same numbers, in the same order.
+#[path = "../../../bindings/superio/src/console/mod.rs"]
+mod console;
 #[path = "../../../bindings/superio/src/devices/mod.rs"]
 #[allow(dead_code, unused_imports)]
 mod devices;
 
+use console::saved::CONSOLE_SAVED_MAX;
+use console::{Console, Work};
+use devices::{fifo, saved, serial};
 use devices::saved::SavedStateError;
-use devices::serial::registers::{Register, Registers};
+use devices::serial::registers::{Condition, Register, Registers};
 use devices::serial::{Asked, EnqueueEffects, ReadEffects, WriteEffects};
 use devices::{is_reset_command, Pl031, RtcState, Uart};
 
@@ -66,6 +71,18 @@ impl Run {
         self.add(clock.armed);
     }
 
+    fn console(&mut self, console: &Console) {
+        self.port(&console.port);
+        self.add(console.output.head.into());
+        self.add(console.output.len.into());
+        self.add(console.dropped);
+        self.add_all(&[console.is_polled, console.is_ready, console.is_asleep, console.is_refused]);
+    }
+
+    fn work(&mut self, work: Work) {
+        self.add(u64::from(work.interrupts) * 4 + u64::from(work.is_up) * 2 + u64::from(work.wakes));
+    }
+
     fn option(&mut self, found: Option<u64>) {
         self.add(found.is_some().into());
         self.add(found.unwrap_or(0));
@@ -80,6 +97,7 @@ impl Run {
             SavedStateError::WrongLength => 3,
             SavedStateError::TooManyBytes => 4,
             SavedStateError::InvalidArmed => 5,
+            SavedStateError::InvalidFlags => 6,
         };
         self.add(1000 + number);
     }
@@ -100,7 +118,7 @@ impl Run {
     fn damaged(&mut self, mut bytes: Vec<u8>) -> Vec<u8> {
         match self.next(4) {
             0 => {
-                let at = self.next(bytes.len() as u64) as usize;
+                let at = self.next(1000.min(bytes.len() as u64)) as usize;
                 bytes[at] = self.next(256) as u8;
             }
             1 => bytes.truncate(self.next(40) as usize),
@@ -171,7 +189,14 @@ fn registers_calls(run: &mut Run, port: &mut Uart) {
         5 => { run.add(registers.interrupts_due().into()); run.call(); run.add(registers.interrupt_line().into()); }
         6 => { run.add(registers.is_loopback().into()); run.call(); run.add(registers.is_coherent(true).into()); }
         7 => { run.add(registers.is_coherent(false).into()); }
-        8 => { let offset = run.next(10) as u8; run.add(registers.decode(offset) as u64); }
+        8 => {
+            let offset = run.next(10) as u8;
+            run.add(registers.decode(offset) as u64);
+            run.call();
+            run.add(registers.enables(Condition::Rda).into());
+            run.call();
+            run.add(registers.enables(Condition::Thre).into());
+        }
         9 => {
             let (due, asked) = (run.next(4) as u8, run.next(5));
             let asked = [Asked::Nothing, Asked::Took, Asked::Refused, Asked::TookTook, Asked::TookRefused][asked as usize];
@@ -232,14 +257,90 @@ fn clock_calls(run: &mut Run, clock: &mut Pl031) {
     run.clock(clock);
 }
 
+fn console_calls(run: &mut Run, console: &mut Console) {
+    match run.next(20) {
+        0..=3 => {
+            let offset = run.next(6) as u8;
+            let found = console.read(offset);
+            run.add(found.byte.into());
+            run.work(found.work);
+        }
+        4..=8 => {
+            let (offset, value) = (run.next(6) as u8, run.next(256) as u8);
+            let found = console.write(offset, value);
+            run.work(found);
+        }
+        9 => {
+            let input = run.input();
+            let found = console.receive(&input);
+            run.add(found.accepted as u64);
+            run.work(found.work);
+        }
+        10 => { let found = console.turn(); run.work(found); }
+        11 => { let found = console.refuse(); run.work(found); }
+        12 => {
+            let wants = console.wants();
+            run.add(wants.input as u64 * 4 + u64::from(wants.output) * 2 + u64::from(wants.turn));
+            run.call();
+            run.add(console.is_full().into());
+            run.call();
+            run.add(console.dropped());
+        }
+        13 => {
+            run.add_all(console.output());
+            run.call();
+            let count = run.next(1000) as usize;
+            console.consume(count);
+        }
+        14 => { let is_polled = run.next(2) == 1; let found = console.set_polled(is_polled); run.work(found); }
+        15 => console.suspend(),
+        16 => { let found = console.reset(); run.work(found); }
+        17 => {
+            let mut bytes = [7; CONSOLE_SAVED_MAX];
+            let count = console.save(&mut bytes);
+            run.call();
+            run.add_all(&bytes[..count]);
+            run.add(bytes[CONSOLE_SAVED_MAX - 1].into());
+            let bytes = run.damaged(bytes[..count].to_vec());
+            match console.load(&bytes) {
+                Ok(()) => run.add(1),
+                Err(error) => run.error(error),
+            }
+            let kind = run.next(4) as u8;
+            run.call();
+            run.add_all(&saved::header(kind, count as u16));
+            run.call();
+            match saved::decode_header(kind, &bytes) {
+                Ok(contents) => run.add(contents.len() as u64),
+                Err(error) => run.error(error),
+            }
+        }
+        18 => {
+            // any contents
+            let bytes = run.bytes(9);
+            console.output.head = u16::from(bytes[0]) * 256 + u16::from(bytes[1]);
+            console.output.len = u16::from(bytes[2]) * 32 + u16::from(bytes[3]);
+            console.dropped = u64::MAX - u64::from(bytes[4] % 4);
+            console.is_polled = bytes[5] % 2;
+            console.is_ready = bytes[6];
+            console.is_asleep = bytes[7] % 2;
+            console.is_refused = bytes[8];
+        }
+        _ => { let is_polled = run.next(2) == 1; *console = Console::new(is_polled); }
+    }
+    run.call();
+    run.console(console);
+}
+
 fn main() {
     let mut arguments = std::env::args().skip(1).map(|it| it.parse().expect("a number"));
     let (turns, seed): (u64, u64) = (arguments.next().expect("turns"), arguments.next().expect("a seed"));
     let mut run = Run { seed, sum: 5381, calls: 0 };
-    let (mut port, mut clock) = (Uart::new(), Pl031::new());
+    let (mut port, mut clock, mut console) = (Uart::new(), Pl031::new(), Console::new(true));
     for _ in 0..turns {
         match run.next(8) {
-            0..=3 => uart_calls(&mut run, &mut port),
+            0..=2 => uart_calls(&mut run, &mut port),
+            3 => console_calls(&mut run, &mut console),
             4..=5 => registers_calls(&mut run, &mut port),
             6 => clock_calls(&mut run, &mut clock),
             _ => {

@@ -1,0 +1,138 @@
+# SPDX-License-Identifier: Apache-2.0 OR BSD-3-Clause
+"""The run reads all that Cargo compiles: what it neither translates nor lists is refused, and so is another layout, header
+or manifest."""
+import re
+import shutil
+
+import pytest
+from test_plants import C_FUNCTIONS, DEVICES, ROOT, SHELL, copy_sources
+
+import expanded
+import rerun
+import rust2coq
+
+CORE = "bindings/superio/src/"
+QUICK = "pub(crate) fn guest_time(_offset: i64, time: u32) -> u32 {\n    time\n}\n"
+INHERENT = """impl<T: crate::Trigger, EV: crate::serial::SerialEvents, W: std::io::Write> crate::Serial<T, EV, W> {
+    pub fn character_timeout(&mut self) -> Result<(), crate::serial::Error<T::E>> { Ok(()) }
+}
+"""
+# What is changed: files, each with what stands there ("" is the end) and what is put in its place; and why it is refused.
+CHANGES = {
+    "a macro of a known name": ([(CORE + "lib.rs", "#[rustfmt::skip]", "macro_rules! matches { ($e:expr, $p:pat) => { match $e { $p => false, _ => true } } }\n#[rustfmt::skip]")],
+                                "'$e:expr"),
+    "a module at another path": ([(CORE + "lib.rs", "mod devices;", '#[path = "devices/mod.rs"]\nmod devices;')], 'the attribute path="devices/mod.rs"'),
+    "an item beside a glob": ([(CORE + "lib.rs", "", "pub fn is_reset_command(_offset: u8, _value: u8) -> bool { false }\n")],
+                              "two items are named is_reset_command"),
+    "an inherent method": ([(CORE + "error_text.rs", "", "impl ArrayFifo { pub fn is_empty(&self) -> bool { false } }\n")],
+                           "two items are named ArrayFifo::is_empty"),
+    "a module in a file": ([(CORE + "lib.rs", "mod error_text;", "mod error_text;\nmod quick { }")], "; expected: { }"),
+    "a file with an item of a known name": (
+        [(CORE + "lib.rs", "mod error_text;", "mod error_text;\nmod quick;"), (CORE + "quick.rs", None, QUICK),
+         (DEVICES + "rtc_pl031.rs", "use alarm::{guest_time, seconds_until};", "use crate::quick::guest_time;\nuse alarm::seconds_until;")],
+        "two items are named guest_time"),
+    "an import from elsewhere": ([(DEVICES + "rtc_pl031.rs", "use alarm::{guest_time", "use encoding::{guest_time")], "a use of encoding::guest_time"),
+    "an import of the shell from elsewhere": ([(SHELL + "serial.rs", "use crate::sansio::Uart;", "use crate::sansio::saved::Uart;")],
+                                              "a use of crate::sansio::saved::Uart"),
+    "an implementation in a body": ([(DEVICES + "fifo.rs", "", "fn note() { impl ArrayFifo { pub fn len(&self) -> usize { 0 } } }\n")],
+                                    "a statement: impl ArrayFifo"),
+    "an item in what is left out": ([(SHELL + "serial.rs", "        let state = self.state();\n        f.debug_struct", INHERENT + "        f.debug_struct")],
+                                    "serial.rs"),
+    "a body that is left out": ([(SHELL + "serial/events.rs", "self.as_ref().out_byte();", "self.as_ref().tx_lost_byte();")],
+                                "serial/events.rs"),
+    "a module of tests": ([(SHELL + "serial.rs", "mod state;\n", "mod state;\n#[cfg(test)]\nmod tests;\n" + INHERENT)], "the attribute cfg(test)"),
+    "a method of tests": ([(SHELL + "lib.rs", "\n    fn trigger", "\n    #[cfg(test)]\n    fn never(&self);\n    fn trigger")], "the attribute cfg(test)"),
+    "cfg": ([(DEVICES + "i8042.rs", "#[inline(always)]", '#[cfg(feature = "std")]')], 'the attribute cfg(feature="std")'),
+    "writer_mut": ([(SHELL + "serial.rs", "&mut self.out\n", "self.port = Uart::new(); &mut self.out\n")], "VmSerial::writer_mut is another function"),
+    "store": ([(C_FUNCTIONS, "Err(error) => load_status(error),\n    }\n}\n\n#", "Err(_) => LOADED,\n    }\n}\n\n#")], "it has not what is left out: unsafe fn store"),
+    "bytes_at": ([(C_FUNCTIONS, "if count == 0", "if count <= 1")], "it has not what is left out: unsafe fn bytes_at"),
+    "an item after a comment": ([(C_FUNCTIONS, "use superio::{is_reset_command, ", "// *const\nuse superio::is_reset_command as unused;\nuse superio::{")],
+                                "a use of crate::is_reset_command as unused"),
+    "a function that C cannot call": ([(C_FUNCTIONS, 'pub extern "C" fn superio_abi', "pub fn superio_abi")], "a public function that is not exported"),
+    "a function under another name": ([(C_FUNCTIONS, '#[no_mangle]\npub extern "C" fn superio_abi', 'pub extern "C" fn superio_abi')], "an item: extern"),
+    "a layout of Rust": ([(DEVICES + "rtc_pl031.rs", "#[repr(C)]\n", "")], "Pl031 has not the layout of C"),
+    "fields in another order": ([(C_FUNCTIONS, "    pub value: u32,\n    pub invalid_read: bool,", "    pub invalid_read: bool,\n    pub value: u32,")],
+                                "superio.h: superio_rtc_read_effects"),
+    "another binary interface": ([(C_FUNCTIONS, "ABI: u32 = 5", "ABI: u32 = 6")], "SUPERIO_ABI is not ABI"),
+    "parameters in another order": ([(C_FUNCTIONS, "superio_i8042_write(offset: u8, value: u8)", "superio_i8042_write(value: u8, offset: u8)")],
+                                    "superio.h: superio_i8042_write"),
+    "another crate superio": ([("bindings/rust/Cargo.toml", '"../superio"', '"../other"')], "bindings/rust/Cargo.toml: dependencies: superio: path: ../other"),
+    "a patch": ([("bindings/rust/Cargo.toml", "", '[patch.crates-io]\nsuperio = { path = "../other" }\n')], "bindings/rust/Cargo.toml: patch"),
+    "another root": ([("bindings/rust/Cargo.toml", "[lib]\n", '[lib]\npath = "src/other.rs"\n')], "bindings/rust/Cargo.toml: lib: path"),
+    "a build script": ([("bindings/superio/build.rs", None, "fn main() {}\n")], "bindings/superio/build.rs"),
+    "a carriage return": ([(DEVICES + "i8042.rs", "    offset ==", "    // \r    return true;\n    offset ==")], "a carriage return"),
+    "a workspace above": ([("bindings/Cargo.toml", None, "[workspace]\n")], "has settings of Cargo"),
+    "an implementation of Clone": ([(DEVICES + "fifo.rs", "", "impl Clone for ArrayFifo { fn clone(&self) -> ArrayFifo { ArrayFifo::new() } }\n")],
+                                   "an implementation of Clone"),
+    "a type of a known name": ([(SHELL + "serial/state.rs", "", "pub struct Vec { n: u32 }\n")], "an item named Vec"),
+    "a type of C with another meaning": ([("bindings/c/superio.h", "#include <stdint.h>\n", "#include <stdint.h>\n#define uint32_t uint16_t\n"),
+                                          ("bindings/c/from-source/superio.h", "#include <stdint.h>\n", "#include <stdint.h>\n#define uint32_t uint16_t\n")],
+                                         "superio.h: #define uint32_t uint16_t"),
+    "a further bound": ([(SHELL + "serial.rs", "impl<T: Trigger, EV: SerialEvents, W: Write> Serial", "impl<T: Trigger, EV: SerialEvents + Copy, W: Write> Serial")],
+                        "a bound of EV"),
+    "a smaller maximum in C": ([(f"bindings/c/{folder}superio.h", "SUPERIO_SERIAL_SAVED_MAX 81", "SUPERIO_SERIAL_SAVED_MAX 17") for folder in ("", "from-source/")],
+                               "SUPERIO_SERIAL_SAVED_MAX is not SAVED_MAX"),
+    "another number of a fault in C": ([(f"bindings/c/{folder}superio.h", "OTHER_DEVICE = 3", "OTHER_DEVICE = 4") for folder in ("", "from-source/")],
+                                       "superio.h: otherdevice: 4, and in Rust 3"),
+    "settings of Cargo": ([("bindings/superio/.cargo/config.toml", None, "")], "bindings/superio/.cargo"),
+}
+
+
+@pytest.fixture(scope="module")
+def sources(tmp_path_factory):
+    folder = tmp_path_factory.mktemp("sources")
+    copy_sources(folder)
+    return folder
+
+
+def changed(sources, root, changes):
+    shutil.copytree(sources, root)
+    for file, old, new in changes:
+        (root / file).parent.mkdir(exist_ok=True)
+        text = "" if old is None else (root / file).read_text()
+        assert old is None or old in text, f"{file} has no {old!r}"
+        (root / file).write_bytes((text.replace(old, new, 1) if old else text + new).encode())
+
+
+@pytest.mark.parametrize("name", CHANGES)
+def test_refused(name, sources, tmp_path):
+    changes, why = CHANGES[name]
+    root = tmp_path / "root"
+    changed(sources, root, changes)
+    with pytest.raises(rust2coq.Refused, match=re.escape(why)):
+        rerun.translated(root)
+
+
+# What rustc reads in another way than it stands there.
+HIDDEN = {
+    "a macro of a known name": CHANGES["a macro of a known name"][0],
+    "a module at another path": [(CORE + "lib.rs", "mod error_text;", '#[path = "other.rs"]\nmod extra;\nmod error_text;'),
+                                 (CORE + "other.rs", None, QUICK), (CORE + "extra.rs", None, QUICK.replace("time\n", "time + 1\n"))],
+    "cfg": [(DEVICES + "i8042.rs", "pub fn is", '#[cfg(any())]\npub fn is_reset_command(_: u8, _: u8) -> bool {\n    true\n}\n\npub fn is')],
+    "an attribute of a statement": [(DEVICES + "i8042.rs", "    offset ==", "    #[cfg(any())]\n    return true;\n    offset ==")],
+}
+
+
+def compared(root, folder, rustc="rustc"):
+    return [*expanded.compare(root, rustc, rerun.CRATES, rerun.left_out()[0], folder)]
+
+
+@pytest.mark.needs("cargo")
+@pytest.mark.parametrize("rustc", ["rustc", "/usr/bin/rustc"])
+def test_rustc_reads_the_same(rustc, tmp_path):
+    if not shutil.which(rustc):
+        pytest.skip(f"no {rustc}")
+    assert [folder.name for folder, count in compared(ROOT, tmp_path, rustc) if count > 900] == ["superio", "from-source", "rust"]
+
+
+@pytest.mark.needs("cargo")
+@pytest.mark.parametrize("name", HIDDEN)
+def test_rustc_reads_something_else(name, sources, tmp_path):
+    changed(sources, tmp_path / "root", HIDDEN[name])
+    with pytest.raises(rust2coq.Refused, match="rustc reads|'\\$e:expr"):
+        compared(tmp_path / "root", tmp_path)
+
+
+def test_nothing_else_is_left_out():
+    """The lists name files that are there; each item of them is left out, or the run fails."""
+    assert [path for path in rerun.rust_tree.left_out((ROOT / "recheck/left-out.rs").read_text()) if not (ROOT / path).exists()] == []
