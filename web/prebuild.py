@@ -24,8 +24,8 @@ ROOT = Path(__file__).resolve().parent.parent
 sys.path[:0] = [str(ROOT / "tests" / "common"), str(ROOT / "bindings" / "python")]
 from cargo import DEBIAN_RUSTC  # noqa: E402
 from libraries import PREBUILT, replace_lines, source_line, sums_of  # noqa: E402
-from superio.library import ABI, RTC_SAVED_SIZE, RtcStruct  # noqa: E402
-from superio.registers import CLOCK, SERIAL, RtcState, SerialState  # noqa: E402
+from superio.library import ABI, RTC_SAVED_SIZE, ConsoleStruct, RtcStruct  # noqa: E402
+from superio.registers import CLOCK, OUTPUT_SIZE, SERIAL, ConsoleState, RtcState, SerialState  # noqa: E402
 from superio.saved import SAVED_STATE_ERRORS  # noqa: E402
 from harness import run, takes_no_argument  # noqa: E402
 
@@ -44,8 +44,8 @@ OPTIONS = [*f"--target {TARGET} --edition 2021 -C opt-level=z -C panic=abort -C 
 MODULE_OPTIONS = """--crate-name superio_c --crate-type cdylib -C lto=fat -C strip=symbols
     -C link-arg=-zstack-size=16384 -C link-arg=--initial-memory=131072""".split()
 # Kinds of numbers, as DataView names them, and types of fields, as TypeScript does.
-KINDS = {ctypes.c_uint32: "Uint32", ctypes.c_int64: "BigInt64", ctypes.c_uint64: "BigUint64"}
-TYPES = {"int": "number", "bool": "boolean", "bytes": "Uint8Array"}
+KINDS = {ctypes.c_uint8: "Uint8", ctypes.c_uint32: "Uint32", ctypes.c_int64: "BigInt64", ctypes.c_uint64: "BigUint64"}
+TYPES = {"int": "number", "bool": "boolean", "bytes": "Uint8Array", "SerialState": "SerialState"}
 # A field of a state in registers.py: its name, type and default, and the comment.
 FIELD = re.compile(r"^    (\w+): (\w+) = ([^#\n]*)(?:# (.*))?$", re.M)
 
@@ -72,19 +72,26 @@ def camel(name):
     return re.sub("_(.)", lambda found: found[1].upper(), name)
 
 
+def fields_of(state, struct):
+    """Of each number and flag of a state its name, its place in the struct, its kind, and whether it is a flag."""
+    return [(camel(name), getattr(struct, name).offset, KINDS[kind], isinstance(getattr(state, name), bool))
+            for name, kind in state.kinds().items()]
+
+
 def tables():
     """The tables of the Python package, by their names in module.mjs: a register without its text, and with its bits
-    from the lowest on; the registers of the port's struct, in their order; of a field of the clock's struct the name,
-    the place, the kind, and whether it is a flag."""
+    from the lowest on; the registers of the port's struct, in their order; the fields of the structs of the clock and
+    of the console, and where the console has the count and the bytes of its output."""
     serial, clock = ([one._replace(bits=sorted(one.bits))._asdict() for one in registers.values()]
                      for registers in (SERIAL, CLOCK))
     for row in (*serial, *clock):
         del row["about"]
-    fields = [(name, getattr(RtcStruct, name).offset, KINDS[kind], isinstance(getattr(RtcState, name), bool))
-              for name, kind in RtcStruct._fields_]
     port = [camel(name) for name in SerialState.kinds()]
     return {"ABI": ABI, "CLOCK_SIZE": ctypes.sizeof(RtcStruct), "CLOCK_SAVED_SIZE": RTC_SAVED_SIZE,
-            "SAVED_STATE_ERRORS": SAVED_STATE_ERRORS, "PORT_FIELDS": port, "CLOCK_STRUCT": fields,
+            "CONSOLE_SIZE": ctypes.sizeof(ConsoleStruct), "OUTPUT_SIZE": OUTPUT_SIZE,
+            "OUTPUT_COUNT": ConsoleStruct.output_len.offset, "OUTPUT_BYTES": ConsoleStruct.output_bytes.offset,
+            "SAVED_STATE_ERRORS": SAVED_STATE_ERRORS, "PORT_FIELDS": port,
+            "CLOCK_STRUCT": fields_of(RtcState, RtcStruct), "CONSOLE_STRUCT": fields_of(ConsoleState, ConsoleStruct),
             "SERIAL_ROWS": serial, "CLOCK_ROWS": clock}
 
 
@@ -104,11 +111,12 @@ def embedded():
 def declared():
     """The text of superio.d.ts, with the fields of states and the reasons by the Python package."""
     text = DECLARED.read_text(encoding="utf-8")
-    for state in (SerialState, RtcState):
+    for state in (SerialState, RtcState, ConsoleState):
         lines = []
         for name, kind, default, comment in FIELD.findall(inspect.getsource(state)):
             lines += [f"  /** {comment[0].upper()}{comment[1:]}. */"] if comment else []
-            lines.append(f"  {camel(name)}: {'bigint' if 'c_int64' in default else TYPES[kind]};")
+            is_big = kind == "int" and "int64" in default
+            lines.append(f"  {camel(name)}: {'bigint' if is_big else TYPES[kind]};")
         text = re.sub(rf"(?<=interface {state.__name__} {{\n)[^}}]*", "\n".join([*lines, ""]), text)
     reasons = "".join(f'\n    | "{reason}"' for reason in SAVED_STATE_ERRORS)
     return re.sub(r"(?<=readonly reason:)[^;]*", reasons, text)

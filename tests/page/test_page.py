@@ -20,7 +20,7 @@ from harness import ROOT, at_least
 from script_tests import board_scripts
 
 HERE = Path(__file__).parent
-MOST_BYTES, RANDOM_SCRIPTS = 70_000, 10_000
+MOST_BYTES, RANDOM_SCRIPTS = 72_000, 10_000
 LIMIT = 240   # seconds for all that is tried in the browser
 # Frames of files may be read, and elements have the names that a screen reader says. The super-user has no sandbox.
 BROWSER = ["chromium", "--headless", "--disable-gpu", "--no-first-run", "--hide-scrollbars", "--window-size=1300,900",
