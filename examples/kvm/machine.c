@@ -88,18 +88,20 @@ static void serve(void) {
     default:
         warnx("KVM gives up, for reason %u, error %u", run->exit_reason, run->internal.suberror);
         monitor_end(1, run->exit_reason == KVM_EXIT_SHUTDOWN ? "a triple fault" : "the guest cannot go on");
+        break;
     }
 }
 
 /* What the vCPU's thread does. */
 void *machine_run(void *nothing) {
-    for (;;) {
+    for (bool goes_on = true; goes_on;) {
         int result = ioctl(vcpu, KVM_RUN, NULL), error = errno;
         pthread_mutex_lock(&lock);
         if (result == 0)
             serve();
         else if (error != EINTR)
             errx(1, "KVM_RUN: %s", strerror(error));
+        goes_on = !monitor_is_ending();
         pthread_mutex_unlock(&lock);
     }
     return nothing;

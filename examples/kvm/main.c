@@ -2,6 +2,7 @@
 /* The monitor: its start, the user's terminal, the event loop, and the end. */
 #include "monitor.h"
 
+#include <inttypes.h>
 #include <poll.h>
 #include <signal.h>
 #include <termios.h>
@@ -11,12 +12,16 @@ static const char USAGE[] =
     "Boots IMAGE if it is a bzImage of Linux, with the command line WORDS. Starts any other at 0x7C00 in real mode.\n"
     "With -e the guest gets input before it has enabled its interrupt, as one that polls needs it.\n"
     "Ctrl-A x leaves. Ctrl-A before any other key stands for that key.\n";
-enum { CTRL_A = 0x01, PATIENCE = 1000 /* milliseconds */ };
+enum { CTRL_A = 0x01, PATIENCE = 1000, PAUSE = 5 /* milliseconds */, MOST_WRITES = 256 /* in a turn */ };
 
 pthread_mutex_t lock = PTHREAD_MUTEX_INITIALIZER;
-static struct termios before; /* the terminal's settings, if there is one */
-static int timer;             /* of the next turn of the event loop */
-static unsigned long dropped; /* bytes of output */
+static struct termios before;  /* the terminal's settings, if there is one */
+static int wakes;              /* an eventfd, which ends the poll of the event loop */
+static const char *end_reason; /* why the monitor is to end, if it is, */
+static int end_status;         /* and with which status */
+static pthread_cond_t has_room = PTHREAD_COND_INITIALIZER; /* the output */
+static bool is_stuck;          /* its reader has taken nothing for long */
+static uint64_t refused;       /* bytes of output, by a pipe that is closed or a disk that is full */
 
 /* The result of a call that has to succeed. */
 int must(int result, const char *what) {
@@ -28,16 +33,6 @@ int must(int result, const char *what) {
 /* At each exit, and in the handler of signals. Without a terminal it has no effect. */
 static void restore_terminal(void) {
     tcsetattr(STDIN_FILENO, TCSANOW, &before);
-}
-
-/* The caller, of either thread, holds the lock and keeps it, so that the other one does nothing more. */
-void monitor_end(int status, const char *why) {
-    restore_terminal();
-    if (dropped > 0)
-        warnx("%s; %lu bytes of output were dropped", why, dropped);
-    else
-        warnx("%s", why);
-    _exit(status);
 }
 
 /* The first time, a signal that ends the monitor comes here. */
@@ -58,75 +53,128 @@ static void open_terminal(void) {
     tcsetattr(STDIN_FILENO, TCSANOW, &raw);
 }
 
-/* Writes a byte once the terminal has room, for which it waits so many milliseconds. Otherwise errno says why not. */
-static bool write_byte(uint8_t byte, int patience) {
-    struct pollfd output = {.fd = STDOUT_FILENO, .events = POLLOUT};
-    do {
-        int ready = poll(&output, 1, patience);
-        if (ready > 0 && write(STDOUT_FILENO, &byte, 1) == 1)
-            return true;
-        if (ready == 0)
-            errno = ETIMEDOUT;
-    } while (errno == EAGAIN || errno == EINTR);
-    return false;
-}
-
-/* Sends a byte. The queue of output is the terminal's, in the host, and bounded. If it is full, the guest waits here,
- * in its access, since LSR always shows an empty transmitter. It waits without the lock, so that the event loop goes
- * on, and for a second at most: the reader may be a guest that waits for this one. After that, bytes are dropped until
- * there is room. So is what a closed pipe or a full disk refuses. */
-void monitor_send(uint8_t byte) {
-    static bool is_stuck;
-    pthread_mutex_unlock(&lock);
-    bool is_sent = write_byte(byte, is_stuck ? 0 : PATIENCE);
-    is_stuck = !is_sent && errno == ETIMEDOUT;
-    pthread_mutex_lock(&lock);
-    dropped += !is_sent;
-}
-
-/* Whether a timer has gone off since it was last asked. */
-bool has_gone_off(int file) {
-    uint64_t times;
-    return read(file, &times, sizeof times) == (ssize_t)sizeof times;
-}
-
-/* Has the event loop make a turn in 5 milliseconds. */
 void monitor_wake(void) {
-    timerfd_settime(timer, 0, &(struct itimerspec){.it_value.tv_nsec = 5000000}, NULL);
+    eventfd_write(wakes, 1);
 }
 
-/* Reads what was typed, as far as there is room. Returns whether more may come. */
-static bool serve_input(size_t room) {
-    static bool is_after_ctrl_a;
-    static uint8_t bytes[QUEUE_SIZE];
-    size_t kept = 0;
-    ssize_t count = read(STDIN_FILENO, bytes, room);
-    if (count <= 0)
-        return count < 0 && (errno == EAGAIN || errno == EINTR);
+/* The event loop ends the monitor, and the guest makes no further access. */
+void monitor_end(int status, const char *why) {
+    end_reason = why;
+    end_status = status;
+    monitor_wake();
+}
+
+bool monitor_is_ending(void) {
+    return end_reason;
+}
+
+/* Holds the guest until the reader of its output has taken some, for a second at most: the reader may be a guest that
+ * waits for this one. Meanwhile the lock is free. Afterwards the guest goes on, and what it sends is dropped, until the
+ * reader takes some. Returns whether it did. */
+bool monitor_hold(void) {
+    struct timespec end;
+    clock_gettime(CLOCK_MONOTONIC, &end);
+    end.tv_sec++;
+    if (!is_stuck && !end_reason)
+        is_stuck = pthread_cond_clockwait(&has_room, &lock, CLOCK_MONOTONIC, &end) != 0;
+    return !is_stuck && !end_reason;
+}
+
+/* Writes the oldest byte of the output once the terminal has room, for which it waits so many milliseconds: others use
+ * the terminal too, so it is not set not to block. What it refuses for good is dropped. Returns whether it goes on. */
+static bool write_output(int patience) {
+    struct pollfd output = {.fd = STDOUT_FILENO, .events = POLLOUT};
+    uint8_t byte;
     pthread_mutex_lock(&lock);
-    for (ssize_t i = 0; i < count; i++) {
-        if (is_after_ctrl_a && bytes[i] == 'x')
-            monitor_end(0, "left by Ctrl-A x");
-        is_after_ctrl_a = bytes[i] == CTRL_A && !is_after_ctrl_a;
-        if (!is_after_ctrl_a)
-            bytes[kept++] = bytes[i];
-    }
-    serial_type(bytes, kept);
+    size_t count = serial_output(&byte, 1);
+    pthread_mutex_unlock(&lock);
+    if (count == 0)
+        return false;
+    int ready = poll(&output, 1, patience);
+    bool is_written = ready > 0 && write(STDOUT_FILENO, &byte, 1) == 1;
+    if (!is_written && (ready == 0 || errno == EAGAIN || errno == EINTR))
+        return ready != 0;
+    pthread_mutex_lock(&lock);
+    serial_consume(1);
+    refused += !is_written;
+    is_stuck = false;
+    pthread_cond_signal(&has_room);
     pthread_mutex_unlock(&lock);
     return true;
 }
 
-/* The event loop. Input for which there is no room waits in the terminal. */
+/* Ends the monitor, after the output that waits, if the terminal takes it. */
+static _Noreturn void finish(void) {
+    uint8_t rest[SUPERIO_CONSOLE_OUTPUT_SIZE];
+    while (write_output(PATIENCE)) {}
+    pthread_mutex_lock(&lock);
+    uint64_t dropped = refused + serial_dropped();
+    for (size_t count; (count = serial_output(rest, sizeof rest)) > 0; serial_consume(count))
+        dropped += count;
+    restore_terminal();
+    if (dropped > 0)
+        warnx("%s; %" PRIu64 " bytes of output were dropped", end_reason, dropped);
+    else
+        warnx("%s", end_reason);
+    _exit(end_status);
+}
+
+/* What was typed, and the console has not accepted. */
+static uint8_t typed[SUPERIO_SERIAL_FIFO_SIZE];
+static size_t kept;
+
+/* Reads what was typed, at most so many bytes. Returns whether more may come. */
+static bool read_input(size_t room) {
+    static bool is_after_ctrl_a;
+    uint8_t bytes[sizeof typed];
+    ssize_t count = read(STDIN_FILENO, bytes, room);
+    if (count <= 0)
+        return count < 0 && (errno == EAGAIN || errno == EINTR);
+    for (ssize_t i = 0; i < count; i++) {
+        if (is_after_ctrl_a && bytes[i] == 'x') {
+            pthread_mutex_lock(&lock);
+            monitor_end(0, "left by Ctrl-A x");
+            pthread_mutex_unlock(&lock);
+            break;
+        }
+        is_after_ctrl_a = bytes[i] == CTRL_A && !is_after_ctrl_a;
+        if (!is_after_ctrl_a)
+            typed[kept++] = bytes[i];
+    }
+    return true;
+}
+
+/* Makes a turn. Returns what the console waits for. */
+static superio_console_wanted turn(void) {
+    pthread_mutex_lock(&lock);
+    size_t accepted = serial_receive(typed, kept);
+    kept -= accepted;
+    memmove(typed, typed + accepted, kept);
+    superio_console_wanted wanted = serial_turn();
+    clock_turn();
+    bool is_over = end_reason;
+    pthread_mutex_unlock(&lock);
+    if (is_over)
+        finish();
+    return wanted;
+}
+
+/* The event loop. Input that the console does not want waits in the terminal. */
 static _Noreturn void run(int alarm) {
-    struct pollfd files[] = {{.events = POLLIN}, {.fd = timer, .events = POLLIN}, {.fd = alarm, .events = POLLIN}};
+    struct pollfd files[] = {{.events = POLLIN}, {.events = POLLOUT}, {.fd = wakes, .events = POLLIN},
+                             {.fd = alarm, .events = POLLIN}};
     for (bool is_open = true;;) {
-        pthread_mutex_lock(&lock);
-        size_t room = serial_turn(has_gone_off(timer));
-        clock_turn();
-        pthread_mutex_unlock(&lock);
-        files[0].fd = is_open && room ? STDIN_FILENO : -1;
-        if (poll(files, 3, -1) > 0 && files[0].revents)
-            is_open = serve_input(room);
+        superio_console_wanted wanted = turn();
+        files[0].fd = is_open && kept == 0 && wanted.input > 0 ? STDIN_FILENO : -1;
+        files[1].fd = wanted.output ? STDOUT_FILENO : -1;
+        if (poll(files, 4, wanted.turn ? PAUSE : -1) <= 0)
+            continue;
+        eventfd_t times;
+        if (files[2].revents)
+            eventfd_read(wakes, &times);
+        if (files[0].revents)
+            is_open = read_input(wanted.input);
+        for (int i = 0; files[1].revents && i < MOST_WRITES && write_output(0); i++) {}
     }
 }
 
@@ -143,7 +191,7 @@ int main(int count, char **words) {
     machine_create();
     boot(given[0], given[1], count > 2 ? given[2] : "console=ttyS0 reboot=k panic=1");
     serial_open(is_early);
-    timer = must(timerfd_create(CLOCK_MONOTONIC, TFD_NONBLOCK | TFD_CLOEXEC), "the timer of a turn");
+    wakes = must(eventfd(0, EFD_NONBLOCK | EFD_CLOEXEC), "the event loop");
     int alarm = clock_open();
     signal(SIGPIPE, SIG_IGN);
     open_terminal();

@@ -1,88 +1,57 @@
 /* SPDX-License-Identifier: Apache-2.0 OR BSD-3-Clause */
-/* The serial port: its interrupt, its output, and the input that waits for room in its FIFO. IRQ 4 of a PC is triggered
- * by edges: so each interrupt that the port asks for is one edge. */
+/* The serial port and its console. IRQ 4 of a PC takes edges: each interrupt that the console asks for is one. */
 #include "monitor.h"
 
-enum { IER = 1, IIR = 2, MCR = 4 };
+static superio_console console;
 
-static superio_serial port;
-static bool is_refused;           /* a request */
-static bool takes_input;          /* the guest polls, or has enabled RDA and not THRE, as no test of the port does */
-static uint8_t input[QUEUE_SIZE]; /* of the user, until the port accepts it, the oldest first */
-static size_t waiting;            /* how much of it there is */
-
-/* Carries out what a call of the port left to do, up to a refusal. */
-static void interrupt(unsigned times) {
-    while (times > 0 && machine_interrupt())
-        times--;
-    is_refused |= times > 0;
-    if (times > 0)
-        monitor_wake();
-}
-
-/* Asks also for what was refused, as far as IER enables it. */
-static void retry(unsigned times) {
-    if (is_refused)
-        times = superio_serial_interrupts_due(&port); /* these `times` among them */
-    if (times > 0)
-        is_refused = false;
-    interrupt(times);
-}
-
-/* Offers the input, and keeps what the port does not accept: when input comes, when the guest has read the last byte of
- * the FIFO, and when it may have become ready or left loopback. An event loop that waits for room has to look again. */
-static void feed(void) {
-    if (!takes_input)
-        return;
-    superio_serial_enqueue_effects done = superio_serial_enqueue(&port, input, waiting);
-    if (waiting == QUEUE_SIZE && done.accepted > 0)
-        monitor_wake();
-    waiting -= done.accepted;
-    memmove(input, input + done.accepted, waiting);
-    interrupt(done.interrupts);
+/* Does what a call of the console left to do. Returns whether to wake the event loop, unless that made the call. */
+static bool carry_out(superio_console_work work) {
+    for (int i = 0; i < work.interrupts; i++)
+        if (!machine_interrupt())
+            return work.wakes | superio_console_refuse(&console).wakes;
+    return work.wakes;
 }
 
 uint8_t serial_read(uint8_t offset) {
-    superio_serial_read_effects done = superio_serial_read(&port, offset);
-    if (done.in_buffer_empty)
-        feed();
-    if (offset == IIR && done.byte & 0x01) /* nothing is pending */
-        interrupt(superio_serial_character_timeout(&port));
+    superio_console_read_effects done = superio_console_read(&console, offset);
+    if (carry_out(done.work))
+        monitor_wake();
     return done.byte;
 }
 
+/* While the output has no room, the guest is held in its access, as long as the monitor has patience. */
 void serial_write(uint8_t offset, uint8_t value) {
-    superio_serial_write_effects done = superio_serial_write(&port, offset, value);
-    if (offset == IER)
-        retry(done.interrupts);
-    else
-        interrupt(done.interrupts);
-    if (done.sends)
-        monitor_send(value);
-    takes_input |= (port.interrupt_enable & 0x03) == 0x01;
-    if (offset == IER || offset == MCR)
-        feed();
+    if (carry_out(superio_console_write(&console, offset, value)))
+        monitor_wake();
+    while (superio_console_is_full(&console) && monitor_hold()) {}
 }
 
-/* Takes input, for which there is room. */
-void serial_type(const uint8_t *bytes, size_t count) {
-    memcpy(input + waiting, bytes, count);
-    waiting += count;
-    feed();
+/* Takes input, and returns how many bytes. */
+size_t serial_receive(const uint8_t *bytes, size_t count) {
+    superio_console_receive_effects done = superio_console_receive(&console, bytes, count);
+    carry_out(done.work);
+    return done.accepted;
 }
 
-/* In each turn of the event loop, which `monitor_wake` may have asked for: asks again for what was refused, and for the
- * bytes that the guest has left. Returns for how much input there is room. */
-size_t serial_turn(bool is_woken) {
-    unsigned times = superio_serial_character_timeout(&port);
-    if (is_woken)
-        retry(times);
-    else
-        interrupt(times);
-    return QUEUE_SIZE - waiting;
+/* Copies the oldest output, at most so many bytes, and returns how many. */
+size_t serial_output(uint8_t *bytes, size_t count) {
+    return superio_console_output(&console, bytes, count);
+}
+
+void serial_consume(size_t count) {
+    superio_console_consume(&console, count);
+}
+
+uint64_t serial_dropped(void) {
+    return superio_console_dropped(&console);
+}
+
+/* In each turn of the event loop. Returns what that waits for. */
+superio_console_wanted serial_turn(void) {
+    carry_out(superio_console_turn(&console));
+    return superio_console_wants(&console);
 }
 
 void serial_open(bool is_polled) {
-    port = superio_serial_new();
-    takes_input = is_polled;
+    superio_console_new(&console, is_polled);
 }

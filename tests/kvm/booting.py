@@ -22,8 +22,9 @@ from monitors import build_monitor, rust_port
 IMAGES = ROOT / "out" / "linux"  # what examples/kvm/fetch gets
 # What a record is of: all that a guest's console and clock go through, and what looks at them.
 SOURCES = ["bindings/c/superio.h", "bindings/rust/src", "bindings/superio/src", "crates/superio_c/src",
-           "crates/superio_core/src", "examples/kvm", "prebuilt/SHA256SUMS", "tests/kvm/booting.py",
-           "tests/kvm/monitors.py", "tests/kvm/serial", "tests/kvm/test_linux.py", "tests/kvm/timeout.c"]
+           "crates/superio_console/src", "crates/superio_core/src", "examples/kvm", "prebuilt/SHA256SUMS",
+           "tests/kvm/booting.py", "tests/kvm/monitors.py", "tests/kvm/serial", "tests/kvm/test_linux.py",
+           "tests/kvm/timeout.c"]
 WORDS = "console=ttyS0 reboot=k panic=1 loglevel=1 mitigations=off initcall_blacklist=i8042_init"
 QEMU = ["qemu-system-x86_64", "-accel", "tcg", "-cpu", "EPYC,+svm,+npt,-x2apic", "-m", "768", "-nodefaults",
         "-nographic", "-no-reboot", "-append", "console=ttyS0 quiet mitigations=off panic=1"]

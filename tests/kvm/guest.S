@@ -40,6 +40,8 @@ sleep:  hlt
 
 serial: mov $IIR, %dx
         in %dx, %al
+        cmpb $1, awaits                         # an interrupt that came before IER disabled it
+        je done
         test $0x01, %al                         # nothing is pending
         jnz done
         mov $256, %cx
@@ -60,7 +62,8 @@ next:   mov $LSR, %dx
 reset:  outb 0x64, 0xFE
         hlt
 
-await:  outb IER, 0x00
+await:  movb $1, awaits
+        outb IER, 0x00
         mov %fs:RTCDR, %eax
         add $2, %eax
         movl $1, %fs:RTCIMSC
@@ -73,6 +76,7 @@ alarm:  cmpb $1, %fs:RTCMIS
         movl $1, %fs:RTCICR
         mov $alarmed, %si
         call print
+        movb $0, awaits
         outb IER, 0x01                          # raises RDA for the bytes that came
 1:      outb SLAVE, 0x20
         jmp done
@@ -84,5 +88,6 @@ print:  mov $COM1, %dx
         jne print
         ret
 
+awaits: .byte 0                                 # the alarm
 ready:  .asciz "ready\r\n"
 alarmed: .asciz "alarm\r\n"

@@ -4,9 +4,9 @@
  * by its option --wrap. Standard error gets each line, and behind it what is seen.
  *
  * When the event loop has nothing left to do, the next line follows. If that is an exit of the guest, what the vCPU's
- * thread does is called from here: it serves the exit, and comes back by its next KVM_RUN. Every other KVM_RUN and wait
- * of the event loop fails, as it may at any time. A call for an interrupt or a timer has to have the lock, and one that
- * may wait must not have it. */
+ * thread does is called from here: it serves the exit, and comes back by its next KVM_RUN, or ends. Every other KVM_RUN
+ * and wait of the event loop fails, as it may at any time. A call for an interrupt, a timer or a turn has to have the
+ * lock, and one that may wait must not have it. */
 #include "monitor.h"
 
 #include <fcntl.h>
@@ -30,13 +30,15 @@ static struct kvm_run *exits;  /* of the vCPU */
 static unsigned runs;          /* for this exit */
 static jmp_buf end_of_exit;
 static int interrupt;          /* where it is asked for */
+static int eventfds;           /* so many were made */
 static long takes = 1 << 30;   /* requests of it */
 static bool has_room;          /* the terminal, as the monitor knows it */
 static long error;             /* of the next write to it */
 static long input_error;       /* of the next read */
 static bool hangs;             /* the reader of the terminal takes nothing */
-static int timers[CLOCKS];
-static int64_t due[CLOCKS];    /* in nanoseconds, or 0 */
+static bool is_told = true;    /* a guest that waits for room, since some was made */
+static int timer;              /* of CLOCK_BOOTTIME */
+static int64_t due;            /* in nanoseconds, or 0 */
 static int64_t now[CLOCKS] = {
     [CLOCK_REALTIME] = 1700000000 * SECOND, [CLOCK_MONOTONIC] = 777 * SECOND, [CLOCK_BOOTTIME] = 5000 * SECOND};
 
@@ -45,8 +47,14 @@ static const struct kvm_sregs system_before = {.cs = {.base = 0xFFFF0000, .selec
 static struct kvm_sregs system_after;
 
 int __real_poll(struct pollfd *files, nfds_t count, int timeout);
+int __real_eventfd(unsigned value, int flags);
 int __real_eventfd_write(int fd, eventfd_t value);
 ssize_t __real_read(int fd, void *bytes, size_t count);
+size_t __real_serial_receive(const uint8_t *bytes, size_t count);
+size_t __real_serial_output(uint8_t *bytes, size_t count);
+void __real_serial_consume(size_t count);
+uint64_t __real_serial_dropped(void);
+superio_console_wanted __real_serial_turn(void);
 ssize_t __real_write(int fd, const void *bytes, size_t count);
 
 static void fail(const char *what) {
@@ -78,12 +86,20 @@ __attribute__((constructor)) static void begin(void) {
     keys = both[1];
 }
 
+/* The first is for the interrupt, and the second for the event loop. */
+int __wrap_eventfd(unsigned value, int flags) {
+    errno = EMFILE;
+    return eventfds++ == 1 && fails("loop") ? -1 : __real_eventfd(value, flags);
+}
+
 int __wrap_eventfd_write(int fd, eventfd_t value) {
     bool is_taken = takes > 0;
     need_lock(true);
+    if (fd != interrupt)
+        return __real_eventfd_write(fd, value);
     SEE(is_taken ? "  interrupt" : "  refused");
     takes -= is_taken;
-    return is_taken && fd == interrupt && value == 1 ? 0 : -1;
+    return is_taken && value == 1 ? 0 : -1;
 }
 
 int __wrap_clock_gettime(clockid_t clock, struct timespec *time) {
@@ -92,32 +108,73 @@ int __wrap_clock_gettime(clockid_t clock, struct timespec *time) {
 }
 
 int __wrap_timerfd_create(int clock, int flags) {
-    if (!(flags & TFD_NONBLOCK))
-        fail("a timer whose read may block");
+    if (!(flags & TFD_NONBLOCK) || clock != CLOCK_BOOTTIME)
+        fail("a timer whose read may block, or of another clock");
     errno = EMFILE;
-    if (fails(clock == CLOCK_BOOTTIME ? "alarm" : "timer"))
-        return -1;
-    return timers[clock] = eventfd(0, flags);
+    return timer = fails("alarm") ? -1 : __real_eventfd(0, flags);
 }
 
 int __wrap_timerfd_settime(int fd, int flags, const struct itimerspec *new, struct itimerspec *old) {
-    int clock = fd == timers[CLOCK_BOOTTIME] ? CLOCK_BOOTTIME : CLOCK_MONOTONIC;
-    int64_t at = new->it_value.tv_sec * SECOND + new->it_value.tv_nsec;
     need_lock(true);
-    due[clock] = at == 0 || flags & TFD_TIMER_ABSTIME ? at : now[clock] + at;
-    return old ? -1 : 0;
+    due = new->it_value.tv_sec * SECOND + new->it_value.tv_nsec;
+    return fd != timer || !(flags & TFD_TIMER_ABSTIME) || old ? -1 : 0;
 }
 
-/* Lets a timer go off whose time has come. */
+/* Lets the timer go off if its time has come. */
 static bool goes_off(void) {
-    for (int clock = 0; clock < CLOCKS; clock++) {
-        if (due[clock] != 0 && due[clock] <= now[clock]) {
-            due[clock] = 0;
-            SEE("  timer");
-            return __real_eventfd_write(timers[clock], 1) == 0;
-        }
-    }
-    return false;
+    if (due == 0 || due > now[CLOCK_BOOTTIME])
+        return false;
+    due = 0;
+    SEE("  timer");
+    return __real_eventfd_write(timer, 1) == 0;
+}
+
+/* A guest waits until its output has room. The event loop, which would make some, runs only between the lines. So this
+ * takes a byte in its place, unless the terminal takes none. Every other wait ends early, as it may at any time. */
+int __wrap_pthread_cond_clockwait(pthread_cond_t *condition, pthread_mutex_t *mutex, clockid_t clock,
+                                  const struct timespec *end) {
+    static bool is_early;
+    int64_t left = end->tv_sec * SECOND + end->tv_nsec - now[clock];
+    need_lock(true);
+    if (!condition || mutex != &lock || clock != CLOCK_MONOTONIC)
+        fail("a wait for something else");
+    SEE("  holds %lld", (long long)(left / 1000000));
+    is_early = !is_early && !hangs;
+    if (!is_early && !hangs)
+        __real_serial_consume(1);
+    return hangs ? ETIMEDOUT : 0;
+}
+
+int __wrap_pthread_cond_signal(pthread_cond_t *condition) {
+    is_told = condition != NULL;
+    return 0;
+}
+
+/* Each call of the port has to have the lock, and a guest that waits for room has to be told of some. */
+size_t __wrap_serial_receive(const uint8_t *bytes, size_t count) {
+    need_lock(true);
+    return __real_serial_receive(bytes, count);
+}
+
+size_t __wrap_serial_output(uint8_t *bytes, size_t count) {
+    need_lock(true);
+    return __real_serial_output(bytes, count);
+}
+
+void __wrap_serial_consume(size_t count) {
+    need_lock(true);
+    is_told = false;
+    __real_serial_consume(count);
+}
+
+uint64_t __wrap_serial_dropped(void) {
+    need_lock(true);
+    return __real_serial_dropped();
+}
+
+superio_console_wanted __wrap_serial_turn(void) {
+    need_lock(true);
+    return __real_serial_turn();
 }
 
 int __wrap_tcgetattr(int fd, struct termios *settings) {
@@ -225,10 +282,23 @@ static void serve_line(void) {
     }
 }
 
+/* What is ready, of files of which the second is the terminal, if it is waited for. */
+static int ready_of(struct pollfd *files, nfds_t count) {
+    struct pollfd terminal = files[1];
+    files[1].fd = -1;
+    int ready = __real_poll(files, count, 0);
+    files[1] = terminal;
+    files[1].revents = terminal.fd == STDOUT_FILENO && !hangs ? POLLOUT : 0;
+    return ready + (files[1].revents != 0);
+}
+
 int __wrap_poll(struct pollfd *files, nfds_t count, int timeout) {
     static bool is_again, is_terminal_again;
+    int64_t end = now[CLOCK_MONOTONIC] + timeout * 1000000ll;
     int ready;
     need_lock(false);
+    if (!is_told)
+        fail("a guest is not told of room");
     errno = EINTR;
     if (files->fd == STDOUT_FILENO) {
         if (count != 1 || files->events != POLLOUT)
@@ -242,11 +312,16 @@ int __wrap_poll(struct pollfd *files, nfds_t count, int timeout) {
         return has_room;
     }
     is_again = !is_again;
-    if (is_again || timeout >= 0)
+    if (is_again)
         return -1;
-    while ((ready = __real_poll(files, count, 0)) == 0)
+    while ((ready = ready_of(files, count)) == 0) {
+        if (timeout >= 0 && now[CLOCK_MONOTONIC] >= end) {
+            SEE("  turn");
+            return 0;
+        }
         if (!goes_off())
             serve_line();
+    }
     return ready;
 }
 

@@ -12,7 +12,8 @@ HERE = Path(__file__).parent
 WRAPPED = sorted({*re.findall(r"\b__wrap_(\w+)", (HERE / "host.c").read_text(encoding="utf-8"))})
 COMPILERS = {"kvm": ["cc"], "host": ["cc", "-I.", "-fsanitize=address,undefined",
                                      *(f"-Wl,--wrap={name}" for name in WRAPPED), HERE / "host.c"],
-             "linux": ["cc", "-static", "-Wl,--wrap=superio_serial_character_timeout", HERE / "timeout.c"]}
+             "linux": ["cc", "-static", "-Wl,--wrap=superio_console_read,--wrap=superio_console_turn",
+                       HERE / "timeout.c"]}
 
 
 def build_monitor(kind, folder, port="serial.c"):

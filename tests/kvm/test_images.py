@@ -237,7 +237,7 @@ def test_machine(monitor):
 # Calls that may fail, and what the monitor says of them.
 FAILURES = {
     "library": "the library has another interface than the header", "open": "/dev/kvm: Permission denied",
-    "mmap": "the vCPU's exits: Invalid argument", "timer": "the timer of a turn: Too many open files",
+    "mmap": "the vCPU's exits: Invalid argument", "loop": "the event loop: Too many open files",
     "alarm": "the alarm's timer: Too many open files", "thread": "the vCPU's thread: Resource temporarily unavailable",
 }
 

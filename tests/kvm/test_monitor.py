@@ -60,7 +60,7 @@ def guest(tmp_path_factory):
 
 def shortened(text):
     """A text where what is seen again and again, and many equal bytes, stand once, with their number."""
-    text = re.sub(r"(  [a-z]+)\1+(?!\S)", lambda it: f"{it[1]} x{len(it[0]) // len(it[1])}", text)
+    text = re.sub(r"(  [a-z]+(?: \w+)?)\1+(?!\S)", lambda it: f"{it[1]} x{len(it[0]) // len(it[1])}", text)
     return re.sub(r"(?<= )(\w\w)\1{7,}(?!\S)", lambda it: f"{it[1]}*{len(it[0]) // 2}", text)
 
 

@@ -1,29 +1,28 @@
 // SPDX-License-Identifier: Apache-2.0 OR BSD-3-Clause
-//! The functions of `serial.c` of `examples/kvm`, over the `Serial` of the Rust crate. The monitor around them, in C, is
-//! the same. It calls each with its lock held.
+//! The functions of `serial.c` of `examples/kvm`, over the `Serial` of the Rust crate: what docs/PORT.md has somebody do
+//! who takes the bare port. The monitor around them, in C, is the same. It calls each with its lock held.
 use std::collections::VecDeque;
+use std::io::{self, Write};
 use std::slice;
-use std::sync::{Mutex, MutexGuard};
+use std::sync::Mutex;
 
 use vm_superio::serial::line::InterruptLine;
 use vm_superio::serial::timeout::CharacterTimeout;
 use vm_superio::serial::NoEvents;
 use vm_superio::{Serial, Trigger};
 
-const DATA: u8 = 0;
 const INTERRUPT_ENABLE: u8 = 1;
 const INTERRUPT_IDENTIFICATION: u8 = 2;
-const LINE_CONTROL: u8 = 3;
-const MODEM_CONTROL: u8 = 4;
 const FIFO_SIZE: usize = 64;
-const QUEUE_SIZE: usize = 65536;
+const OUTPUT_SIZE: usize = 4096;
+const LOOPBACK: u8 = 0x10;
 
 /// With this bit of LCR, two stop bits, a guest gets no character timeout, so that a test shows what that is for.
 const NO_TIMEOUT: u8 = 0x04;
 
 extern "C" {
     fn machine_interrupt() -> bool;
-    fn monitor_send(byte: u8);
+    fn monitor_hold() -> bool;
     fn monitor_wake();
 }
 
@@ -43,86 +42,108 @@ impl Trigger for Line {
     }
 }
 
-/// The port, whose writer keeps a byte until it can be sent without the port, and the input that waits.
+/// What the guest has sent, until the terminal takes it. What finds no room is dropped, and counted.
+#[derive(Default)]
+struct Output {
+    waiting: VecDeque<u8>,
+    dropped: u64,
+}
+
+impl Write for Output {
+    fn write(&mut self, bytes: &[u8]) -> io::Result<usize> {
+        let kept = bytes.len().min(OUTPUT_SIZE - self.waiting.len());
+        self.waiting.extend(&bytes[..kept]);
+        self.dropped += (bytes.len() - kept) as u64;
+        Ok(bytes.len())
+    }
+
+    fn flush(&mut self) -> io::Result<()> {
+        Ok(())
+    }
+}
+
+/// What the event loop waits for, as a `superio_console_wanted` of C.
+#[repr(C)]
+pub struct Wanted {
+    input: usize,
+    output: bool,
+    turn: bool,
+}
+
 struct Port {
-    serial: Serial<Line, NoEvents, Vec<u8>>,
-    input: VecDeque<u8>,
+    serial: Serial<Line, NoEvents, Output>,
     takes_input: bool,
     is_refused: bool,
-    line_control: u8,
 }
 
 static PORT: Mutex<Option<Port>> = Mutex::new(None);
 
 /// Calls a function with the port.
 fn with_port<T>(call: impl FnOnce(&mut Port) -> T) -> T {
-    let mut port: MutexGuard<Option<Port>> = PORT.lock().unwrap();
-    call(port.as_mut().unwrap())
+    call(PORT.lock().unwrap().as_mut().unwrap())
 }
 
-/// Has the event loop make a turn soon.
-fn wake() {
-    // SAFETY: the monitor holds its lock.
-    unsafe { monitor_wake() }
+/// An access of the guest. Afterwards it wakes the event loop if that has something new to wait for.
+fn access<T>(make: impl FnOnce(&mut Port) -> T) -> T {
+    with_port(|port| {
+        let before = port.wants();
+        let result = make(port);
+        let now = port.wants();
+        if before.input == 0 && now.input > 0 || !before.output && now.output || !before.turn && now.turn {
+            // SAFETY: the monitor holds its lock.
+            unsafe { monitor_wake() }
+        }
+        result
+    })
 }
 
 impl Port {
-    fn retry_later<T, E>(&mut self, result: Result<T, E>) {
-        if result.is_err() {
-            self.is_refused = true;
-            wake();
+    fn wants(&self) -> Wanted {
+        let (state, room) = (self.serial.state(), self.serial.fifo_capacity());
+        let is_open = self.takes_input && state.modem_control & LOOPBACK == 0;
+        let has_input = room < FIFO_SIZE && state.interrupt_enable & 1 != 0;
+        Wanted {
+            input: if is_open { room } else { 0 },
+            output: !self.serial.writer().waiting.is_empty(),
+            turn: has_input || self.is_refused && self.serial.interrupt_line(),
         }
+    }
+
+    fn note<T, E>(&mut self, result: Result<T, E>) {
+        self.is_refused |= result.is_err();
     }
 
     /// Asks again for what was refused, once IER enables it.
     fn retry(&mut self) {
         if self.is_refused && self.serial.interrupt_line() {
-            self.is_refused = false;
-            let result = self.serial.retry_interrupts();
-            self.retry_later(result);
+            self.is_refused = self.serial.retry_interrupts().is_err();
         }
-    }
-
-    /// Offers the input, and keeps what the port does not accept.
-    fn feed(&mut self) {
-        let room = self.serial.fifo_capacity();
-        if !self.takes_input || self.input.is_empty() || room == 0 {
-            return;
-        }
-        let result = self.serial.enqueue_raw_bytes(self.input.make_contiguous());
-        let accepted = room - self.serial.fifo_capacity();
-        if self.input.len() == QUEUE_SIZE && accepted > 0 {
-            wake();
-        }
-        self.input.drain(..accepted);
-        self.retry_later(result);
     }
 
     /// Makes the character timeout, unless the guest wants none.
     fn time_out(&mut self) {
-        if self.line_control & NO_TIMEOUT == 0 {
+        if self.serial.state().line_control & NO_TIMEOUT == 0 {
             let result = self.serial.character_timeout();
-            self.retry_later(result);
+            self.note(result);
         }
     }
 }
 
 #[no_mangle]
 pub extern "C" fn serial_open(is_polled: bool) {
-    let serial = Serial::new(Line, Vec::new());
-    let port = Port { serial, input: VecDeque::new(), takes_input: is_polled, is_refused: false, line_control: 0 };
-    *PORT.lock().unwrap() = Some(port);
+    let serial = Serial::new(Line, Output::default());
+    *PORT.lock().unwrap() = Some(Port { serial, takes_input: is_polled, is_refused: false });
 }
 
 #[no_mangle]
 pub extern "C" fn serial_read(offset: u8) -> u8 {
-    with_port(|port| {
+    access(|port| {
         let value = port.serial.read(offset);
-        if offset == DATA && port.serial.fifo_capacity() == FIFO_SIZE {
-            port.feed();
-        }
-        if offset == INTERRUPT_IDENTIFICATION && value & 1 != 0 {
-            port.time_out();
+        if offset == INTERRUPT_IDENTIFICATION {
+            port.is_refused = false;
+            if value & 1 != 0 {
+                port.time_out();
+            }
         }
         value
     })
@@ -130,51 +151,66 @@ pub extern "C" fn serial_read(offset: u8) -> u8 {
 
 #[no_mangle]
 pub extern "C" fn serial_write(offset: u8, value: u8) {
-    let sent = with_port(|port| {
-        let result = port.serial.write(offset, value);
-        let is_taken = result.is_ok();
-        port.retry_later(result);
-        if offset == INTERRUPT_ENABLE && is_taken {
-            port.retry();
-        }
-        if offset == INTERRUPT_ENABLE {
-            port.takes_input |= port.serial.state().interrupt_enable & 3 == 1;
-        }
-        if offset == LINE_CONTROL {
-            port.line_control = value;
-        }
-        if offset == INTERRUPT_ENABLE || offset == MODEM_CONTROL {
-            port.feed();
-        }
-        std::mem::take(port.serial.writer_mut())
+    access(|port| match port.serial.write(offset, value) {
+        Ok(()) if offset == INTERRUPT_ENABLE => port.retry(),
+        result => port.note(result),
     });
-    // The guest may wait here, without the monitor's lock and without the port.
-    for byte in sent {
-        // SAFETY: the monitor holds its lock.
-        unsafe { monitor_send(byte) }
+    if offset == INTERRUPT_ENABLE {
+        access(|port| port.takes_input |= port.serial.state().interrupt_enable & 3 == 1);
     }
+    // The guest may wait here, without the monitor's lock and without the port.
+    let is_full = || with_port(|port| port.serial.writer().waiting.len() == OUTPUT_SIZE);
+    // SAFETY: the monitor holds its lock.
+    while is_full() && unsafe { monitor_hold() } {}
 }
 
 /// # Safety
 ///
 /// `bytes` points to `count` bytes.
 #[no_mangle]
-pub unsafe extern "C" fn serial_type(bytes: *const u8, count: usize) {
+pub unsafe extern "C" fn serial_receive(bytes: *const u8, count: usize) -> usize {
     // SAFETY: the caller's duty.
     let bytes = unsafe { slice::from_raw_parts(bytes, count) };
     with_port(|port| {
-        port.input.extend(bytes);
-        port.feed();
-    });
+        let accepted = count.min(port.wants().input);
+        if accepted > 0 {
+            let result = port.serial.enqueue_raw_bytes(&bytes[..accepted]);
+            port.note(result);
+        }
+        accepted
+    })
+}
+
+/// # Safety
+///
+/// `bytes` points to `count` bytes.
+#[no_mangle]
+pub unsafe extern "C" fn serial_output(bytes: *mut u8, count: usize) -> usize {
+    // SAFETY: the caller's duty.
+    let bytes = unsafe { slice::from_raw_parts_mut(bytes, count) };
+    with_port(|port| {
+        let oldest = port.serial.writer().waiting.as_slices().0;
+        let copied = count.min(oldest.len());
+        bytes[..copied].copy_from_slice(&oldest[..copied]);
+        copied
+    })
 }
 
 #[no_mangle]
-pub extern "C" fn serial_turn(is_woken: bool) -> usize {
+pub extern "C" fn serial_consume(count: usize) {
+    with_port(|port| drop(port.serial.writer_mut().waiting.drain(..count)));
+}
+
+#[no_mangle]
+pub extern "C" fn serial_dropped() -> u64 {
+    with_port(|port| port.serial.writer().dropped)
+}
+
+#[no_mangle]
+pub extern "C" fn serial_turn() -> Wanted {
     with_port(|port| {
-        if is_woken {
-            port.retry();
-        }
+        port.retry();
         port.time_out();
-        QUEUE_SIZE - port.input.len()
+        port.wants()
     })
 }
