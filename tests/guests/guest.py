@@ -1,0 +1,95 @@
+# SPDX-License-Identifier: Apache-2.0 OR BSD-3-Clause
+"""A monitor, for whatever driver: the code of docs/PORT.md, also with a rule of it broken, or a console. And what runs, and
+proves, a driver's harness with it."""
+import re
+from pathlib import Path
+from typing import NamedTuple
+
+from documents import Document
+from harness import ROOT, check, run
+from sources import HERE
+
+TIMEOUT = "superio_serial_character_timeout(&port)"
+# The variables of the page, which the harness has in a struct, so that a proof can choose them.
+VARIABLES = re.compile(r"^ *static (?:superio_serial|bool) \w+;.*\n", re.M)
+INTERRUPT = re.compile(r"^static void interrupt\(.*?^}\n", re.M | re.S)
+# Rules that a monitor may break: the text of the page, and what stands there instead. The poll's limit while bytes are
+# held is one of them for a line that takes levels. For edges it is not, so no other rule may rest on it.
+FAULTS = {
+    "NO_LIMIT": [("times > 0 || has_waiting_input()", "times > 0"), ("if (has_waiting_input())\n        make_turn_in(5);", "")],
+    "NO_TIMEOUT": [(f"interrupt({TIMEOUT});\n    else", "interrupt(0);\n    else"), (f"retry({TIMEOUT})", "retry(0)")],
+    "ONLY_IN_TURNS": [(f"interrupt({TIMEOUT});\n    else", "interrupt(0);\n    else")],
+    "NO_RETRY": [("is_refused = is_refused || times > 0;", ""), ("if (times > 0)\n        make_turn_in(5);", "")],
+    "NO_RETRY_AT_IER": [("retry(written.interrupts)", "interrupt(written.interrupts)")],
+    "NO_OFFER": [("if (read.in_buffer_empty)\n        offer_input();\n", "")],
+    "DROPS_IER": [("retry(written.interrupts)", "retry(0)")],
+}
+
+
+def code(of):
+    """The one block of C of the page that has a text."""
+    blocks = ["\n".join([*block.lines, ""]) for block in Document("docs/PORT.md").blocks if block.language == "c"]
+    [block] = [block for block in blocks if of in block]
+    return block
+
+
+class Monitor(NamedTuple):
+    """A monitor whose line takes edges or levels, with a console or, without, by the code of the page with some rules
+    broken."""
+    has_level: bool
+    faults: tuple = ()
+    has_console: bool = False
+
+    def text(self):
+        return "" if self.has_console else port_code(self.has_level, self.faults)
+
+    @property
+    def options(self):
+        return [*["-DLEVELS"] * self.has_level, *["-DCONSOLE"] * self.has_console,
+                *["-DLIMIT"] * ("NO_LIMIT" not in self.faults)]
+
+
+def port_code(has_level, faults):
+    """The functions of the page, for a line that takes edges or levels, with some rules broken."""
+    text, count = VARIABLES.subn("", code("write_access").replace("#include <superio.h>\n", ""))
+    assert count == 4
+    if has_level:
+        level, count = VARIABLES.subn("", code("set_line"))
+        assert count == 1
+        level += "static void interrupt(unsigned times) { set_level(); }\n"
+        text, count = INTERRUPT.subn(lambda _: level, text)
+        assert count == 1
+    for fault in faults:
+        edits = [(old, new) for old, new in FAULTS[fault] if old in text]
+        assert edits and all(text.count(old) == 1 for old, _ in edits), fault
+        for old, new in edits:
+            text = text.replace(old, new)
+    return text
+
+
+class Driver(NamedTuple):
+    """A driver in a folder, by its own text, with the folder of its harness and what a compiler of C has to be told."""
+    folder: Path
+    harness: Path
+    words: list
+    proof: list  # and CBMC beside it
+
+    def all_words(self, monitor):
+        (self.folder / "port.c").write_text(monitor.text(), encoding="utf-8")
+        return [f"-I{self.folder}", f"-I{self.folder}/include", f"-I{self.harness}", f"-I{ROOT}/bindings/c", *self.words,
+                *monitor.options]
+
+    def compiled(self, program, library, monitor, *options):
+        """A program of the harness over the C library. Its text is mostly the driver's, so no warning of it counts."""
+        built = self.folder / Path(program).stem
+        check(["gcc", "-std=gnu11", "-w", "-O1", *self.all_words(monitor), *options, self.harness / program, library, "-o", built])
+        return built
+
+    def is_proved(self, cbmc, entry, monitor, *options):
+        """Whether CBMC proves an entry of prove.c; it refutes all others."""
+        said = run([*cbmc, *self.all_words(monitor), *options, "-DABSTRACT_BYTES", self.harness / "prove.c",
+                    HERE / "monitor" / "device.c", "--function", entry, "--drop-unused-functions", "--slice-formula",
+                    "--object-bits", "12", "--no-standard-checks", "--unwinding-assertions", *self.proof], timeout=1800)
+        found = re.findall(r"^VERIFICATION (\w+)$", said.stdout, re.M)
+        assert found in (["SUCCESSFUL"], ["FAILED"]), said.stdout
+        return found == ["SUCCESSFUL"]

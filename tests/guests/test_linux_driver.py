@@ -1,0 +1,99 @@
+# SPDX-License-Identifier: Apache-2.0 OR BSD-3-Clause
+"""Linux's own 8250 driver over the C library: by a console, and by the code of docs/PORT.md over a bare port.
+
+In random exchanges no byte may wait once all is quiet, and with each rule of the page broken some have to. README.md
+beside this file has the proof of the same, which `tools/guests` makes.
+"""
+import os
+import platform
+import re
+
+import cbmc
+import linux_driver
+import proofs
+import pytest
+from guest import Monitor
+from harness import ROOT, check
+from seeds import seed
+
+pytestmark = [pytest.mark.needs("cc", "linux-source"),
+              pytest.mark.where("version of Linux's source with sums in tests/guests")]
+
+LIBRARY = ROOT / "prebuilt" / f"{platform.machine()}-linux" / "libsuperio_c.a"
+EXCHANGES = int(os.environ.get("GUESTS_EXCHANGES", "20000"))
+EDGES, LEVELS = False, True
+
+
+@pytest.fixture(scope="module")
+def driver(tmp_path_factory):
+    return linux_driver.write(tmp_path_factory.mktemp("linux"))
+
+
+@pytest.fixture(scope="module", params=[
+    pytest.param(name, marks=pytest.mark.where(f"version of Linux {name[6:]} with sums in tests/guests"))
+    for name in ("linux-5.10", "linux-6.12")])
+def other_driver(request, tmp_path_factory):
+    """Linux of Debian 11 and of Debian 13."""
+    return linux_driver.write(tmp_path_factory.mktemp("linux"), request.param)
+
+
+def stalls(driver, monitor):
+    """In how many exchanges bytes are left."""
+    program = driver.compiled("run.c", LIBRARY, monitor)
+    said = check([program, EXCHANGES, seed()])
+    return int(re.match(r"(\d+) of ", said)[1])
+
+
+@pytest.mark.parametrize("line", [EDGES, LEVELS])
+@pytest.mark.parametrize("way", ["console", "page", "page without a limit of the poll"])
+def test_no_byte_waits(driver, way, line):
+    faults = ("NO_LIMIT",) if "limit" in way else ()
+    assert stalls(driver, Monitor(line, faults, way == "console")) == 0
+
+
+@pytest.mark.parametrize("line", [EDGES, LEVELS])
+def test_no_byte_waits_in_another_version(other_driver, line):
+    assert stalls(other_driver, Monitor(line)) == stalls(other_driver, Monitor(line, (), True)) == 0
+    assert stalls(other_driver, Monitor(line, ("NO_LIMIT", "NO_TIMEOUT"))) > 0
+
+
+@pytest.mark.parametrize("fault, line", [
+    ("NO_TIMEOUT", EDGES), ("NO_TIMEOUT", LEVELS), ("ONLY_IN_TURNS", EDGES), ("ONLY_IN_TURNS", LEVELS), ("NO_OFFER", EDGES),
+    ("NO_OFFER", LEVELS), ("NO_RETRY", EDGES), ("NO_RETRY_AT_IER", EDGES), ("DROPS_IER", EDGES)])
+def test_broken_rule(driver, fault, line):
+    assert stalls(driver, Monitor(line, ("NO_LIMIT", fault))) > 0
+
+
+# What limit.c prints if the handler gives up after 514 passes while input comes, and what then is due.
+GIVES_UP = """{line}: 8208 bytes sent, {received} received, {held} held, {queue} in the queue; a turn {turn} due
+    after the turns that are due {end} received
+"""
+STALL = {"line": "level", "received": 256, "held": 5, "queue": 39}
+ALL = {"received": 300, "held": 0, "queue": 0, "end": 300}
+
+
+def gives_up(driver, monitor):
+    return check([driver.compiled("limit.c", LIBRARY, monitor)])
+
+
+def test_limit_of_passes(driver):
+    """On a line that takes levels input then waits for a turn, for which nothing but the poll's limit calls."""
+    assert gives_up(driver, Monitor(LEVELS)) == GIVES_UP.format(**STALL, turn="is", end=300)
+    assert gives_up(driver, Monitor(LEVELS, ("NO_LIMIT",))) == GIVES_UP.format(**STALL, turn="is not", end=256)
+    assert gives_up(driver, Monitor(EDGES, ("NO_LIMIT",))) == "".join(
+        GIVES_UP.format(line=line, **ALL, turn="is not") for line in ("single edges", "merged edges"))
+    for line in (EDGES, LEVELS):
+        said = gives_up(driver, Monitor(line, (), True))
+        assert re.findall(r"(\d+) received\n", said) == ["300"] * (1 if line else 2)
+        assert "is not due" not in said
+
+
+def test_limit_of_passes_in_another_version(other_driver):
+    assert gives_up(other_driver, Monitor(LEVELS)) == GIVES_UP.format(**STALL, turn="is", end=300)
+    assert gives_up(other_driver, Monitor(LEVELS, ("NO_LIMIT",))) == GIVES_UP.format(**STALL, turn="is not", end=256)
+
+
+@pytest.mark.where("CBMC 6")
+@pytest.mark.parametrize("case", [*proofs.AS_IT_STANDS, *proofs.REFUTED], ids=str)
+def test_proof(case, driver):
+    assert driver.is_proved(cbmc.installed(), case.entry, case.monitor, *case.options) == case.holds
