@@ -88,13 +88,13 @@ clean:
 	rm -rf bindings/c/from-source/target bindings/c/from-source/Cargo.lock
 	cd out 2> /dev/null && rm -f $(notdir $(basename $(wildcard tests/c/*.c examples/c/*.c))) || true
 
-# Tests that the demo, with either library that pkg-config finds, prints what it should.
+# Tests that a machine, with either library that pkg-config finds, prints what it should.
 installcheck:
 	@place=$$(mktemp -d)
 	trap 'rm -rf "$$place"' EXIT
 	for package in superio superio-static; do
-	    $(CC) examples/c/monitor.c $$(pkg-config --cflags --libs $$package) -o "$$place/monitor"
-	    "$$place/monitor" | cmp - examples/c/expected
+	    $(CC) examples/c/machine.c $$(pkg-config --cflags --libs $$package) -o "$$place/machine"
+	    "$$place/machine" | cmp - examples/c/expected
 	done
 
 # Tests that a program which depends on vm-superio 0.8 takes an installed crate by one line.

@@ -2,8 +2,9 @@
 /*
  * Guests that receive and send at once, over the C library and a monitor that follows superio.h. In each exchange all
  * bytes have to arrive, in order and in both directions, and no timer may be needed: once everything has come, only a
- * driver that reads IIR once, or never, gets further turns of the event loop. Monitors that break a rule, and drivers that cannot
- * work, have to stall in some exchanges: bytes are left, and no interrupt comes. The table ROWS has them all.
+ * driver that reads IIR once, or never, or gives up, gets further turns of the event loop. Monitors that break a rule, and
+ * drivers that cannot work, have to stall in some exchanges: bytes are left, and no interrupt comes. The table ROWS has them
+ * all.
  *
  *     console SEED    another seed gives other exchanges
  *
@@ -20,6 +21,7 @@ enum { RDA = 0x01, THRE = 0x02 };                     /* in IER */
 enum { NONE_PENDING = 0x01 };                         /* in IIR */
 enum { DATA_READY = 0x01, TRANSMITTER_EMPTY = 0x20 }; /* in LSR */
 enum { ALL = INT_MAX };
+enum { PASSES = 514 }; /* of Linux's handler at most */
 enum direction { INPUT, OUTPUT };
 
 /* How interrupts reach the guest: as edges that it takes one by one, as edges that its controller merges until it takes
@@ -35,7 +37,9 @@ enum fault {
     ONLY_IN_TURNS,   /* it makes it in turns of its event loop, and not after a read of IIR */
     DROPS_SECOND,    /* of the two interrupts of an IER write it raises one */
     NO_RETRY,        /* the first of these two is refused, so it raises neither, and never tries again */
-    DROPS_AFTER_THR  /* it raises none after a THR write */
+    DROPS_AFTER_THR, /* it raises none after a THR write */
+    REFUSALS,        /* nothing: interrupts for input are refused. It tries again in its next turn, and at IER writes */
+    NO_RETRY_AT_IER  /* with these refusals, it does not try again at IER writes */
 };
 
 /* What may end a stall: another received byte, the driver's IER once more, a retry, a turn of the event loop. */
@@ -54,6 +58,7 @@ struct row {
     enum line first, last;              /* the lines that it is tried with */
     unsigned exchanges;
     unsigned ends;                      /* what ends its stalls, or 0 if it must not stall */
+    bool is_long;                       /* Linux's handler gives up in its exchanges */
 };
 
 /* An exchange. */
@@ -65,6 +70,7 @@ struct console {
     size_t accesses, most_accesses;           /* of the guest: so far, and at most */
     enum line line;
     unsigned interrupts;                      /* that the guest has not taken */
+    bool is_refused, has_timer;               /* one was refused; and a turn comes for it */
     size_t input, arrived, offered, received; /* so many bytes in all, and in the monitor, the port and the guest */
     size_t output, queued, written, sent;     /* so many bytes in all, and in the driver, the port and the host */
     unsigned most_in_piece, most_queued;      /* of input, and of what a program sends */
@@ -136,12 +142,26 @@ static void offer(struct console *it) {
         bytes[i] = byte_at(INPUT, it->offered + i);
     superio_serial_enqueue_effects done = superio_serial_enqueue(&it->port, bytes, count);
     it->offered += done.accepted;
-    interrupt(it, done.interrupts);
+    if (done.interrupts > 0 && it->row->fault >= REFUSALS && draw(it, 2))
+        it->is_refused = it->has_timer = true;
+    else
+        interrupt(it, done.interrupts);
+}
+
+/* Tries again after a refusal, unless IER disables all that is pending. */
+static void retry(struct console *it) {
+    unsigned due = superio_serial_interrupts_due(&it->port);
+    if (!it->is_refused || due == 0)
+        return;
+    it->is_refused = false;
+    interrupt(it, due);
 }
 
 /* The event loop makes a turn: for a piece of the input that is still to come, or for nothing. */
 static void turn(struct console *it) {
+    it->has_timer = false;
     make_timeout(it, true);
+    retry(it);
     if (it->arrived == it->input)
         return;
     it->arrived = at_most(it->arrived + drawn_size(it, it->most_in_piece), it->input);
@@ -151,7 +171,7 @@ static void turn(struct console *it) {
 /* The event loop may make a turn before each access of the guest. */
 static void begin_access(struct console *it) {
     check(it, it->accesses++ < it->most_accesses, "does not end");
-    if (draw(it, it->pause) == 0 && (it->has_turns || it->arrived < it->input))
+    if (draw(it, it->pause) == 0 && (it->has_turns || it->has_timer || it->arrived < it->input))
         turn(it);
 }
 
@@ -172,6 +192,8 @@ static void out(struct console *it, uint8_t offset, uint8_t value) {
     if (done.sends && !it->is_printing)
         check(it, value == byte_at(OUTPUT, it->sent++), "a byte is sent out of order");
     interrupt(it, raised(it->row->fault, offset, done.interrupts));
+    if (offset == IER && it->row->fault == REFUSALS)
+        retry(it);
 }
 
 /* ---- the guest, apart from its handler */
@@ -214,7 +236,9 @@ static void queue(struct console *it) {
 
 /* The driver opens the port. By then there may be input in it, and something to send. */
 static void open_port(struct console *it) {
-    if (draw(it, 2))
+    if (it->row->is_long)
+        it->queued = it->output;
+    else if (draw(it, 2))
         queue(it);
     if (draw(it, 2))
         turn(it);
@@ -260,9 +284,10 @@ static void transmit(struct console *it, unsigned most) {
         enable(it, RDA);
 }
 
-/* As Linux's: until nothing is pending it reads out at most 256 bytes, and then sends at most 16. */
+/* As Linux's: until nothing is pending, but in 514 passes at most, it reads out at most 256 bytes, and then sends at most
+ * 16. */
 static void handle_linux(struct console *it) {
-    while (!(in(it, IIR) & NONE_PENDING)) {
+    for (unsigned passes = 0; passes < PASSES && !(in(it, IIR) & NONE_PENDING); passes++) {
         read_out(it, 256);
         transmit(it, 16);
         act(it);
@@ -328,10 +353,10 @@ static bool is_over(const struct console *it) {
 }
 
 static void carry_on(struct console *it) {
-    while (it->interrupts > 0 || !is_over(it)) {
+    while (it->interrupts > 0 || it->has_timer || !is_over(it)) {
         if (it->interrupts > 0 && (is_over(it) || draw(it, 3) > 0))
             take_interrupt(it);
-        else if (it->arrived < it->input && draw(it, 2) == 0)
+        else if ((it->has_timer || it->arrived < it->input) && draw(it, 2) == 0)
             turn(it);
         else
             act(it);
@@ -359,6 +384,22 @@ static struct console begin(const struct row *row, unsigned place) {
     it.output = draw(&it, 2) ? draw(&it, 30) : draw(&it, 1000);
     it.stops = draw(&it, 2) ? draw(&it, 4) : 0;
     it.messages = draw(&it, 2) ? draw(&it, 12) : 0;
+    if (row->is_long) {
+        /* It sends in each pass but the last one. Input comes faster than it is read, and is left after that pass. */
+        it.pause = 64;
+        it.most_in_piece = 1000;
+        it.output = 16 * (PASSES - 1) - draw(&it, 16);
+        it.input = 256 * PASSES + 100 + draw(&it, 1000);
+        it.stops = it.messages = 0;
+    }
+    if (row->fault >= REFUSALS && draw(&it, 4) > 0) {
+        /* Few things come after a refusal, but the turn for it, and messages. */
+        it.pause = 2;
+        it.has_turns = false;
+        it.input = 1;
+        it.output = draw(&it, 2);
+        it.messages = 12;
+    }
     it.most_accesses = 200 + 12 * (it.input + it.output);
     return it;
 }
@@ -411,45 +452,54 @@ static void run_row(const struct row *row) {
 }
 
 static const struct row ROWS[] = {
-    {"Linux", handle_linux, NO_FAULT, ALONE, SINGLE, LEVEL, 4000, 0},
-    {"Xen", handle_xen, NO_FAULT, ALONE, SINGLE, LEVEL, 3000, 0},
-    {"IIR once", handle_once, NO_FAULT, TURNS, SINGLE, LEVEL, 3000, 0},
-    {"never IIR", handle_by_lsr, NO_FAULT, TURNS_AND_POLLS, SINGLE, LEVEL, 3000, 0},
-    {"never IIR, in turns", handle_by_lsr, ONLY_IN_TURNS, TURNS_AND_POLLS, SINGLE, LEVEL, 500, 0},
-    {"IIR once, in turns", handle_once, ONLY_IN_TURNS, TURNS, SINGLE, LEVEL, 500, 0},
+    {"Linux", handle_linux, NO_FAULT, ALONE, SINGLE, LEVEL, 4000, 0, false},
+    {"Xen", handle_xen, NO_FAULT, ALONE, SINGLE, LEVEL, 3000, 0, false},
+    {"IIR once", handle_once, NO_FAULT, TURNS, SINGLE, LEVEL, 3000, 0, false},
+    {"never IIR", handle_by_lsr, NO_FAULT, TURNS_AND_POLLS, SINGLE, LEVEL, 3000, 0, false},
+    {"never IIR, in turns", handle_by_lsr, ONLY_IN_TURNS, TURNS_AND_POLLS, SINGLE, LEVEL, 500, 0, false},
+    {"IIR once, in turns", handle_once, ONLY_IN_TURNS, TURNS, SINGLE, LEVEL, 500, 0, false},
 
     /* Received bytes are left. */
-    {"Linux, no timeout", handle_linux, NO_TIMEOUT, ALONE, SINGLE, LEVEL, 3000, BYTE | IER_WRITE},
-    {"Xen, no timeout", handle_xen, NO_TIMEOUT, ALONE, SINGLE, LEVEL, 500, BYTE | IER_WRITE},
-    {"IIR once, no timeout", handle_once, NO_TIMEOUT, TURNS, SINGLE, LEVEL, 500, BYTE | IER_WRITE},
-    {"never IIR, no timeout", handle_by_lsr, NO_TIMEOUT, TURNS_AND_POLLS, SINGLE, LEVEL, 500, BYTE | IER_WRITE},
-    {"Linux, in turns", handle_linux, ONLY_IN_TURNS, ALONE, SINGLE, LEVEL, 3000, BYTE | IER_WRITE | TURN},
-    {"Xen, in turns", handle_xen, ONLY_IN_TURNS, ALONE, SINGLE, LEVEL, 500, BYTE | IER_WRITE | TURN},
+    {"Linux, no timeout", handle_linux, NO_TIMEOUT, ALONE, SINGLE, LEVEL, 3000, BYTE | IER_WRITE, false},
+    {"Xen, no timeout", handle_xen, NO_TIMEOUT, ALONE, SINGLE, LEVEL, 500, BYTE | IER_WRITE, false},
+    {"IIR once, no timeout", handle_once, NO_TIMEOUT, TURNS, SINGLE, LEVEL, 500, BYTE | IER_WRITE, false},
+    {"never IIR, no timeout", handle_by_lsr, NO_TIMEOUT, TURNS_AND_POLLS, SINGLE, LEVEL, 500, BYTE | IER_WRITE, false},
+    {"Linux, in turns", handle_linux, ONLY_IN_TURNS, ALONE, SINGLE, LEVEL, 2000, BYTE | IER_WRITE | TURN, false},
+    {"Xen, in turns", handle_xen, ONLY_IN_TURNS, ALONE, SINGLE, LEVEL, 500, BYTE | IER_WRITE | TURN, false},
+
+    /* The same if Linux's handler gives up, on a line that takes levels, and no turn comes. */
+    {"Linux gives up", handle_linux, NO_FAULT, ALONE, LEVEL, LEVEL, 5, BYTE | IER_WRITE | TURN, true},
+    {"Linux gives up, turns", handle_linux, NO_FAULT, TURNS, LEVEL, LEVEL, 1, 0, true},
+    {"Linux gives up, edges", handle_linux, NO_FAULT, ALONE, SINGLE, MERGED, 1, 0, true},
 
     /* Bytes to send are left, whatever the monitor does. */
-    {"IIR at the end", handle_and_acknowledge, NO_FAULT, TURNS, SINGLE, LEVEL, 500, BYTE | IER_WRITE},
+    {"IIR at the end", handle_and_acknowledge, NO_FAULT, TURNS, SINGLE, LEVEL, 500, BYTE | IER_WRITE, false},
 
     /*
      * Of the two interrupts of an IER write one is enough: both conditions are pending before it is raised, so the
      * handler finds both. Only a driver that serves one direction in each interrupt loses one by it. But such a driver
      * also stalls without a fault of the monitor, if the two are merged or the line is a level.
      */
-    {"Linux, second dropped", handle_linux, DROPS_SECOND, ALONE, SINGLE, MERGED, 500, 0},
-    {"Xen, second dropped", handle_xen, DROPS_SECOND, ALONE, SINGLE, MERGED, 500, 0},
-    {"IIR once, second dropped", handle_once, DROPS_SECOND, TURNS, SINGLE, MERGED, 500, 0},
-    {"one direction", handle_one_direction, NO_FAULT, ALONE, SINGLE, SINGLE, 500, 0},
-    {"one direction, second dropped", handle_one_direction, DROPS_SECOND, ALONE, SINGLE, SINGLE, 2000, IER_WRITE},
-    {"one direction, merged", handle_one_direction, NO_FAULT, ALONE, MERGED, LEVEL, 500, IER_WRITE},
+    {"Linux, second dropped", handle_linux, DROPS_SECOND, ALONE, SINGLE, MERGED, 500, 0, false},
+    {"Xen, second dropped", handle_xen, DROPS_SECOND, ALONE, SINGLE, MERGED, 500, 0, false},
+    {"IIR once, second dropped", handle_once, DROPS_SECOND, TURNS, SINGLE, MERGED, 500, 0, false},
+    {"one direction", handle_one_direction, NO_FAULT, ALONE, SINGLE, SINGLE, 500, 0, false},
+    {"one direction, second dropped", handle_one_direction, DROPS_SECOND, ALONE, SINGLE, SINGLE, 2000, IER_WRITE, false},
+    {"one direction, merged", handle_one_direction, NO_FAULT, ALONE, MERGED, LEVEL, 500, IER_WRITE, false},
 
     /* Both conditions are pending, so neither a byte nor an IER write raises one again. */
-    {"Linux, no retry", handle_linux, NO_RETRY, ALONE, SINGLE, MERGED, 500, RETRY},
-    {"Xen, no retry", handle_xen, NO_RETRY, ALONE, SINGLE, MERGED, 500, RETRY},
-    {"IIR once, no retry", handle_once, NO_RETRY, TURNS, SINGLE, MERGED, 500, RETRY},
+    {"Linux, no retry", handle_linux, NO_RETRY, ALONE, SINGLE, MERGED, 500, RETRY, false},
+    {"Xen, no retry", handle_xen, NO_RETRY, ALONE, SINGLE, MERGED, 500, RETRY, false},
+    {"IIR once, no retry", handle_once, NO_RETRY, TURNS, SINGLE, MERGED, 500, RETRY, false},
+
+    /* RDA is pending, was refused, and IER disabled it when it was tried again. */
+    {"Linux, refusals", handle_linux, REFUSALS, ALONE, SINGLE, MERGED, 1000, 0, false},
+    {"Linux, no retry at IER", handle_linux, NO_RETRY_AT_IER, ALONE, SINGLE, MERGED, 3000, RETRY | TURN, false},
 
     /* THRE is pending. A handler that reads IIR until nothing is pending finds it without an interrupt. */
-    {"Linux, none after THR", handle_linux, DROPS_AFTER_THR, ALONE, SINGLE, MERGED, 500, 0},
-    {"Xen, none after THR", handle_xen, DROPS_AFTER_THR, ALONE, SINGLE, MERGED, 500, 0},
-    {"IIR once, none after THR", handle_once, DROPS_AFTER_THR, TURNS, SINGLE, MERGED, 500, BYTE | RETRY},
+    {"Linux, none after THR", handle_linux, DROPS_AFTER_THR, ALONE, SINGLE, MERGED, 500, 0, false},
+    {"Xen, none after THR", handle_xen, DROPS_AFTER_THR, ALONE, SINGLE, MERGED, 500, 0, false},
+    {"IIR once, none after THR", handle_once, DROPS_AFTER_THR, TURNS, SINGLE, MERGED, 500, BYTE | RETRY, false},
 };
 
 int main(int count, char **arguments) {

@@ -1,7 +1,7 @@
 /* SPDX-License-Identifier: Apache-2.0 OR BSD-3-Clause */
 /*
- * Drives the monitor of examples/c by the lines of demo.txt, which come on standard input, in place of its `main`.
- * Prints them, and beside each what the monitor prints for it.
+ * Drives the machine of examples/c by the lines of demo.txt, which come on standard input, in place of its `main`.
+ * Prints them, and beside each what the machine prints for it.
  */
 #include <ctype.h>
 #include <setjmp.h>
@@ -11,63 +11,56 @@
 #include <superio.h>
 
 static jmp_buf ended;
-static char said[4096];                  /* what the monitor prints for a line */
+static char said[4096];                  /* what the machine prints for a line */
 static unsigned long long first, second; /* the numbers of the line */
 
-/* These take the place of what the monitor calls. The line `move` says which load gives which status. */
+/* These take the place of what the machine calls. The line `move` says which load gives which status. */
 #define main demo_main
 #define printf(...) sprintf(said + strlen(said), __VA_ARGS__)
 #define puts(text) printf("%s\n", text)
 #define fprintf(file, ...) printf(__VA_ARGS__)
 #define exit(status) (printf("status %d\n", status), longjmp(ended, 1))
-#define superio_serial_load(...) (first == 1 ? (uint32_t)second : superio_serial_load(__VA_ARGS__))
+#define superio_console_load(...) (first == 1 ? (uint32_t)second : superio_console_load(__VA_ARGS__))
 #define superio_rtc_load(...) (first == 2 ? (uint32_t)second : superio_rtc_load(__VA_ARGS__))
-#include "monitor.c"
+#include "machine.c"
 #undef main
 
 static struct machine machine;
-
-static void add_input(size_t count, int byte) {
-    size_t length = strlen(machine.input);
-    check(length + count < sizeof machine.input, "keeping the input");
-    memset(machine.input + length, byte, count);
-    machine.input[length + count] = 0;
-    feed(&machine);
-}
 
 static void read_port(uint16_t port) {
     uint8_t byte = port_read(&machine, port); /* which may print */
     printf("%02x\n", byte);
 }
 
-static void run_handler(void) {
-    int received = 0;
-    while (machine.is_interrupted) {
-        machine.is_interrupted = false;
-        received += handle(&machine);
-    }
+static void run_guest(void) {
+    int received = run_handler(&machine);
     printf("received %d\n", received);
+}
+
+/* A turn for so many bytes of input. */
+static void make_turn(size_t count, int byte) {
+    uint8_t input[128];
+    check(count < sizeof input, "reading a line");
+    memset(input, byte, sizeof input);
+    size_t accepted = turn(&machine, input, count);
+    if (accepted < count)
+        printf("%zu went in\n", accepted);
 }
 
 #define IS(name) (strcmp(word, name) == 0)
 
-static void carry_out(const char *word) {
-    struct machine made = {.serial = superio_serial_new(), .clock = superio_rtc_new(), .now = 1000};
+static void obey(const char *word) {
+    struct machine made = {.clock = superio_rtc_new(), .now = 1000};
+    superio_console_new(&made.console, false);
     made.has_level = IS("level");
     if (IS("edges") || IS("level")) machine = made;
     else if (IS("out")) port_write(&machine, (uint16_t)first, (uint8_t)second);
     else if (IS("in")) read_port((uint16_t)first);
     else if (IS("store")) memory_write(&machine, 0x09011000 + first, (uint32_t)second);
-    else if (IS("handler")) run_handler();
-    else if (IS("input")) add_input((size_t)first, (int)second);
-    else if (IS("early")) machine.feeds_early = true;
-    else if (IS("turn")) turn(&machine);
+    else if (IS("handler")) run_guest();
+    else if (IS("turn")) make_turn((size_t)first, (int)second);
     else if (IS("down")) machine.line_is_down = true;
     else if (IS("up")) machine.line_is_down = false;
-    else if (IS("busy")) machine.reader_is_busy = true;
-    else if (IS("ready")) machine.reader_is_busy = false;
-    else if (IS("send")) while (first-- > 0) port_write(&machine, COM1, (uint8_t)second);
-    else if (IS("dropped")) printf("%zu\n", machine.dropped);
     else if (IS("time")) machine.now = first;
     else if (IS("alarm")) alarm_is_due(&machine);
     else if (IS("move")) machine = migrate(&machine);
@@ -75,7 +68,7 @@ static void carry_out(const char *word) {
     if (machine.has_level && !IS("level")) printf("level %d\n", machine.is_interrupted);
 }
 
-/* Joins what the monitor prints. What it prints again and again stands once, with its number. */
+/* Joins what the machine prints. What it prints again and again stands once, with its number. */
 static void join(char *joined) {
     const char *last = "";
     int number = 1;
@@ -97,7 +90,7 @@ static void follow(const char *line, char *joined) {
     said[0] = joined[0] = '\0';
     sscanf(line, "%15s %llx %llx", word, &first, &second);
     if (setjmp(ended) == 0)
-        carry_out(word);
+        obey(word);
     join(joined);
 }
 

@@ -1,9 +1,9 @@
 /* SPDX-License-Identifier: Apache-2.0 OR BSD-3-Clause */
 /*
- * Makes the calls of tests/data/calls and of own.txt, which come on standard input, over the C library, as C and as
- * C++, and compares what each did. The trigger, the writer and the events object, which the library leaves to its
- * caller, are here. Each struct and each string of bytes is beside a page that nobody may touch: in turn after one and
- * before one.
+ * Makes the calls of tests/data/calls, of own.txt and of console.txt, which come on standard input, over the C library,
+ * as C and as C++, and compares what each did. The trigger, the writer and the events object, which the library leaves
+ * to its caller, are here. Each struct and each string of bytes is beside a page that nobody may touch: in turn after
+ * one and before one.
  *
  * Prints the first ten lines that differ, and how many calls did the same. Exits 1 if one differs, or if there is none.
  */
@@ -16,12 +16,13 @@
 #include <string.h>
 #include <sys/mman.h>
 
-enum { HEADER = 8, REGISTERS = 9, SHOWN = 16, MOST_WORDS = 8, MOST_TEXT = 1024 };
+enum { HEADER = 8, REGISTERS = 9, SHOWN = 16, MOST_WORDS = 8, MOST_TEXT = 16384 };
 /* The size of a page, and which ones may be used. */
-enum { PAGE = 131072, PORT_PAGE = 1, CLOCK_PAGE = 3, BYTES_PAGE = 5, PAGES = 7 };
+enum { PAGE = 131072, PORT_PAGE = 1, CLOCK_PAGE = 3, CONSOLE_PAGE = 5, BYTES_PAGE = 7, PAGES = 9 };
 
 static uint8_t *memory;
 static superio_serial *port;
+static superio_console *console;
 static superio_rtc *rtc;
 static unsigned long line_number;
 
@@ -181,6 +182,74 @@ static void serial_state(void) {
     restore(restored);
 }
 
+/* ---- the console */
+
+/* Carries out what a call leaves, up to a refusal. */
+static void carry_out(superio_console_work work) {
+    int left = ask(work.interrupts);
+    if (left > 0) {
+        superio_console_work refused = superio_console_refuse(console);
+        if (refused.interrupts != 0 || refused.is_up != work.is_up)
+            add(events, " a refusal that leaves something else");
+        work.wakes |= refused.wakes;
+    }
+    add(events, "%s%s", work.is_up ? " up" : "", work.wakes ? " wake" : "");
+}
+
+static void finish(superio_console_work work) {
+    add(reply, "ok");
+    carry_out(work);
+}
+
+static void console_read(void) {
+    superio_console_read_effects done = superio_console_read(console, (uint8_t)number(1));
+    add(reply, "%02x", done.byte);
+    carry_out(done.work);
+}
+
+static void console_wants(void) {
+    superio_console_wanted wanted = superio_console_wants(console);
+    add(reply, "%02zx%s%s", wanted.input, wanted.output ? " output" : "", wanted.turn ? " turn" : "");
+}
+
+static void console_receive(void) {
+    size_t count;
+    const uint8_t *bytes = bytes_of(words[1], &count);
+    superio_console_receive_effects done = superio_console_receive(console, bytes, count);
+    add(reply, "%02zx", done.accepted);
+    carry_out(done.work);
+}
+
+static void console_output(void) {
+    size_t count = (size_t)number(1);
+    uint8_t *bytes = count > 0 ? (uint8_t *)beside_guard(BYTES_PAGE, count) : NULL;
+    count = superio_console_output(console, bytes, count);
+    add(reply, count == 0 ? "-" : "");
+    add_bytes(bytes, count);
+}
+
+/* The struct by its fields, of arrays the first bytes. It may be set before: first the bytes of the port. */
+static void console_struct(void) {
+    size_t count;
+    if (words[1]) {
+        memset(console, 0, sizeof *console);
+        const uint8_t *bytes = bytes_of(words[1], &count);
+        memcpy(&console->port, bytes, count);
+        console->output_head = (uint16_t)number(2);
+        console->output_len = (uint16_t)number(3);
+        bytes = bytes_of(words[4], &count);
+        memcpy(console->output_bytes, bytes, count);
+        console->dropped = number(5);
+        bytes = bytes_of(words[6], &count);
+        memcpy(&console->is_polled, bytes, count);
+    }
+    add_bytes(&console->port, SHOWN);
+    add(reply, " %04x %04x ", console->output_head, console->output_len);
+    add_bytes(console->output_bytes, 4);
+    add(reply, " %" PRIx64 " %02x%02x%02x%02x", console->dropped, console->is_polled, console->is_ready,
+        console->is_asleep, console->is_refused);
+}
+
 /* ---- the clock, and saved devices */
 
 static void clock_state(void) {
@@ -213,25 +282,31 @@ static void clock_write(void) {
     add(reply, "ok");
 }
 
-static void save(bool is_serial) {
-    size_t count = is_serial ? SUPERIO_SERIAL_SAVED_MAX : SUPERIO_RTC_SAVED_SIZE;
-    uint8_t *bytes = (uint8_t *)beside_guard(BYTES_PAGE, count);
-    if (is_serial)
-        count = superio_serial_save(port, bytes);
+static void save(void) {
+    size_t most = *words[0] == 's' ? SUPERIO_SERIAL_SAVED_MAX
+                : *words[0] == 'l' ? SUPERIO_CONSOLE_SAVED_MAX : SUPERIO_RTC_SAVED_SIZE;
+    uint8_t *bytes = (uint8_t *)beside_guard(BYTES_PAGE, most);
+    if (*words[0] == 's')
+        most = superio_serial_save(port, bytes);
+    else if (*words[0] == 'l')
+        most = superio_console_save(console, bytes);
     else
         superio_rtc_save(rtc, bytes);
-    add_bytes(bytes, count);
+    add_bytes(bytes, most);
 }
 
 /* Loads bytes as a device, and replies with the status in the words of docs/SCRIPT.md. */
-static void load(bool is_serial) {
+static void load(void) {
     static const char *const WORDS[] = {"ok", "too short", "not a saved state", "other device", "unknown version",
-                                        "wrong length", "too many bytes", "invalid armed"}; /* by the status */
+                                        "wrong length", "too many bytes", "invalid armed",
+                                        "invalid flags"}; /* by the status */
     size_t count;
     const uint8_t *bytes = bytes_of(words[1], &count);
-    uint32_t status = is_serial ? superio_serial_load(port, bytes, count) : superio_rtc_load(rtc, bytes, count);
+    uint32_t status = *words[0] == 's' ? superio_serial_load(port, bytes, count)
+                    : *words[0] == 'l' ? superio_console_load(console, bytes, count)
+                                       : superio_rtc_load(rtc, bytes, count);
     strcat(reply, status < sizeof WORDS / sizeof *WORDS ? WORDS[status] : "no status");
-    if (status == SUPERIO_LOAD_UNKNOWN_VERSION)
+    if (status == SUPERIO_LOAD_UNKNOWN_VERSION && *words[0] != 'l')
         add(reply, " %02x", bytes[5]);
 }
 
@@ -248,8 +323,8 @@ static void make_call(void) {
     else if (IS("ss")) restore(*port);
     else if (IS("sx")) serial_struct();
     else if (IS("sl") && words[2]) serial_state();
-    else if (IS("sl") || (IS("cl") && !words[2])) load(IS("sl"));
-    else if (IS("sb") || IS("cb")) save(IS("sb"));
+    else if (IS("sl") || IS("ll") || (IS("cl") && !words[2])) load();
+    else if (IS("sb") || IS("lb") || IS("cb")) save();
     else if (IS("sc")) add(reply, "%02zx", superio_serial_fifo_capacity(port));
     else if (IS("sh")) add(reply, "%02x", superio_serial_interrupt_line(port));
     else if (IS("sf")) add(reply, "%02x", superio_serial_is_coherent(port));
@@ -259,12 +334,26 @@ static void make_call(void) {
     else if (IS("cd") && superio_rtc_alarm_due(rtc, number(1)) == SUPERIO_RTC_NEVER) add(reply, "never");
     else if (IS("cd")) add(reply, "%08" PRIx64, superio_rtc_alarm_due(rtc, number(1)));
     else if (IS("ch")) add(reply, "%02x", superio_rtc_interrupt_line(rtc));
+    else if (IS("ln")) superio_console_new(console, words[1] != NULL), add(reply, "ok");
+    else if (IS("lr")) console_read();
+    else if (IS("lw")) finish(superio_console_write(console, (uint8_t)number(1), (uint8_t)number(2)));
+    else if (IS("la")) console_wants();
+    else if (IS("lq")) console_receive();
+    else if (IS("lo")) console_output();
+    else if (IS("lc")) superio_console_consume(console, (size_t)number(1)), add(reply, "ok");
+    else if (IS("li")) add(reply, "%02x %" PRIx64, superio_console_is_full(console), superio_console_dropped(console));
+    else if (IS("lt")) finish(superio_console_turn(console));
+    else if (IS("lf")) finish(superio_console_refuse(console));
+    else if (IS("lz")) finish(superio_console_reset(console));
+    else if (IS("ls")) superio_console_suspend(console), add(reply, "ok");
+    else if (IS("lp")) finish(superio_console_set_polled(console, number(1) != 0));
+    else if (IS("lx")) console_struct();
     else if (IS("kr")) add(reply, "%02x", superio_i8042_read((uint8_t)number(1)));
     else if (IS("kw")) answer(!superio_i8042_write((uint8_t)number(1), (uint8_t)number(2)).resets || trigger());
 }
 
 /* Takes the words of a line's text, of which the last tell how the objects behave, and makes its call. */
-static void carry_out(char *text) {
+static void follow(char *text) {
     int count = 0;
     memset(words, 0, sizeof words);
     for (char *word = strtok(text, " "); word && count < MOST_WORDS; word = strtok(NULL, " "))
@@ -285,8 +374,10 @@ int main(void) {
     make_memory();
     port = (superio_serial *)beside_guard(PORT_PAGE, sizeof *port);
     rtc = (superio_rtc *)beside_guard(CLOCK_PAGE, sizeof *rtc);
+    console = (superio_console *)beside_guard(CONSOLE_PAGE, sizeof *console);
     *port = superio_serial_new();
     *rtc = superio_rtc_new();
+    superio_console_new(console, false);
     while (fgets(line, sizeof line, stdin)) {
         char *equals = strstr(line, " = ");
         if (!equals)
@@ -297,7 +388,8 @@ int main(void) {
         /* Any bytes are a device, so the devices can be moved as bytes. */
         port = (superio_serial *)memmove(beside_guard(PORT_PAGE, sizeof *port), port, sizeof *port);
         rtc = (superio_rtc *)memmove(beside_guard(CLOCK_PAGE, sizeof *rtc), rtc, sizeof *rtc);
-        carry_out(text);
+        console = (superio_console *)memmove(beside_guard(CONSOLE_PAGE, sizeof *console), console, sizeof *console);
+        follow(text);
         strcat(reply, events);
         if (strcmp(reply, equals + 3) == 0)
             same++;

@@ -12,14 +12,17 @@ from pathlib import Path
 import pytest
 from abi import CONSTANTS, FUNCTIONS, STRUCTS
 from board import CLOCK, SERIAL, fault
+from console import console_fault
 from harness import ROOT, check
 from libraries import SHARED
 from seeds import random_source
 
 GUARD = 64      # bytes before and behind what a pointer leads to
 ROUNDS = 400    # calls of each function
-SAVED = {"serial": CONSTANTS["SUPERIO_SERIAL_SAVED_MAX"], "rtc": CONSTANTS["SUPERIO_RTC_SAVED_SIZE"]}
+SAVED = {"serial": CONSTANTS["SUPERIO_SERIAL_SAVED_MAX"], "console": CONSTANTS["SUPERIO_CONSOLE_SAVED_MAX"],
+         "rtc": CONSTANTS["SUPERIO_RTC_SAVED_SIZE"]}
 HEADER = 8      # the bytes of a saved state before its fields
+FLAGS = ("is_polled", "is_ready", "is_asleep", "is_refused")
 
 
 class Place:
@@ -42,10 +45,14 @@ class Place:
 
 
 def random_device(source, kind):
-    """A struct of any bytes. Half of the ports hold no more bytes than they may."""
+    """A struct of any bytes. Half of the ports hold no more bytes than they may, and in half of the consoles no more
+    bytes of output wait than may."""
     device = kind.from_buffer_copy(source.randbytes(ctypes.sizeof(kind)))
-    if hasattr(device, "len") and source.random() < 0.5:
-        device.len %= 65
+    port = getattr(device, "port", device)
+    if hasattr(port, "len") and source.random() < 0.5:
+        port.len %= 65
+    if hasattr(device, "output_len") and source.random() < 0.5:
+        device.output_len %= 4097
     return bytes(device)
 
 
@@ -74,15 +81,18 @@ def places(arguments):
     return [it for it in arguments if isinstance(it, Place)]
 
 
+def value_of(result):
+    """A result as a value. The bytes between the fields of a struct are nobody's."""
+    if isinstance(result, ctypes.Structure):
+        return [value_of(getattr(result, name)) for name, _ in result._fields_]
+    return bytes(result) if isinstance(result, ctypes.Array) else result
+
+
 def call(library, function, arguments):
     """The result of a call, as a value, and what it left behind each pointer."""
     pointers = [it.pointer if isinstance(it, Place) else it for it in arguments]
     result = getattr(library, function.name)(*pointers)
-    # The bytes between the fields of a struct are nobody's.
-    if isinstance(result, ctypes.Structure):
-        fields = (getattr(result, name) for name, _ in result._fields_)
-        result = [bytes(it) if isinstance(it, ctypes.Array) else it for it in fields]
-    return result, [it.content() for it in places(arguments)]
+    return value_of(result), [it.content() for it in places(arguments)]
 
 
 def writable_pieces(path):
@@ -144,7 +154,7 @@ def test_counts(made):
                and any(it.is_pointer and not it.is_const for it in row[0].parameters)]
     assert counted
     assert not failures(counted, lambda function, arguments, result, left, _:
-                        left[-1][result:] == arguments[-1].content_before()[result:])
+                        left[-1][result:] == places(arguments)[-1].content_before()[result:])
 
 
 def test_earlier_results(made):
@@ -201,6 +211,17 @@ def test_long_input(library):
             assert (done.accepted, port.len, bytes(port.bytes[:fits])) == (fits, fits, bytes(range(fits))), count
 
 
+def test_long_input_of_a_console(library):
+    """A console takes 64 bytes at most, of any number."""
+    zeros = mmap.mmap(-1, 2 ** 32 + 2)
+    start = ctypes.addressof((ctypes.c_uint8 * 80).from_buffer(zeros))
+    console = ctypes.byref(STRUCTS["superio_console"]())
+    for count in (65, 2 ** 32 - 1, 2 ** 32, 2 ** 32 + 1):
+        library.superio_console_new(console, True)
+        assert library.superio_console_receive(console, start, count).accepted == 64
+        assert library.superio_console_receive(console, start, count).accepted == 0
+
+
 def saved(library, kind, device):
     """The saved state of a struct."""
     room = ctypes.create_string_buffer(SAVED[kind])
@@ -224,19 +245,29 @@ def test_there_and_back(library, kind):
         data = saved(library, kind, device)
         status, other = loaded(library, kind, data)
         assert (status, saved(library, kind, other)) == (0, data)
-        for name, field in struct._fields_:
-            if name not in ("armed", "head", "len", "bytes"):
-                assert getattr(other, name) == getattr(device, name), name
-        if kind == "rtc":
-            assert other.armed == bool(device.armed)
-        else:
-            held = [device.bytes[(device.head + place) % 64] for place in range(min(device.len, 64))]
-            assert [other.bytes[(other.head + place) % 64] for place in range(other.len)] == held
+        assert kept(other) == kept(device)
+
+
+def in_ring(ring, head, count):
+    """The bytes of a ring, the oldest first."""
+    return [ring[(head + place) % len(ring)] for place in range(min(count, len(ring)))]
+
+
+def kept(device):
+    """What a saved state keeps of a struct."""
+    fields = {name: getattr(device, name) for name, _ in device._fields_}
+    if "port" in fields:
+        ring = in_ring(*(fields.pop(f"output_{name}") for name in ("bytes", "head", "len")))
+        return {**fields, "port": kept(device.port), "output": ring, **{name: bool(fields[name]) for name in FLAGS}}
+    if "bytes" in fields:
+        return {**fields, "bytes": in_ring(device.bytes, device.head, device.len), "head": 0, "len": 0}
+    return {**fields, "armed": bool(device.armed)}
 
 
 def status_of(kind, data):
     """What a load of bytes returns, by the first check of docs/SAVED-STATES.md that they fail."""
-    words = re.sub(" ..$", "", fault({"serial": SERIAL, "rtc": CLOCK}[kind], data))   # without an unknown version
+    words = console_fault(data) if kind == "console" else fault({"serial": SERIAL, "rtc": CLOCK}[kind], data)
+    words = re.sub("(version) ..", r"\1", words)   # without the version
     return CONSTANTS[f"SUPERIO_LOAD_{words.upper().replace(' ', '_')}"]
 
 
@@ -246,7 +277,10 @@ def test_damaged(library, kind):
     are, or leave the struct as it was and say which check they fail."""
     source, struct = random_source(kind), STRUCTS[f"superio_{kind}"]
     for _ in range(8):
-        data = saved(library, kind, struct.from_buffer_copy(random_device(source, struct)))
+        device = struct.from_buffer_copy(random_device(source, struct))
+        if kind == "console":
+            device.output_len %= 21   # with more it takes long, and finds no more
+        data = saved(library, kind, device)
         flipped = [bytes([*data[:place], data[place] ^ 1 << bit, *data[place + 1:]])
                    for place in range(len(data)) for bit in range(8)]
         other_lengths = [data[:count] for count in range(len(data))] + [data + bytes(count) for count in (1, 9, 65536)]

@@ -24,10 +24,13 @@ CONDITIONS = [
 HIDDEN = ["HAS_ATTRIBUTE", "MUST_USE", "NONNULL", "ACCESS", "COUNTED", "AT_LEAST"]
 CALLER = """#include <superio.h>
 void use(uint64_t result);
-void make(superio_serial *port, superio_rtc *clock);
-void make(superio_serial *port, superio_rtc *clock) {{ (void)port, (void)clock; {} }}
+void make(superio_serial *port, superio_console *console, superio_rtc *clock);
+void make(superio_serial *port, superio_console *console, superio_rtc *clock) {{
+    (void)port, (void)console, (void)clock;
+    {}
+}}
 """
-MISTAKES = at_least(30, [re.split("  +", row) for row in (HERE / "mistakes.txt").read_text("ascii").splitlines()
+MISTAKES = at_least(50, [re.split("  +", row) for row in (HERE / "mistakes.txt").read_text("ascii").splitlines()
                          if row and not row.startswith("#")])
 
 
@@ -58,7 +61,7 @@ def test_version():
 @pytest.mark.parametrize("name", ["replay.c", "mistakes.txt"])
 def test_each_function_is_called(name):
     called = set(re.findall(r"\b(superio_\w+)\(", (HERE / name).read_text(encoding="utf-8")))
-    assert not {*at_least(21, read_header().functions)} - called
+    assert not {*at_least(37, read_header().functions)} - called
 
 
 @pytest.mark.parametrize("compiler", compilers_for("x86_64", "aarch64"))

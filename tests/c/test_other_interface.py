@@ -23,11 +23,15 @@ def compiler(tmp_path):
     return ["cc", "-I", ROOT / "bindings/c", tmp_path / "other.c", "-Wl,--wrap=superio_abi"]
 
 
-def test_monitor_to_copy(compiler, tmp_path):
+@pytest.mark.parametrize("name, said", [
+    ("monitor", "monitor: the library has another interface than the header"),
+    ("machine", "comparing the interface of the library failed"),
+])
+def test_program_to_copy(compiler, name, said, tmp_path):
     library = PREBUILT / f"{platform.machine()}-linux" / STATIC
-    check([*compiler, ROOT / "examples/c/monitor.c", library, "-o", tmp_path / "monitor"], "")
-    ran = run([tmp_path / "monitor"])
-    assert (ran.returncode, ran.stdout) == (1, "the comparison of header and library failed\n")
+    check([*compiler, ROOT / f"examples/c/{name}.c", library, "-o", tmp_path / name], "")
+    ran = run([tmp_path / name])
+    assert (ran.returncode, ran.stdout) == (1, f"{said}\n")
 
 
 @pytest.mark.where("Linux on x86-64")

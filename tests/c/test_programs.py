@@ -5,10 +5,11 @@ The Makefile builds and runs them, for this processor by gcc, with sanitizers, a
 cross compilers and qemu's user mode.
 
 - replay.c calls each function: recorded calls, some with values from the data sheets, every answer, loads and random
-  calls, which do what a search of the past says.
-- paste.c and the demo of examples/c print what they should, and the demo does the duties of demo.txt.
-- console.c has guests that receive and send at once, and no byte waits for ever, unless a monitor or a driver breaks a
-  rule.
+  calls, which do what a search of the past says, and those of a console what a model says.
+- the programs of examples/c print what they should, and the machine does the duties of demo.txt.
+- console.c has guests that receive and send at once over a bare port, and no byte waits for ever, unless a monitor or a
+  driver breaks a rule.
+- worlds.c has guests and event loops around consoles, and consoles of any bytes.
 """
 import re
 from pathlib import Path
@@ -17,6 +18,7 @@ import pytest
 from board import Board
 from builds import HOST, PROCESSORS, compilers_for, make_words, prebuilt
 from cargo import LIMIT, toolchain_for
+from console import random_runs
 from harness import ROOT, at_least, check
 from libraries import STATIC
 from made import every_load
@@ -26,7 +28,7 @@ from seeds import seed, seeds
 
 HERE = Path(__file__).parent
 LOADED_CALLS, RUNS = 20_000, 2_500
-DEMO = at_least(310, re.findall(r"^\w.*", (HERE / "demo.txt").read_text("ascii"), re.M))
+DEMO = at_least(210, re.findall(r"^\w.*", (HERE / "demo.txt").read_text("ascii"), re.M))
 OTHERS = ["s390x", "arm"]   # for which there is only the library from source
 
 
@@ -42,10 +44,11 @@ def calls(tmp_path_factory):
     """A file of what every library does, and how many calls it has: first C's own, which begin with new devices, then
     the recordings, which begin with a new clock, and at the end loads and random calls."""
     random_calls = [call for run in random_recorded(seeds("C", RUNS)) for call in run]
-    text = "".join([*{**recordings(HERE / "own.txt"), **recordings(), **recordings(HERE / "shared.txt")}.values(),
-                    recording_of(every_answer()), loads(), recording_of(random_calls)])
+    text = "".join([*{**recordings(HERE / "own.txt", HERE / "console.txt"), **recordings(),
+                      **recordings(HERE / "shared.txt")}.values(), recording_of(every_answer()), loads(),
+                    recording_of(random_calls), random_runs(seeds("consoles", RUNS // 4))])
     number, path = text.count(" = "), tmp_path_factory.mktemp("calls") / "calls"
-    assert number >= 371_000
+    assert number >= 395_000
     path.write_text(text, "ascii")
     return path, number
 
@@ -91,6 +94,10 @@ def exchange(compiler, processor, library, folder):
     assert sum(map(int, re.findall(r"^\d+ of (\d+) exchanges stalled: ", said, re.M))) >= 30_000
 
 
+def make_worlds(compiler, processor, library, folder):
+    check(make_words(compiler, processor, library, folder, "worlds", f"SEED={seed()}"), "2000 worlds came to rest\n")
+
+
 @needs_make
 @pytest.mark.parametrize("compiler, processor", PREBUILT)
 def test_calls(compiler, processor, calls, tmp_path):
@@ -109,6 +116,22 @@ def test_exchanges(compiler, processor, tmp_path):
     exchange(compiler, processor, prebuilt(processor), tmp_path)
 
 
+@needs_make
+@pytest.mark.parametrize("compiler, processor", in_c(cases(HOST)))
+def test_worlds(compiler, processor, tmp_path):
+    make_worlds(compiler, processor, prebuilt(processor), tmp_path)
+
+
+@needs_make
+@pytest.mark.needs("cc")
+def test_threads_of_examples_by_gcc(tmp_path):
+    """No thread of an example uses what another one changes without its lock."""
+    compiler = "gcc -xc -std=c99 -g -fsanitize=thread"
+    check([*compiler.split(), "-I", ROOT / "bindings/c", ROOT / "examples/c/monitor.c", "-xnone", prebuilt(HOST), "-o",
+           tmp_path / "monitor"], "")
+    check([tmp_path / "monitor"], "3000 bytes came back, 3000 of them in order\n")
+
+
 @needs_cargo
 @pytest.mark.parametrize("compiler, processor", SOURCE)
 def test_calls_from_source(compiler, processor, calls, from_source, tmp_path):
@@ -119,3 +142,9 @@ def test_calls_from_source(compiler, processor, calls, from_source, tmp_path):
 @pytest.mark.parametrize("compiler, processor", in_c(SOURCE))
 def test_examples_from_source(compiler, processor, from_source, tmp_path):
     check(make_words(compiler, processor, from_source(processor), tmp_path, "examples"))
+
+
+@needs_cargo
+@pytest.mark.parametrize("compiler, processor", in_c(SOURCE))
+def test_worlds_from_source(compiler, processor, from_source, tmp_path):
+    make_worlds(compiler, processor, from_source(processor), tmp_path)

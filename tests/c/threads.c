@@ -5,7 +5,7 @@
 #include <stdio.h>
 #include <superio.h>
 
-enum { ROUNDS = 300000 };
+enum { ROUNDS = 200000 };
 
 struct player {
     uint64_t seed, digest;
@@ -40,6 +40,28 @@ static uint64_t call_port(superio_serial *port, uint32_t number, uint64_t digest
     return mixed(digest, superio_serial_character_timeout(port) + 2u * superio_serial_interrupt_line(port));
 }
 
+static uint64_t call_console(superio_console *console, uint32_t number, uint64_t digest) {
+    static const uint8_t VALUES[] = {0, 1, 3, 'a'};
+    uint8_t saved[SUPERIO_CONSOLE_SAVED_MAX] = {0}, offset = number & 3, value = VALUES[number >> 8 & 3];
+    superio_console_work written = superio_console_write(console, offset, value);
+    superio_console_receive_effects received = superio_console_receive(console, &value, 1);
+    superio_console_read_effects read = superio_console_read(console, number >> 16 & 7);
+    superio_console_work turned = number >> 24 & 1 ? superio_console_turn(console) : superio_console_refuse(console);
+    superio_console_wanted wanted = superio_console_wants(console);
+    if (number >> 25 < 2)
+        superio_console_suspend(console);
+    else if (number >> 25 < 4)
+        digest = mixed(digest, superio_console_reset(console).wakes + superio_console_set_polled(console, true).wakes);
+    size_t count = superio_console_output(console, saved, number >> 28);
+    superio_console_consume(console, count);
+    digest = mixed_bytes(digest, saved, count);
+    count = superio_console_save(console, saved);
+    digest = mixed(mixed_bytes(digest, saved, count), superio_console_load(console, saved, count));
+    digest = mixed(digest, written.interrupts + 4u * received.work.interrupts + 16u * turned.interrupts);
+    digest = mixed(digest, read.byte + 256u * written.is_up + 512u * read.work.wakes + 1024u * wanted.input);
+    return mixed(digest, superio_console_is_full(console) + superio_console_dropped(console));
+}
+
 static uint64_t call_clock(superio_rtc *clock, uint32_t number, uint64_t digest) {
     uint8_t saved[SUPERIO_RTC_SAVED_SIZE] = {0};
     uint64_t now = number & 0xFFFF;
@@ -54,9 +76,12 @@ static uint64_t call_clock(superio_rtc *clock, uint32_t number, uint64_t digest)
 static void *play(void *argument) {
     struct player *player = argument;
     superio_serial port = superio_serial_new();
+    superio_console console;
     superio_rtc clock = superio_rtc_new();
+    superio_console_new(&console, false);
     for (int i = 0; i < ROUNDS; i++) {
         player->digest = call_port(&port, drawn(&player->seed), player->digest);
+        player->digest = call_console(&console, drawn(&player->seed), player->digest);
         player->digest = call_clock(&clock, drawn(&player->seed), player->digest);
     }
     return NULL;

@@ -20,8 +20,8 @@ DEBIAN_RUSTC = Path("/usr/bin/rustc")
 LIMIT = 1200   # seconds that one command may take
 # Most is built once, and nothing is debugged.
 SETTINGS = {"CARGO_INCREMENTAL": "0", "CARGO_PROFILE_DEV_DEBUG": "0", "CARGO_NET_OFFLINE": "true"}
-# A program over bindings/rust or, without the feature, over a vm-superio, which it takes by the line of the README. It
-# needs no default feature of it.
+# A program over bindings/rust or, without the feature `further`, over a vm-superio, which it takes by the line of the
+# README. It needs no default feature of it.
 PROGRAM = """
 [lib]
 name = "objects"
@@ -31,6 +31,7 @@ name = "{0}"
 path = "{1}/{0}.rs"
 [features]
 further = []
+bare = []
 [dependencies]
 superio = {{ package = "vm-superio", version = "0.8.2", default-features = false }}
 [patch.crates-io]
@@ -120,12 +121,13 @@ def copied_crate(folder, toolchain=None, crate=BINDINGS):
 
 
 class Comparison(Cargo):
-    """A program of tests/compare, over bindings/rust or over a vm-superio."""
+    """A program of tests/compare, over bindings/rust or over a vm-superio, with some features of its own."""
 
-    def __init__(self, folder, crate=None, name="compare"):
+    def __init__(self, folder, crate=None, name="compare", features=()):
         add_crate(folder, None, PROGRAM.format(name, COMPARISON, crate or BINDINGS))
         super().__init__(folder)
-        self.features, self.program = [] if crate else ["--features=further"], folder / "target" / "release" / name
+        self.features = ["--features", ",".join([*features, *([] if crate else ["further"])])]
+        self.program = folder / "target" / "release" / name
 
     def build(self, **environment):
         """Returns what Cargo ended with."""

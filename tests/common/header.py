@@ -10,7 +10,7 @@ CONSTANT = re.compile(r'^(?:#define| ) *(SUPERIO_\w+) (?:= )?(\d\w*|"[^"]*"|UINT
 DIRECTIVE = re.compile(r"^#(?:.*\\\n)*.*$", re.M)
 # In code of one line.
 STRUCT = re.compile(r"typedef struct (\w+) \{(.*?)\} \1;")
-SIZE = re.compile(r"\[sizeof\((\w+)\) == (\d+)( \* sizeof\(size_t\))? \?")
+SIZE = re.compile(r"\[sizeof\((\w+)\) == (\d+)( \* sizeof\(size_t\))? (?:\?|\|\|)")
 FUNCTION = re.compile(r"((?:\w+ )+\*?)(superio_\w+)\(([^()]*)\)[^;{}]*;")
 DECLARED = re.compile(r"\s*((?:const )?\w+ \*?)(\w+)(?:\[(\w+)\])?\s*")
 # The types of fields, with their sizes on processors of 64 bits.
@@ -55,12 +55,13 @@ def read_header(word=8):
          for name, number in CONSTANT.findall(text)})
 
 
-def layout(fields, constants):
-    """The place and the size of each field of a struct, and the size of all, by the rules of C: each field is aligned
-    to its size. A length may be one of these constants."""
-    places, end = [], 0
-    for kind, _, length in fields:
-        start, size = end + -end % BYTES[kind], BYTES[kind] * int(constants.get(length, length or 1))
-        places.append((start, size))
-        end = start + size
-    return places, end + -end % max(BYTES[kind] for kind, _, _ in fields)
+def layout(header, struct):
+    """The place and the size of each field of a struct, the size of all, and its alignment, by the rules of C on
+    processors of 64 bits: a number is aligned to its size, and a struct as its fields are."""
+    places, end, most = [], 0, 1
+    for kind, _, length in header.structs[struct]:
+        size, alignment = (BYTES[kind],) * 2 if kind in BYTES else layout(header, kind)[1:]
+        start = end + -end % alignment
+        places.append((start, size * int(header.constants.get(length, length or 1))))
+        end, most = sum(places[-1]), max(most, alignment)
+    return places, end + -end % most, most

@@ -21,7 +21,7 @@ def interface():
         types = [f"{it.kind} [{it.length}]" if it.length else it.kind for it in function.parameters]
         lines.append(f"function {function.returned} {name}({', '.join(types) or 'void'})")
     for struct, fields in header.structs.items():
-        places, whole = layout(fields, header.constants)
+        places, whole, _ = layout(header, struct)
         lines.append(f"struct {struct} size {whole}")
         lines += [f"field {struct}.{name} {kind} at {start} size {size}"
                   for (kind, name, _), (start, size) in zip(fields, places)]

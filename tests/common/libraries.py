@@ -20,7 +20,7 @@ TARGETS = {
     "x86_64-linux": ("--cpu=x86-64", "elf_x86_64"),
 }
 # The crates whose sources are compiled into the library.
-SOURCE_FOLDERS = ["crates/superio_c/src", "crates/superio_core/src"]
+SOURCE_FOLDERS = ["crates/superio_c/src", "crates/superio_console/src", "crates/superio_core/src"]
 
 
 def digest(path):

@@ -6,7 +6,9 @@ import shutil
 import subprocess
 from functools import lru_cache
 from glob import glob
+from pathlib import Path
 
+HERE = Path(__file__).resolve().parent
 # Beside each name that a test may need: commands, files, or imports of Debian's Python, each with its package.
 TOOLS = {
     "kit": {"rt": "the Rattle kit, which is no package"},
@@ -17,6 +19,7 @@ TOOLS = {
     "make": {"make": "make"},
     "qemu": {"qemu-system-x86_64": "qemu-system-x86", "apt-get": "apt"},
     "git": {"git": "git"},
+    "linux-source": {"/usr/src/linux-source-6.1.tar.xz": "linux-source-6.1"},
     "valgrind": {"valgrind": "valgrind"},
     "cargo": {"cargo": "cargo", "rustc": "rustc", "cc": "gcc"},
     "clippy": {"cargo-clippy": "rust-clippy"},
@@ -50,9 +53,23 @@ TOOLS = {
             "/usr/arm-linux-gnueabihf/lib/libc.a": "libc6-dev-armhf-cross", "/usr/bin/rustc": "rustc",
             "/usr/lib/rustlib/armv7-unknown-linux-gnueabihf/lib/libcore-*": "libstd-rust-dev:armhf"},
 }
+
+
+def of_guests(line):
+    """A line of Python over the modules of tests/guests."""
+    return f"import sys; sys.path[:0] = ['{HERE}', '{HERE.parent}/guests']; {line}"
+
+
 # What no package of Debian 12 has: tests of it run where that is there.
 PLACES = {"KVM": "import fcntl, os; fcntl.ioctl(fcntl.ioctl(os.open('/dev/kvm', os.O_RDWR), 0xAE01), 0xAE60)",
-          "Deno": "deno", "Linux on x86-64": "/lib64/ld-linux-x86-64.so.2",
+          "Deno": "deno",
+          **{f"version of {called} with sums in tests/guests": of_guests(f"import sources; assert sources.is_recorded('{name}')")
+             for called, name in [("Linux's source", "linux"), ("Linux 5.10", "linux-5.10"), ("Linux 6.12", "linux-6.12"),
+                                  ("Xen's source", "xen")]},
+          "source of each driver that polls with sums in tests/guests":
+          of_guests("import polling_drivers; assert polling_drivers.are_recorded()"),
+          "CBMC 6": of_guests("import cbmc; assert cbmc.installed()"),
+          "Linux on x86-64": "/lib64/ld-linux-x86-64.so.2",
           "folder VM_SUPERIO of vm-superio 0.8.2": "$VM_SUPERIO",
           "variable RECHECK_PLANTS": "$RECHECK_PLANTS",
           # Those of docs/PERFORMANCE.md.

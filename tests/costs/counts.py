@@ -2,7 +2,8 @@
 """What accesses of the devices cost, in instructions: the rows of docs/PERFORMANCE.md and their goals, and the programs
 `accesses` of tests/compare, which make them under callgrind. What their loop takes is subtracted.
 
-Counts do not depend on what else the machine does, but on the compilers, which the document names.
+Counts do not depend on what else the machine does, but on the compilers, which the document names. A second table has
+what accesses cost through a console, counted by the program `console`, beside the port in it.
 """
 import re
 import subprocess
@@ -18,8 +19,10 @@ from harness import ROOT, check
 DOCUMENT = ROOT / "docs" / "PERFORMANCE.md"
 ROUNDS = 10  # of the programs
 PLACES = 64  # of the ring of received bytes
-# The columns of the document's table, in order.
-THEIRS, RUST, BY_HAND, LIBRARY = COLUMNS = "vm-superio", "Rust crate", "C by hand", "C library"
+# The columns of the document's tables, in order.
+THEIRS, RUST, BY_HAND, LIBRARY = DEVICE_COLUMNS = "vm-superio", "Rust crate", "C by hand", "C library"
+PORT, CONSOLE = CONSOLE_COLUMNS = "port", "console"
+COLUMNS = DEVICE_COLUMNS + CONSOLE_COLUMNS
 # As a monitor is compiled, for such processors as Rattle's programs are.
 RUST_FLAGS = {"RUSTFLAGS": "-C target-cpu=x86-64-v2", "CARGO_PROFILE_RELEASE_LTO": "true",
               "CARGO_PROFILE_RELEASE_PANIC": "abort", "CARGO_PROFILE_RELEASE_OVERFLOW_CHECKS": "false"}
@@ -27,7 +30,9 @@ C_FLAGS = ["-std=c99", "-O2", "-march=x86-64-v2", "-Wall", "-Wextra", "-Werror",
            "-I", ROOT / "bindings" / "c"]
 C_LIBRARY = ROOT / "prebuilt" / "x86_64-linux" / "libsuperio_c.a"
 # What a row may take above another column, for each of its accesses.
-PORT_GOAL, C_GOAL, CLOCK_GOAL, ALARM_GOAL = 1, 2, 5, 10
+PORT_GOAL, C_GOAL, CLOCK_GOAL, ALARM_GOAL, CONSOLE_GOAL = 1, 2, 5, 10, 15
+# What 64 bytes in and out through a console may take of what they take by the port alone.
+CONSOLE_FACTOR = 1.3
 # Accesses of the clock at which vm-superio asks for the host's time, and at which the Rust crate does without an alarm.
 THEY_ASK, ASKS = ("R00", "W08"), ("R00", "W04", "W08", "h00")
 # What is read after a row: the registers and bytes of a port, or the registers of a clock.
@@ -36,8 +41,9 @@ CLOCK_READS = [f"m{offset}00" for offset in ("00", "04", "08", "10", "14", "18")
 
 
 class Row(NamedTuple):
-    """A row of the document's table: its first two cells; what it makes once, and what repeatedly; which of the 64
-    places of the ring counts if it is made at each; and by column the number, and whether it is bold."""
+    """A row of a table of the document: its columns; its first two cells; what it makes once, and what repeatedly; which
+    of the 64 places of the ring counts if it is made at each; and by column the number, and whether it is bold."""
+    columns: tuple
     name: str
     cell: str
     once: list
@@ -102,15 +108,16 @@ def accesses(cell):
 
 
 def read_rows():
-    """The rows of the document's table."""
+    """The rows of the document's two tables."""
     rows = []
     for line in DOCUMENT.read_text(encoding="utf-8").splitlines():
         cells = [cell.strip() for cell in line.strip("|").split("|")]
-        if len(cells) != 2 + len(COLUMNS) or "`" not in cells[1]:
+        columns = next((it for it in (DEVICE_COLUMNS, CONSOLE_COLUMNS) if len(cells) == 2 + len(it)), None)
+        if not columns or "`" not in cells[1]:
             continue
-        numbers = {column: cell for column, cell in zip(COLUMNS, cells[2:]) if cell}
+        numbers = {column: cell for column, cell in zip(columns, cells[2:]) if cell}
         place = re.search(r"(median|worst) of all places|$", cells[1])[1] or ""
-        rows.append(Row(*cells[:2], *accesses(cells[1]), place,
+        rows.append(Row(columns, *cells[:2], *accesses(cells[1]), place,
                         {column: int(cell.strip("*")) for column, cell in numbers.items()},
                         {column: cell.startswith("**") for column, cell in numbers.items()}))
     return rows
@@ -124,6 +131,11 @@ def host_time_of(rows):
 def goal(row, column, host_time):
     """The most that a row should take in a column, or `None`."""
     theirs, by_hand, number = row.numbers.get(THEIRS), row.numbers.get(BY_HAND), len(row.repeated)
+    if column == CONSOLE:
+        kinds = [access[0] for access in row.repeated]
+        if kinds == ["e", *PLACES * ["r"]]:
+            return CONSOLE_FACTOR * row.numbers[PORT]
+        return row.numbers[PORT] + CONSOLE_GOAL if kinds == ["r"] else None
     if column == LIBRARY and by_hand is not None:
         return by_hand + C_GOAL * number
     if column != RUST or theirs is None:
@@ -170,8 +182,10 @@ def program_of(column):
     """The program of a column."""
     folder = TemporaryDirectory(prefix="counts-")
     path = Path(folder.name, "accesses")
-    if column in (THEIRS, RUST):
-        comparison = Comparison(path, ORIGINAL if column == THEIRS else None, "accesses")
+    if column not in (BY_HAND, LIBRARY):
+        name = "console" if column in CONSOLE_COLUMNS else "accesses"
+        features = ["bare"] if column == PORT else []
+        comparison = Comparison(path, ORIGINAL if column == THEIRS else None, name, features)
         built = comparison.build(**RUST_FLAGS)
         assert built.returncode == 0, built.stdout
         return Program(comparison.program, folder)
@@ -197,9 +211,9 @@ def write_numbers(columns):
     for row in rows:
         cells = {column: f"**{number}**" if is_above_goal(row, column, host_time_of(rows)) else str(number)
                  for column, number in row.numbers.items()}
-        start = f"| {row.name} | {row.cell} |"
-        line = start + "|".join(f" {cells[column]} " if column in cells else " " for column in COLUMNS) + "|"
-        text = re.sub(f"^{re.escape(start)}.*$", line, text, flags=re.M)
+        start, other = f"| {row.name} | {row.cell} |", r"[^|\n]*\|" * len(row.columns)
+        line = start + "|".join(f" {cells[column]} " if column in cells else " " for column in row.columns) + "|"
+        text = re.sub(f"^{re.escape(start)}{other}$", line, text, flags=re.M)
     DOCUMENT.write_text(text, encoding="utf-8")
 
 

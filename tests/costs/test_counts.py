@@ -3,18 +3,18 @@
 import re
 
 import pytest
-from counts import (BY_HAND, COLUMNS, DOCUMENT, LIBRARY, RUST, THEIRS, counts_of, enqueue_slope, goal, host_time_of,
-                    is_above_goal, read_rows)
+from counts import (BY_HAND, COLUMNS, CONSOLE, DOCUMENT, LIBRARY, PORT, RUST, THEIRS, counts_of, enqueue_slope, goal,
+                    host_time_of, is_above_goal, read_rows)
 from harness import at_least
 from tools import PLACES
 
 TEXT = DOCUMENT.read_text(encoding="utf-8")
 # Places of tools.py: other compilers take other numbers of instructions.
 RUSTC, GCC = (re.search(rf"{name} [\d.]+\d", TEXT)[0] for name in ("rustc", "gcc"))
-ROWS = at_least(35, read_rows())
+ROWS = at_least(48, read_rows())
 NEEDS = {
     THEIRS: [pytest.mark.needs("cargo"), pytest.mark.where(RUSTC, "folder VM_SUPERIO of vm-superio 0.8.2")],
-    RUST: [pytest.mark.needs("cargo"), pytest.mark.where(RUSTC)],
+    **{column: [pytest.mark.needs("cargo"), pytest.mark.where(RUSTC)] for column in (RUST, PORT, CONSOLE)},
     BY_HAND: [pytest.mark.needs("cc"), pytest.mark.where(GCC)],
     LIBRARY: [pytest.mark.needs("cc"), pytest.mark.where(GCC)],
 }
@@ -31,7 +31,7 @@ def test_compilers_are_known():
     assert {RUSTC, GCC} <= set(PLACES)
 
 
-@pytest.mark.parametrize("row", ROWS, ids=lambda row: row.name)
+@pytest.mark.parametrize("row", ROWS, ids=lambda row: f"{row.columns[-1]}: {row.name}")
 def test_what_is_bold_is_above_its_goal(row):
     above = {column: is_above_goal(row, column, host_time_of(ROWS)) for column in row.numbers}
     assert above == row.is_bold, {column: goal(row, column, host_time_of(ROWS)) for column in row.numbers}
@@ -49,6 +49,11 @@ def test_count(row, column):
 def test_replies_are_those_of_the_rust_crate(row, column):
     """So are the interrupts, and the registers and bytes after it."""
     assert [it.replies for it in counts_of(column)[row.name]] == [it.replies for it in counts_of(RUST)[row.name]]
+
+
+@pytest.mark.parametrize("row, column", cases([CONSOLE], [row for row in ROWS if PORT in row.numbers]))
+def test_replies_of_a_console_are_those_of_the_port(row, column):
+    assert [it.replies for it in counts_of(column)[row.name]] == [it.replies for it in counts_of(PORT)[row.name]]
 
 
 @pytest.mark.parametrize("row, column", cases([RUST]))

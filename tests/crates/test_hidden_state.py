@@ -21,7 +21,7 @@ LISTS = [
      "alloc AllocError AllocFailed Global convert Infallible error Error as StdError fmt Debug Display Formatter "
      "Result io Read Write ErrorKind marker Model mem replace"),
     ("as a macro", r"\b(?!(?:else|if|in|match|return|while)\b)(\w+)![(\[{]", "matches prove vec write"),
-    ("as an attribute", r"#!?\[(\w+)", "derive derive_where inline repr tactic unsafe"),
+    ("as an attribute", r"#!?\[(\w+)", "derive derive_where inline must_use repr tactic unsafe"),
     ("as an impl", r"\bimpl\b[^{;]*?(\w+)(?:<[^{;]*>)? ?\bfor ",
      "Default Display Error From Model StdError Write"),
     ("in code", r"(?<!')\bstatic\b|\bunsafe\b(?!\(no_mangle\))|\bextern\b(?! fn)|\*(?:const|mut)\b|&raw\b|\bfor<|"
@@ -85,7 +85,7 @@ def test_libraries():
     assert not used - {path.name for path in CRATES.iterdir()} - LIBRARIES
 
 
-@pytest.mark.parametrize("name, struct, hidden", at_least(9, MODELS), ids=str)
+@pytest.mark.parametrize("name, struct, hidden", at_least(8, MODELS), ids=str)
 def test_view(name, struct, hidden):
     """The view of a struct leaves out no field."""
     assert not hidden

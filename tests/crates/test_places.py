@@ -19,7 +19,8 @@ from contracts import code_of, end_of_braces, functions_of
 from harness import ROOT, at_least
 
 CRATES = ROOT / "crates"
-PROVED = ["superio_core", "superio_laws", "vm_superio", "superio_c", "superio_script", "superio", "superio_examples"]
+PROVED = ["superio_core", "superio_laws", "superio_console", "vm_superio", "superio_c", "superio_script", "superio",
+          "superio_examples"]
 SOURCES = {path.relative_to(CRATES).as_posix(): path.read_text(encoding="utf-8")
            for crate in PROVED for path in sorted((CRATES / crate / "src").rglob("*.rt"))}
 NO_BODY = re.compile(r"\b(?:(?:ensures|requires)\*?\s*\w*|ghost \w+ ?[:=])\s*\{|\bghost use [^;]*;|#!?\[[^\]]*\]")
@@ -84,7 +85,7 @@ def places(name, text):
                 yield f"{name} {function} {kind} {numbers[str(function), kind]}", at
 
 
-PLACES = at_least(147, [place for name, text in SOURCES.items() for place, _ in places(name, text)])
+PLACES = at_least(137, [place for name, text in SOURCES.items() for place, _ in places(name, text)])
 LINES = [line.partition(": ") for line in
          (ROOT / "tests/crates/places.txt").read_text(encoding="utf-8").splitlines() if not line.startswith("#")]
 TESTS = {test for _, _, tests in LINES if not tests.startswith("clause ") for test in tests.split(", ")}

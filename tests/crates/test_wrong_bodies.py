@@ -10,7 +10,7 @@ from contracts import functions_of
 from documents import CODE, Document
 from harness import ROOT, at_least
 
-CRATES = ["superio_core", "vm_superio", "superio_c", "superio_script"]
+CRATES = ["superio_core", "superio_console", "vm_superio", "superio_c", "superio_script"]
 
 
 def edited(crate):

@@ -13,14 +13,23 @@ TYPES = {"bool": ctypes.c_bool, "void": None, "size_t": ctypes.c_size_t, "uint8_
 CONSTANTS = {name: int(number) for name, number in re.findall(r"^constant (\w+) (\d+)$", TABLE, re.M)}
 
 
+STRUCTS = {}
+
+
 def structure(name):
-    fields = re.findall(rf"^field {name}\.(\w+) (\w+) at (\d+) size (\d+)$", TABLE, re.M)
-    kinds = [(field, TYPES[kind] * int(size) if field == "bytes" else TYPES[kind])
-             for field, kind, place, size in sorted(fields, key=lambda row: int(row[2]))]
-    return type(name, (ctypes.Structure,), {"_fields_": kinds})
+    """The struct of this name, which may have others as fields."""
+    if name not in STRUCTS:
+        fields = re.findall(rf"^field {name}\.(\w+) (\w+) at (\d+) size (\d+)$", TABLE, re.M)
+        kinds = [(field, TYPES.get(kind) or structure(kind), int(size))
+                 for field, kind, place, size in sorted(fields, key=lambda row: int(row[2]))]
+        STRUCTS[name] = type(name, (ctypes.Structure,), {"_fields_": [
+            (field, kind if ctypes.sizeof(kind) == size else kind * (size // ctypes.sizeof(kind)))
+            for field, kind, size in kinds]})
+    return STRUCTS[name]
 
 
-STRUCTS = {name: structure(name) for name in re.findall(r"^struct (\w+)", TABLE, re.M)}
+for struct in re.findall(r"^struct (\w+)", TABLE, re.M):
+    structure(struct)
 
 
 class Parameter(NamedTuple):

@@ -17,7 +17,7 @@ COPIED = [ROOT / "crates" / name for name in ("superio_core", "superio_laws", "v
 SOURCE = re.compile(r".*\]\(([^)#]+\.(?:antt|c|h|mjs|py|rs|rt))\)[^\n]*:\s*\Z")   # before an excerpt
 LINKS = at_least(300, [(document, link) for document in DOCUMENTS for link in document.links
                        if not re.match(r"\w+:", link)])
-EXCERPTS = at_least(9, [(document, block, SOURCE.search(block.before)[1]) for document in DOCUMENTS
+EXCERPTS = at_least(4, [(document, block, SOURCE.search(block.before)[1]) for document in DOCUMENTS
                         for block in document.blocks if SOURCE.search(block.before)])
 
 

@@ -8,7 +8,7 @@ also in a block for the shell, has to have the options that it is given.
 
 In the other direction, the documents of CLAIMS have to cite each clause of each public function of CRATES. Those of C
 may be cited of another function, such as `Uart::read`. Of LIBRARIES they also have to name each function whose
-clause has no name. README.md has to show the logic that `rt version` prints: proofs depend on it alone.
+clause has no name. docs/USING.md has to name each call of a console. README.md has to show the logic that `rt version` prints: proofs depend on it alone.
 """
 import re
 from dataclasses import replace
@@ -19,7 +19,7 @@ from documents import BUILT, CODE, Document, documents
 from harness import ROOT, at_least, check
 
 CLAIMS = ["docs/PROOFS.md", "docs/SCRIPT.md", "crates/superio_examples/README.md"]
-LIBRARIES = ["superio_core", "superio_laws", "vm_superio"]
+LIBRARIES = ["superio_core", "superio_laws", "superio_console", "vm_superio"]
 CRATES = [*LIBRARIES, "superio_c", "superio_script", "superio_examples"]
 CITATION = re.compile(r"(\w+(?:::\w+)*(?:, \w+(?:::\w+)*)*): ([a-z]\w*(?:, \w+)*)")
 COMMAND = re.compile(r"\b((?:tools|tests)/[\w./-]+) ([^#]*)")
@@ -35,12 +35,14 @@ ELSEWHERE = set("""
 
 
 class Sources:
-    """What the sources have: functions, files and words."""
+    """What the sources have: functions, files and words. Files of drivers' sources, of which they have the sums, are among
+    them."""
 
     def __init__(self):
         paths = [path for path in ROOT.rglob("*")
                  if path.is_file() and not {".git", *BUILT} & set(path.relative_to(ROOT).parts)]
-        self.files = "".join(f"/{path.relative_to(ROOT)}\n" for path in paths)
+        drivers = re.findall(r"(?<=  ).+", "".join(path.read_text() for path in (ROOT / "tests/guests").glob("*.sha256")))
+        self.files = "".join(f"/{name}\n" for name in [*(path.relative_to(ROOT) for path in paths), *drivers])
         texts = {path: path.read_text(encoding="utf-8", errors="ignore") for path in paths if path.suffix != ".md"}
         self.words = ELSEWHERE.union(*(re.findall(r"--[\w-]+|\w+", text) for text in [*texts.values(), self.files]))
         self.functions = []
@@ -115,6 +117,9 @@ DOCUMENTS = [it for it in documents() if str(it) != "CHANGELOG.md"]   # it names
 CITED = set()   # the functions and the clauses that the documents of CLAIMS cite
 for it in CLAIMS:
     list(document_results(Document(it), CITED))
+# The calls of a console, which docs/USING.md tells of.
+CONSOLE = {it.name for it in SOURCES.functions if it.is_public and it.path[-2] == "Console"
+           and it.path[0] == "superio_console"}
 PIECES = [code for it in DOCUMENTS for line in it.prose.splitlines() for code in CODE.findall(line)]
 
 
@@ -135,6 +140,11 @@ def test_clause(function, clause):
     is_of_c = function.startswith("superio_c::")
     is_cited = (function, clause) in CITED or is_of_c and clause in {it for _, it in CITED}
     assert is_cited, "docs/PROOFS.md does not name it"
+
+
+@pytest.mark.parametrize("name", at_least(17, sorted(CONSOLE)))
+def test_call_of_console(name):
+    assert name in CODE.findall(Document("docs/USING.md").prose)
 
 
 @pytest.mark.needs("kit")

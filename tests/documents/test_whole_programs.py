@@ -1,6 +1,7 @@
 # SPDX-License-Identifier: Apache-2.0 OR BSD-3-Clause
-"""The programs of README.md and docs/RUST.md do what their comments say, as they stand there."""
+"""The programs of README.md and of the pages that explain do what is said of them, as they stand there."""
 import platform
+import re
 
 import pytest
 from documents import Document
@@ -8,6 +9,11 @@ from harness import ROOT, check
 
 PACKAGE = '[package]\nname = "hi"\nversion = "0.1.0"\nedition = "2021"\n\n'
 LIBRARY = ROOT / "prebuilt" / f"{platform.machine()}-linux" / "libsuperio_c.a"
+# What the programs of README.md print.
+HI = "the event loop wakes, and reads input\n2 bytes accepted, 1 interrupt to raise\nthe guest reads h\n"
+# The function of a line that takes edges; and what a monitor has for one that takes levels.
+INTERRUPT = re.compile(r"(?:^/\*[^/]*\*/\n)?^static \w+ interrupt\(.*?^\}\n", re.M | re.S)
+SET_LINE = "static void set_line(bool is_up) { if (is_up) eventfd_write(irq, 1); }\n"
 
 
 def code(document, language, of=""):
@@ -17,20 +23,58 @@ def code(document, language, of=""):
     return block
 
 
+def compile_c(folder, name, source, *words):
+    (folder / f"{name}.c").write_text(source, encoding="utf-8")
+    check(["cc", "-Wall", "-Wextra", "-Werror", "-I", ROOT / "bindings/c", f"{name}.c", *words], cwd=folder)
+
+
 @pytest.mark.needs("cc")
 def test_c(tmp_path):
-    (tmp_path / "hi.c").write_text(code("README.md", "c"), encoding="utf-8")
-    check(["cc", "-Wall", "-Wextra", "-Werror", "-I", ROOT / "bindings/c", "hi.c", LIBRARY, "-o", "hi"], cwd=tmp_path)
-    check(["./hi"], "2 bytes taken; the guest reads h\n", cwd=tmp_path)
+    compile_c(tmp_path, "hi", code("README.md", "c"), LIBRARY, "-o", "hi")
+    check(["./hi"], HI, cwd=tmp_path)
+
+
+@pytest.mark.needs("cc")
+@pytest.mark.parametrize("line", ["edges", "levels"])
+def test_event_loop(line, tmp_path):
+    """More input comes back than all queues hold, also if its reader begins late."""
+    program = code("docs/USING.md", "c", "int main")
+    if line == "levels":
+        program, count = INTERRUPT.subn(SET_LINE + code("docs/USING.md", "c", "set_line"), program)
+        assert count == 1
+    compile_c(tmp_path, "console", program, LIBRARY, "-pthread", "-o", "console")
+    check(["./console"], "HELLO\n", cwd=tmp_path, input="hello\n")
+    text = "the quick brown fox " * 10_000 + "\n"
+    check(["sh", "-c", "./console | (sleep 0.2; cat)"], text.upper(), cwd=tmp_path, input=text)
+
+
+@pytest.mark.needs("cc")
+@pytest.mark.parametrize("line", ["edges", "levels"])
+def test_bare_port(line, tmp_path):
+    """The functions of the page around a guest, with what it says of a line for either."""
+    functions = code("docs/PORT.md", "c", "write_access")
+    if line == "levels":
+        set_level = code("docs/PORT.md", "c", "set_line")
+        calls_it = f"{set_level}static void interrupt(unsigned times) {{ (void)times; set_level(); }}\n"
+        functions, count = INTERRUPT.subn(f"void set_line(bool is_up);\n{calls_it}", functions)
+        assert count == 1
+    compile_c(tmp_path, "port", functions, ROOT / "tests/documents/bare_port.c", LIBRARY, "-o", "port")
+    check(["./port"], "all came back\n", cwd=tmp_path)
 
 
 @pytest.mark.needs("cargo")
-@pytest.mark.parametrize("document, of, printed", [
-    ("README.md", "fn main", "!"), ("docs/RUST.md", "Cell", "h"), ("docs/RUST.md", "from_snapshot", "h")])
-def test_rust(document, of, printed, tmp_path):
-    """By the lines for Cargo.toml in README.md."""
+@pytest.mark.parametrize("document, of, typed, printed", [
+    ("README.md", "Console", "", HI), ("README.md", "Trigger", "", "!"), ("docs/RUST.md", "Cell", "", "h"), ("docs/RUST.md", "from_snapshot", "", "h"),
+    ("docs/RUST.md", "CONSOLE_SAVED_MAX", "", "h"), ("docs/USING.md", "fn main", "hello\n", "HELLO\n"),
+    ("docs/PORT.md", "Serial", "", "all came back\n")])
+def test_rust(document, of, typed, printed, tmp_path):
+    """By the lines for Cargo.toml in README.md. The `Machine` of docs/PORT.md is around a guest."""
     (tmp_path / "src").mkdir()
-    manifest = PACKAGE + code("README.md", "toml").replace("CLONE", str(ROOT))
-    (tmp_path / "Cargo.toml").write_text(manifest, encoding="utf-8")
-    (tmp_path / "src" / "main.rs").write_text(code(document, "rust", of), encoding="utf-8")
-    check(["cargo", "run", "--quiet", "--offline"], printed, cwd=tmp_path)
+    program = code(document, "rust", of)
+    manifest = code("README.md", "toml", "bindings/superio" if "use superio::" in program else "patch")
+    (tmp_path / "Cargo.toml").write_text(PACKAGE + manifest.replace("CLONE", str(ROOT)), encoding="utf-8")
+    if "fn main" not in program:
+        (tmp_path / "src" / "lib.rs").write_text(program, encoding="utf-8")
+        program = (ROOT / "tests/documents/bare_serial.rs").read_text(encoding="utf-8")
+    (tmp_path / "src" / "main.rs").write_text(program, encoding="utf-8")
+    check(["cargo", "run", "--quiet", "--offline"], printed, cwd=tmp_path, input=typed)

@@ -30,7 +30,7 @@ def listing(folder):
 @pytest.mark.parametrize("target", sorted(TARGETS))
 def test_properties(target):
     """Of the libraries of the repository."""
-    assert_properties(PREBUILT / target / SHARED, ["memcpy", "memmove"], less=HAS_FROM_SOURCE)
+    assert_properties(PREBUILT / target / SHARED, ["memcpy", "memmove", "memset"], less=HAS_FROM_SOURCE)
     assert symbols(PREBUILT / target / STATIC, "--defined-only", "--extern-only") == read_header().functions.keys()
 
 
@@ -81,7 +81,7 @@ def test_pkg_config(installed):
 
 @pytest.mark.needs("cc", "pkg-config", "cmake")
 def test_cmake(installed, tmp_path):
-    (tmp_path / "CMakeLists.txt").write_text(CMAKE.format(program=ROOT / "examples/c/monitor.c"), encoding="utf-8")
+    (tmp_path / "CMakeLists.txt").write_text(CMAKE.format(program=ROOT / "examples/c/machine.c"), encoding="utf-8")
     check(["cmake", "-S", tmp_path, "-B", tmp_path / "made"], env=installed)
     check(["cmake", "--build", tmp_path / "made"], env=installed)
     expected = (ROOT / "examples/c/expected").read_text(encoding="utf-8")

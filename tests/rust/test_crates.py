@@ -67,13 +67,15 @@ def test_formatted(crate, tmp_path):
     copied_crate(tmp_path, crate=crate).check("fmt", "--check", "--", "--config-path", str(ROOT))
 
 
-def test_as_released(tmp_path):
+@CRATES
+def test_as_released(crate, tmp_path):
     """With other random numbers for each commit."""
-    assert copied_crate(tmp_path).test("--release", "--lib", "--tests") == number_of_tests(BINDINGS) >= 14
+    ran = copied_crate(tmp_path, crate=crate).test("--release", "--lib", "--tests")
+    assert ran == number_of_tests(crate) >= 14
 
 
 @pytest.mark.needs("debian-rust")
-@pytest.mark.parametrize("crate, of_documentation", [(DEVICES, 3), (BINDINGS, 9)], ids=["superio", "rust"])
+@pytest.mark.parametrize("crate, of_documentation", [(DEVICES, 5), (BINDINGS, 9)], ids=["superio", "rust"])
 def test_with_the_oldest_rust(crate, of_documentation, tmp_path):
     assert copied_crate(tmp_path, oldest(), crate).test() >= number_of_tests(crate) + of_documentation
 
@@ -85,16 +87,17 @@ def test_compiles_for(target, tmp_path):
     copied_crate(tmp_path, toolchain_for(target), DEVICES).check("check", "--target", target)
 
 
+@CRATES
 @pytest.mark.parametrize("target", [pytest.param(target, marks=pytest.mark.needs(tools[0]))
                                     for target, tools in TARGETS.items() if tools[1:]])
-def test_on(target, tmp_path):
+def test_on(target, crate, tmp_path):
     """The tests pass in qemu's user mode."""
     _, compiler, emulator = TARGETS[target]
     name = f"CARGO_TARGET_{target.upper().replace('-', '_')}"
     settings = {f"{name}_LINKER": compiler, f"{name}_RUNNER": f"{emulator} -L /usr/{compiler[:-len('-gcc')]}",
                 "CARGO_PROFILE_DEV_OPT_LEVEL": "1"}   # else the emulator takes long
-    cargo = copied_crate(tmp_path, toolchain_for(target))
-    assert cargo.test("--lib", "--tests", "--target", target, **settings) == number_of_tests(BINDINGS)
+    cargo = copied_crate(tmp_path, toolchain_for(target), crate)
+    assert cargo.test("--lib", "--tests", "--target", target, **settings) == number_of_tests(crate)
 
 
 def test_drop_in(tmp_path):

@@ -1,0 +1,106 @@
+/* SPDX-License-Identifier: Apache-2.0 OR BSD-3-Clause */
+/*
+ * A guest, an event loop and an interrupt controller around the functions of docs/PORT.md. The guest sends back what it
+ * receives. All of it comes back in order, whatever the controller refuses, for drivers that read IIR once or until
+ * nothing is pending, and take few bytes or many, in machines that were reset before.
+ */
+#include <stdio.h>
+#include <stdlib.h>
+#include <string.h>
+#include <superio.h>
+
+void write_access(uint8_t offset, uint8_t value);
+uint8_t read_access(uint8_t offset);
+void turn(void);
+void reset(void);
+
+enum { INPUT = 2000, ROOM = 100 };
+static uint8_t input[ROOM];    /* what waits for the guest */
+static size_t waiting, typed;  /* how much, and how much has come from the source so far */
+static size_t sent, in_order;  /* output, and how much of it is what was typed */
+static unsigned edges;         /* that the guest has not taken */
+static bool takes_levels, is_up, is_timed;
+
+bool raise_interrupt(void) {
+    if (takes_levels || rand() % 4 == 0)
+        return false;
+    edges++;
+    return true;
+}
+void set_line(bool level) {
+    takes_levels = true;
+    is_up = level;
+}
+void make_turn_in(int milliseconds) { is_timed = milliseconds > 0; }
+void queue_output(uint8_t byte) { in_order += byte == (uint8_t)sent++; }
+void write_output(void) {}
+void read_input(void) {
+    for (; waiting < ROOM && typed < INPUT && rand() % 50 > 0; typed++)
+        input[waiting++] = (uint8_t)typed;
+}
+size_t first_input(const uint8_t **bytes) {
+    *bytes = input;
+    return waiting;
+}
+void remove_input(size_t count) {
+    waiting -= count;
+    memmove(input, input + count, waiting);
+}
+
+/* The guest reads a register, and the event loop may make a turn before. */
+static uint8_t look(uint8_t offset) {
+    if (rand() % 20 == 0)
+        turn();
+    return read_access(offset);
+}
+
+static void handle(unsigned most, bool is_until_none) {
+    do {
+        if (look(2) & 0x01 && is_until_none) /* IIR: nothing is pending */
+            return;
+        for (unsigned i = 0; i < most && look(5) & 0x01; i++) /* LSR: a byte is held */
+            write_access(0, look(0));
+    } while (is_until_none);
+}
+
+static void start(void) {
+    write_access(1, 0x03); /* the driver tests the port, */
+    write_access(1, 0x00);
+    while (look(5) & 0x01) /* and throws away what it finds, */
+        look(0);
+    write_access(1, 0x01); /* and is ready */
+}
+
+/* Runs until nothing happens any more. Returns whether all input came back. */
+static bool exchange(unsigned most, bool is_until_none) {
+    typed = waiting = sent = in_order = edges = 0;
+    is_timed = false;
+    reset();
+    for (unsigned calls = 0; calls < 1000000; calls++) {
+        if (calls == 20)
+            start();
+        if (takes_levels ? is_up : edges > 0) {
+            edges -= !takes_levels;
+            handle(most, is_until_none);
+        } else if (calls < 20 || is_timed || (typed < INPUT && waiting < ROOM)) {
+            is_timed = false;
+            turn();
+        } else {
+            return sent == INPUT && in_order == INPUT;
+        }
+    }
+    return false;
+}
+
+int main(void) {
+    static const unsigned most[] = {1, 7, 64, 256};
+    for (unsigned seed = 0; seed < 400; seed++) {
+        srand(seed);
+        if (!exchange(most[seed / 2 % 4], seed % 2)) {
+            printf("seed %u: of %u bytes %zu came back, %zu of them in order\n", seed, INPUT, sent, in_order);
+            return 1;
+        }
+    }
+    puts("all came back");
+    return 0;
+}

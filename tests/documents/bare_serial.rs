@@ -1,0 +1,96 @@
+// SPDX-License-Identifier: Apache-2.0 OR BSD-3-Clause
+//! A guest and an event loop around the `Machine` of docs/PORT.md, as bare_port.c has them for its functions in C. The
+//! line refuses one interrupt in four.
+use std::cell::Cell;
+use std::rc::Rc;
+
+use hi::Machine;
+use vm_superio::Trigger;
+
+/// Edges that the guest has not taken, and numbers that look random.
+#[derive(Clone, Default)]
+struct Line(Rc<Cell<u32>>, Rc<Cell<u32>>);
+
+impl Line {
+    fn next(&self) -> u32 {
+        self.1.set(self.1.get().wrapping_mul(1_103_515_245).wrapping_add(12_345));
+        self.1.get() >> 16
+    }
+}
+
+impl Trigger for Line {
+    type E = ();
+
+    fn trigger(&self) -> Result<(), ()> {
+        if self.next() % 4 == 0 {
+            return Err(());
+        }
+        self.0.set(self.0.get() + 1);
+        Ok(())
+    }
+}
+
+/// The guest reads a register, and the event loop may make a turn before.
+fn look(machine: &mut Machine<Line>, line: &Line, offset: u8) -> u8 {
+    if line.next() % 20 == 0 {
+        machine.turn();
+    }
+    machine.read_access(offset)
+}
+
+/// Takes at most so many bytes, and sends them back.
+fn handle(machine: &mut Machine<Line>, line: &Line, most: usize, is_until_none: bool) {
+    loop {
+        if look(machine, line, 2) & 0x01 != 0 && is_until_none {
+            return;
+        }
+        for _ in 0..most {
+            if look(machine, line, 5) & 0x01 == 0 {
+                break;
+            }
+            let byte = look(machine, line, 0);
+            machine.write_access(0, byte);
+        }
+        if !is_until_none {
+            return;
+        }
+    }
+}
+
+fn exchange(seed: u32, most: usize, is_until_none: bool) {
+    let line = Line::default();
+    line.1.set(seed);
+    let typed: Vec<u8> = (0..2000_u32).map(|number| number as u8).collect();
+    let mut machine = Machine::new(line.clone(), false);
+    machine.input.extend(&typed[..100]);
+    machine.turn();
+    machine.write_access(1, 0x03); // the driver tests the port,
+    machine.write_access(1, 0x00);
+    while look(&mut machine, &line, 5) & 0x01 != 0 {
+        look(&mut machine, &line, 0); // and throws away what it finds
+    }
+    machine.reset(line.clone());
+    machine.write_access(1, 0x01); // it is ready
+    machine.input.extend(&typed[100..]);
+    machine.turn();
+    let mut received = Vec::new();
+    loop {
+        if line.0.get() > 0 {
+            line.0.set(line.0.get() - 1);
+            handle(&mut machine, &line, most, is_until_none);
+            received.extend(machine.port.writer_mut().waiting.drain(..));
+        } else if machine.wants_turn() {
+            machine.turn();
+        } else {
+            break;
+        }
+    }
+    assert!(received == typed, "seed {}: {} bytes", seed, received.len());
+}
+
+fn main() {
+    for seed in 0..400 {
+        exchange(seed, [1, 7, 64, 256][seed as usize / 2 % 4], seed % 2 == 1);
+    }
+    println!("all came back");
+}
