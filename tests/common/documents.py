@@ -12,6 +12,8 @@ BUILT = {"out", "target", "build", "__pycache__"}
 BLOCK = re.compile(r"^( *)```(\w*)[^\n]*\n(.*?)^\1```$", re.M | re.S)
 CODE = re.compile(r"`([^`\n]+)`")
 HEADING = re.compile(r"^#+ +(.*?) *$", re.M)
+# In a block, what stands after `$ `, with what it prints.
+COMMAND = re.compile(r"^\$ (.*\n)((?:(?!\$ ).*\n)*)", re.M)
 # Links in brackets, definitions of labels, and links of tags.
 LINK = re.compile(r"\]\(([^()\s]+)\)|^\[[^]\n]+\]: (\S+)|\b(?:href|src|srcset)=[\"']([^\"'\s]+)", re.M)
 
@@ -23,6 +25,10 @@ class Block(NamedTuple):
     language: str
     lines: list
     before: str
+
+    @property
+    def commands(self):
+        return COMMAND.findall("".join(f"{line}\n" for line in self.lines))
 
 
 class Document:

@@ -101,5 +101,5 @@ def test_each_is_named(tests):
 
 
 def test_number_of_allocations(refusing, tests):
-    """74 runs in all, of which each test has one with all its allocations."""
-    assert sum(len(list(runs(refusing, [tests, f"refused_memory::{name}"]))) for name in NAMES) >= 74
+    """66 runs in all, of which each test has one with all its allocations."""
+    assert sum(len(list(runs(refusing, [tests, f"refused_memory::{name}"]))) for name in NAMES) >= 66

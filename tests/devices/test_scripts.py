@@ -1,8 +1,8 @@
 # SPDX-License-Identifier: Apache-2.0 OR BSD-3-Clause
 """Scripts with their replies, which the program has to print: those of tests/data, whose form tests/README.md has,
 those that documents show, and the recorded boot of a Linux kernel that has the program's lines alone. The program ends
-at the first of the further lines, which only the Python package and the page have. The commands that documents show
-have to print what these say."""
+at the first of the further lines, which only the Python package and the page have. The commands that documents show for
+the program have to print what these say."""
 import os
 import re
 import subprocess
@@ -12,14 +12,14 @@ from documents import documents
 from harness import ROOT, at_least
 from script_tests import FURTHER_TESTS, TESTS, of_documents, scripts_of
 
-COMMAND = re.compile(r"^\$ (.*\n)((?:(?!\$ ).*\n)*)", re.MULTILINE)   # of a document, with its output
+CALL = re.compile(r"(?<![\w./])superio\b")   # of the program, in a command
 SHOWN = [script for script in of_documents() if script.by_program == script]
 KEPT = [script for path in [*sorted(TESTS.glob("*.txt")), ROOT / "examples/linux-boot/boot.recording.xz"]
         for script in scripts_of(path)]
 ENDED = [script.by_program for path in sorted(FURTHER_TESTS.glob("*.txt")) for script in scripts_of(path)]
 SCRIPTS = at_least(228, [*KEPT, *ENDED, *SHOWN])
-COMMANDS = at_least(5, [(f"{document}:{block.number}", *found) for document in documents() for block in document.blocks
-                        for found in COMMAND.findall("".join(f"{line}\n" for line in block.lines))])
+COMMANDS = at_least(5, [(f"{document}:{block.number}", command, printed) for document in documents()
+                        for block in document.blocks for command, printed in block.commands if CALL.search(command)])
 
 
 def test_number_of_lines():
@@ -37,7 +37,7 @@ def test_program(program, script):
 @pytest.mark.needs("kit")
 @pytest.mark.parametrize("place, command, printed", COMMANDS, ids=lambda it: it.split("\n")[0][:60])
 def test_command(program, place, command, printed, tmp_path):
-    """A document shows a command after `$ `, and what it prints."""
+    """A document shows a command that runs the program, and what it prints."""
     (tmp_path / "superio").symlink_to(program)
     ran = subprocess.run(["bash", "-c", command], stdin=subprocess.DEVNULL, stdout=subprocess.PIPE, text=True,
                          stderr=subprocess.STDOUT, timeout=60,

@@ -49,6 +49,17 @@ def test_event_loop(line, tmp_path):
 
 
 @pytest.mark.needs("cc")
+def test_commands(tmp_path):
+    """As the page says, in a folder that has what the repository's top has."""
+    (tmp_path / "console.c").write_text(code("docs/USING.md", "c", "int main"), encoding="utf-8")
+    for name in ["bindings", "prebuilt"]:
+        (tmp_path / name).symlink_to(ROOT / name)
+    [commands] = [block.commands for block in Document("docs/USING.md").blocks if block.commands]
+    for command, printed in commands:
+        check(["bash", "-c", command], printed, cwd=tmp_path)
+
+
+@pytest.mark.needs("cc")
 @pytest.mark.parametrize("line", ["edges", "levels"])
 def test_bare_port(line, tmp_path):
     """The functions of the page around a guest, with what it says of a line for either."""
