@@ -91,7 +91,7 @@ def test_view(name, struct, hidden):
     assert not hidden
 
 
-@pytest.mark.parametrize("name", at_least(51, SOURCES))
+@pytest.mark.parametrize("name", at_least(57, SOURCES))
 def test_source(name):
     """A source has nothing that no contract sees."""
     assert not list(unseen(name, SOURCES[name], without_contracts(SOURCES[name])))

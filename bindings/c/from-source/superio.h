@@ -666,8 +666,10 @@ superio_console_work superio_console_set_polled(superio_console *console,
  * superio_rtc_interrupt_line after each access and after a restore. Also set a
  * timer for superio_rtc_alarm_due. When the timer goes off, make an access of
  * your own, such as a read at 0x018 (RTCMIS): a guest that sleeps until the
- * interrupt makes no access. If it is 0, make that access at once: a timer of
- * Linux that is set to 0 is stopped.
+ * interrupt makes no access. Moments are whole seconds: let the timer go off at
+ * the moment `now` plus the answer. One that runs for that many seconds is late
+ * by up to one, and Linux's driver may clear the alarm meanwhile. If the answer
+ * is 0, make that access at once: a timer of Linux that is set to 0 is stopped.
  */
 typedef struct superio_rtc {
     uint32_t lr;    /* RTCLR, the last loaded value, or 0 */

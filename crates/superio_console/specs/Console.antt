@@ -126,7 +126,7 @@ abbrev pub steps_calls : (ops : List Op) (s : State) → ℕ
 steps_calls [] s = 0
 steps_calls (op ∷ ops) s = step_calls s op + steps_calls ops (step s op Asked.Nothing)
 
--- a reset makes the port anew
+-- a reset makes a new port
 abbrev pub port_after : (call : Call) (c : ConsoleState) → State
 port_after Resets c = fresh_state
 port_after call c = steps (port_calls call c) c.port

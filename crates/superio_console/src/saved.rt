@@ -62,7 +62,7 @@ impl Console {
     ///
     /// # Errors
     ///
-    /// The first check that fails, in the order of [`SavedStateError`]: any case but [`SavedStateError::InvalidArmed`].
+    /// The first check that fails, in the order of [`SavedStateError`]. No console has [`SavedStateError::InvalidArmed`].
     pub fn from_bytes(bytes: &[u8]) -> Result<Console, SavedStateError>
         ensures encoding { IfOk result (λ console. bytes.now ≡ console_encoding (state_of console)) }
         ensures at_most_64 { IfOk result (λ console. console.port.in_buffer.len ≤ 64) }

@@ -96,8 +96,8 @@ impl RtcState {
     ///
     /// # Errors
     ///
-    /// Returns the first check that fails, in the order of [`SavedStateError`]: any case but
-    /// [`SavedStateError::TooManyBytes`].
+    /// Returns the first check that fails, in the order of [`SavedStateError`]. No clock has
+    /// [`SavedStateError::TooManyBytes`] or [`SavedStateError::InvalidFlags`].
     #[tactic(auto, using(crate::proofs::Lemmas::Saved::clock_encoding_read))]
     pub fn from_bytes(bytes: &[u8]) -> Result<RtcState, SavedStateError>
         ensures encoding { IfOk result (λ state. bytes.now ≡ clock_encoding state) }

@@ -61,8 +61,8 @@ impl Uart {
     ///
     /// # Errors
     ///
-    /// Returns the first check that fails, in the order of [`SavedStateError`]: any case but
-    /// [`SavedStateError::InvalidArmed`].
+    /// Returns the first check that fails, in the order of [`SavedStateError`]. No port has
+    /// [`SavedStateError::InvalidArmed`] or [`SavedStateError::InvalidFlags`].
     pub fn from_bytes(bytes: &[u8]) -> Result<Uart, SavedStateError>
         ensures encoding { IfOk result (λ port. bytes.now ≡ serial_encoding (state_of_uart port)) }
         ensures at_most_64 { IfOk result (λ port. port.in_buffer.len ≤ 64) }

@@ -172,8 +172,9 @@ impl SerialState {
     ///
     /// # Errors
     ///
-    /// Returns the first check that fails, in the order of [`SavedStateError`]: any case but
-    /// [`SavedStateError::InvalidArmed`]. Then returns [`LoadError::Memory`] if allocating the received bytes fails.
+    /// Returns the first check that fails, in the order of [`SavedStateError`]. No port has
+    /// [`SavedStateError::InvalidArmed`] or [`SavedStateError::InvalidFlags`].
+    /// Then returns [`LoadError::Memory`] if allocating the received bytes fails.
     pub fn from_bytes(alloc: Global, bytes: &[u8]) -> Result<SerialState, LoadError>
         ensures encoding { IfOk result (λ state. bytes.now ≡ serial_encoding (state_of state)) }
         ensures read { (state : State) → length state.in_buffer ≤ 64 → bytes.now ≡ serial_encoding state →
