@@ -1,6 +1,6 @@
 # SPDX-License-Identifier: Apache-2.0 OR BSD-3-Clause
 """Each public function of the proved crates has a must-fail edit in its body, or docs/WRONG-BODIES.md lists it as one
-without.
+without. Each likely bug that the page lists has an edit of its own, which changes one function, or a test.
 
 A row of its table names functions by type, such as `Serial::writer, events`, whichever trait they are of. Laws and
 functions of `NoEvents` have no edit either.
@@ -13,26 +13,36 @@ from harness import ROOT, at_least
 CRATES = ["superio_core", "superio_console", "vm_superio", "superio_c", "superio_script"]
 
 
+def places(edit):
+    """Where an edit changes its crate: the file, and the place in it."""
+    path = ""
+    for line in edit.read_text(encoding="utf-8").splitlines():
+        if line.startswith("file: "):
+            path = edit.parents[1] / line.removeprefix("file: ")
+        elif line.startswith("old: "):
+            yield path, path.read_text(encoding="utf-8").find(line.removeprefix("old: "))
+
+
 def edited(crate):
-    """Where the edits of a crate change it: the file, and the place in it."""
-    for edit in sorted((crate / "must-fail").glob("*.edit")):
-        path = ""
-        for line in edit.read_text(encoding="utf-8").splitlines():
-            if line.startswith("file: "):
-                path = crate / line.removeprefix("file: ")
-            elif line.startswith("old: "):
-                yield path, path.read_text(encoding="utf-8").find(line.removeprefix("old: "))
+    """Where the edits of a crate change it."""
+    return [place for edit in sorted((crate / "must-fail").glob("*.edit")) for place in places(edit)]
+
+
+def function_at(path, at):
+    """The path of the function of a source that has a place."""
+    functions = functions_of(path.read_text(encoding="utf-8"))
+    return next((function.path for function in functions if function.start <= at < function.end), None)
 
 
 def functions():
     """The public functions, each by its type and name, and whether an edit is in its body."""
     for crate in map((ROOT / "crates").joinpath, CRATES):
-        places = list(edited(crate))
+        edits = edited(crate)
         for path in sorted((crate / "src").rglob("*.rt")):
             for function in functions_of(path.read_text(encoding="utf-8")):
                 is_wanted = function.is_public and function.has_body and "laws" not in str(path)
                 if is_wanted and function.path[0] != "NoEvents":
-                    is_edited = any(it == path and function.start <= at < function.end for it, at in places)
+                    is_edited = any(it == path and function.start <= at < function.end for it, at in edits)
                     yield "::".join(function.path[-2:]), is_edited
 
 
@@ -45,6 +55,12 @@ def listed():
             yield f"{owner}::{name}" if owner else name
 
 
+def likely():
+    """The edits and tests that the table of likely bugs names."""
+    table = Document("docs/WRONG-BODIES.md").text.split("| A port that |")[1].split("\n\n")[0]
+    return CODE.findall(table)
+
+
 FUNCTIONS, LISTED = at_least(140, functions()), set(listed())
 
 
@@ -52,6 +68,19 @@ FUNCTIONS, LISTED = at_least(140, functions()), set(listed())
 def test_function(function, is_edited):
     """A public function has an edit, or is listed."""
     assert is_edited or function in LISTED
+
+
+@pytest.mark.parametrize("name", at_least(40, likely()))
+def test_likely_bug(name):
+    """Its edit changes one function. A test is there."""
+    crate, _, edit = name.partition("/")
+    if edit:
+        found = [function_at(*place) for place in places(ROOT / "crates" / crate / "must-fail" / f"{edit}.edit")]
+        assert found and found == found[:1] * len(found)
+    else:
+        module, _, test = name.partition("::")
+        source = (ROOT / "crates/superio_tests/src" / f"{module}.rt").read_text(encoding="utf-8")
+        assert f"#[test]\nfn {test}(" in source
 
 
 def test_listed():

@@ -165,6 +165,62 @@ fn a_run_returns_the_fault_of_its_writer(rt: HostRuntime) -> Result<(), Fail> {
     Ok(())
 }
 
+/// A writer with a `write_all` of its own.
+#[derive(Clone, Copy)]
+struct Whole<'a>(&'a Log);
+
+impl Write for Whole<'_> {
+    fn write(&mut self, buf: &[u8]) -> io::Result<usize> {
+        self.0.note(b'W');
+        Ok(buf.len())
+    }
+
+    fn flush(&mut self) -> io::Result<()> {
+        self.0.note(b'F');
+        Ok(())
+    }
+
+    fn write_all(&mut self, _buf: &[u8]) -> io::Result<()> {
+        self.0.note(b'A');
+        match self.0.writing.get().then {
+            Then::Fails(fault) => Err(fault),
+            Then::Takes | Then::TakesNone => Ok(()),
+        }
+    }
+}
+
+/// Sends a byte to this writer in one of three ways: by a port, by a run, and as an event.
+fn send(alloc: Global, out: Whole<'_>, way: u8) -> Result<bool, Fail> {
+    let object = Object(out.0);
+    let made = Serial::with_events(alloc, object, object, out);
+    let mut serial = made.map_err(Refused::into_error)?;
+    let calls = vec![in alloc; Call::Write(0, b'x')]?;
+    Ok(match way {
+        0 => serial.write(0, b'x').is_ok(),
+        1 => run(alloc, &mut serial, calls)?.len() == 1,
+        _ => EventFd { file: out }.trigger().is_ok(),
+    })
+}
+
+/// The writer's `write` is not called.
+#[test]
+fn what_is_sent_is_one_call_of_the_writers_own_write_all(rt: HostRuntime) -> Result<(), Fail> {
+    let fails = Writing::failing(io::Error::from(io::ErrorKind::Other));
+    let ways: [(&[u8], &[u8]); 3] = [(b"AFo", b"Al"), (b"AFo", b"Al"), (b"A", b"A")];
+    for (way, (taken, failed)) in (0u8..).zip(ways) {
+        for (writing, letters, sends) in [
+            (Writing::takes(), taken, true),
+            (fails, failed, way == 1),
+        ] {
+            let log = Log::new();
+            log.start(writing);
+            assert!(rt; send(rt.alloc(), Whole(&log), way)? == sends);
+            assert!(rt; log.order.get() == in_order(letters), "{way}");
+        }
+    }
+    Ok(())
+}
+
 /// Of its eight bytes some were taken before. An event flushes nothing.
 #[test]
 fn an_event_is_one_write_and_returns_its_fault(rt: HostRuntime) -> Result<(), Fail> {

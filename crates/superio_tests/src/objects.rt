@@ -255,7 +255,7 @@ impl Log {
     }
 
     /// Notes a call.
-    fn note(&self, letter: u8) {
+    pub fn note(&self, letter: u8) {
         let before = self.order.get().wrapping_mul(256);
         self.order.set(before.wrapping_add(u64::from(letter)));
     }

@@ -14,7 +14,7 @@ use superio_examples::first_claims::{
 use superio_examples::monitor::{MachineEvent, Monitor};
 use superio_examples::queues::OutputQueue;
 use superio_examples::saved_monitor::{move_monitor, save_monitor};
-use vm_superio::run::{Call, run};
+use vm_superio::run::{Call, Reply, run};
 use vm_superio::{Serial, SerialState};
 
 /// Whether the state goes to bytes and back, and to a port without I/O and back.
@@ -30,15 +30,73 @@ fn is_restored(alloc: Global, state: &SerialState, object: Object<'_>) -> Result
     Ok(made.state(alloc)? == state.clone(alloc)?)
 }
 
+/// Whether a run restores a port of this state, which stays.
+fn is_restored_in_a_run<'a>(
+    alloc: Global,
+    state: &SerialState,
+    object: Object<'a>,
+) -> Result<bool, Fail> {
+    let made = Serial::from_state(alloc, state, object, object, object);
+    let mut port: TestSerial<'a> = made.map_err(|_| AllocError)?;
+    let mut calls: Vec<SerialCall<'a>> = Vec::new(alloc);
+    calls.push(Call::Restore(object, object, object))?;
+    let done = run(alloc, &mut port, calls)?;
+    let is_restored =
+        matches!(done.first(), Some(record) if matches!(record.reply, Reply::Restored(_)));
+    Ok(is_restored && port.state(alloc)? == state.clone(alloc)?)
+}
+
+/// Whether the state goes wherever a state goes.
+fn is_taken(alloc: Global, state: &SerialState, object: Object<'_>) -> Result<bool, Fail> {
+    Ok(
+        is_converted(alloc, state)?
+            && is_restored(alloc, state, object)?
+            && is_restored_in_a_run(alloc, state, object)?,
+    )
+}
+
 #[test]
 fn states_of_each_size_are_made(rt: HostRuntime) -> Result<(), Fail> {
     let log = Log::new();
     for seed in 0..300u64 {
         let state = drawn_state(rt.alloc(), seed, (seed % 65) as usize)?;
-        assert!(rt; is_converted(rt.alloc(), &state)?, "{seed}");
-        assert!(rt; is_restored(rt.alloc(), &state, Object(&log))?, "{seed}");
+        assert!(rt; is_taken(rt.alloc(), &state, Object(&log))?, "{seed}");
     }
     assert!(rt; port_over(rt.alloc(), Object(&log)).is_ok());
+    Ok(())
+}
+
+/// The state with this value in the register of this number.
+fn with_register(state: SerialState, register: u8, value: u8) -> SerialState {
+    let mut state = state;
+    match register {
+        0 => state.baud_divisor_low = value,
+        1 => state.baud_divisor_high = value,
+        2 => state.interrupt_enable = value,
+        3 => state.interrupt_identification = value,
+        4 => state.line_control = value,
+        5 => state.line_status = value,
+        6 => state.modem_control = value,
+        7 => state.modem_status = value,
+        _ => state.scratch = value,
+    }
+    state
+}
+
+#[test]
+fn states_of_each_register_and_value_are_made(rt: HostRuntime) -> Result<(), Fail> {
+    let log = Log::new();
+    for value in 0..=u8::MAX {
+        for register in 0..9u8 {
+            let number = u64::from(value) * 9 + u64::from(register);
+            let drawn = drawn_state(rt.alloc(), number, (number % 65) as usize)?;
+            let state = with_register(drawn, register, value);
+            assert!(rt;
+                is_taken(rt.alloc(), &state, Object(&log))?,
+                "{register} {value}"
+            );
+        }
+    }
     Ok(())
 }
 
