@@ -6,10 +6,17 @@
 #[cfg(feature = "std")]
 extern crate std;
 
-//: bindings/superio/src/error_text.rs
+//: bindings/superio/src/printed.rs
 use core::fmt;
 
+use crate::console::output_ring::OutputRing;
 use crate::saved::SavedStateError;
+
+impl fmt::Debug for OutputRing {
+    fn fmt(&self, f: &mut fmt::Formatter) -> fmt::Result {
+        f.debug_struct("OutputRing").field("head", &self.head).field("len", &self.len).finish_non_exhaustive()
+    }
+}
 
 impl fmt::Display for SavedStateError {
     fn fmt(&self, f: &mut fmt::Formatter) -> fmt::Result {
@@ -28,6 +35,48 @@ impl fmt::Display for SavedStateError {
 
 #[cfg(feature = "std")]
 impl std::error::Error for SavedStateError {}
+
+//: bindings/superio/src/console/saved.rs
+impl PartialEq for Console {
+    fn eq(&self, other: &Self) -> bool {
+        let mut bytes = [0; CONSOLE_SAVED_MAX];
+        let mut other_bytes = [0; CONSOLE_SAVED_MAX];
+        let count = self.save(&mut bytes);
+        let other_count = other.save(&mut other_bytes);
+        bytes[..count] == other_bytes[..other_count]
+    }
+}
+
+impl Eq for Console {
+}
+
+//: bindings/superio/src/devices/rtc_pl031/encoding.rs
+impl PartialEq for Pl031 {
+    fn eq(&self, other: &Self) -> bool {
+        self.state().to_bytes() == other.state().to_bytes()
+    }
+}
+
+impl Eq for Pl031 {}
+
+//: bindings/superio/src/devices/serial/encoding.rs
+impl PartialEq for SerialEncoding {
+    fn eq(&self, other: &Self) -> bool {
+        self.as_bytes() == other.as_bytes()
+    }
+}
+
+impl Eq for SerialEncoding {
+}
+
+impl PartialEq for Uart {
+    fn eq(&self, other: &Self) -> bool {
+        self.to_bytes() == other.to_bytes()
+    }
+}
+
+impl Eq for Uart {
+}
 
 //: bindings/c/from-source/src/lib.rs
 unsafe fn bytes_at<'a>(bytes: *const u8, count: usize) -> &'a [u8] {

@@ -22,6 +22,6 @@ pub mod console;
 #[allow(missing_copy_implementations)] // of a saved port's bytes, which are only read
 mod devices;
 
-mod error_text;
+mod printed;
 
 pub use devices::*;

@@ -4,13 +4,16 @@ ghost use Rattle.std.specs.Prelude.{◌≡◌, ◌<◌, ◌≤◌, ◌+◌, ◌-
 ghost use Rattle.superio_core.specs.Serial.{not_empty};
 ghost use Rattle.superio_console.specs.OutputRing.{waiting_in, ring_from};
 
+mod printed;
+
 /// How many bytes of output may wait, as many as a page has.
 pub const OUTPUT_SIZE: usize = 4096;
 
 /// Bytes that wait, oldest first, in a ring of 4,096 places. Any values are valid: `head` is taken modulo 4,096, and a
 /// `len` above 4,096 counts as 4,096.
 #[repr(C)]
-#[derive(Clone, Copy)]
+#[derive(Clone)]
+#[derive(Drop)]
 pub struct OutputRing {
     /// The place of the oldest byte.
     pub head: u16,

@@ -4,7 +4,9 @@
 //! It is a header of eight bytes, as of each saved device; the four flags in one byte; the number of dropped bytes in
 //! eight; the number of bytes of output that wait in two, and these bytes; and then the port, as
 //! [`Uart::to_bytes`](superio_core::Uart) writes it. Numbers are little-endian.
-ghost use Rattle.std.specs.Prelude.{◌≡◌, ◌<◌, ◌≤◌, ◌+◌, ◌^◌, ◌==◌, ◌∷◌, ◌++◌, List, ℕ, not, length, take, drop, Some, IfOk, IfErr};
+ghost use Rattle.std.specs.Prelude.{◌≡◌, ◌<◌, ◌≤◌, ◌+◌, ◌^◌, ◌==◌, ◌∷◌, ◌++◌, List, ℕ, not, length, take, drop, Some, IfOk, IfErr, nat_eq};
+ghost use Rattle.std.specs.Cmp.{on_equiv, on_per, partial_equiv_from_equiv};
+ghost use Rattle.std.specs.Cmp.Lexicographic.{pointwise, nat_list_eq_equiv};
 ghost use Rattle.std.specs.Int.{w16, w64, to_le_bytes};
 ghost use Rattle.std.specs.Result.{result_err, IsOkAnd};
 ghost use Rattle.superio_core.specs.Saved.{encoding, console_kind, serial_fault};
@@ -33,6 +35,25 @@ const ASLEEP_BIT: u8 = 0x04;
 const REFUSED_BIT: u8 = 0x08;
 
 const ALL_BITS: u8 = 0x0F;
+
+/// Two consoles are equal if their saved states are: then each later call answers alike.
+impl PartialEq for Console {
+    ghost eq = { λ a b. pointwise nat_eq (console_encoding (state_of a)) (console_encoding (state_of b)) };
+
+    ghost laws = { on_per (λ console. console_encoding (state_of console)) (partial_equiv_from_equiv nat_list_eq_equiv) };
+
+    fn eq(&self, other: &Self) -> bool {
+        let mut bytes = [0; CONSOLE_SAVED_MAX];
+        let mut other_bytes = [0; CONSOLE_SAVED_MAX];
+        let count = self.save(&mut bytes);
+        let other_count = other.save(&mut other_bytes);
+        bytes[..count] == other_bytes[..other_count]
+    }
+}
+
+impl Eq for Console {
+    ghost laws = { on_equiv (λ console. console_encoding (state_of console)) nat_list_eq_equiv };
+}
 
 impl Console {
     /// Writes the console's encoding to the start of `bytes`, and returns its length; [`load`](Self::load) reads it back.

@@ -48,7 +48,7 @@ const AMBA_ID_HIGH: u16 = 0xFFF;
 const AMBA_IDS: [u8; 8] = [0x31, 0x10, 0x04, 0x00, 0x0D, 0xF0, 0x05, 0xB1];
 
 /// The register that an offset selects, by its name in the datasheet. Contracts name it.
-#[derive(Clone, Copy)]
+#[derive(Clone, Copy, Debug, PartialEq, Eq)]
 pub enum ClockRegister {
     /// RTCDR, the data register at 0x000, shows guest time. It takes no write.
     Dr,
@@ -102,8 +102,18 @@ impl ClockRegister {
 }
 
 /// A PL031 real-time clock without I/O. Any values are a valid clock.
+///
+/// ```
+/// # use superio::Pl031;
+/// let mut clock = Pl031::new();
+/// assert!(clock.write(0x004, 1_010, 1_000)); // RTCMR, at the moment 1,000: an alarm ten seconds ahead
+/// assert_eq!(clock.alarm_due(1_000), Some(10)); // set a timer
+/// assert_eq!(clock.read(0x000, 1_010), Some(1_010)); // RTCDR
+/// assert_eq!(clock.read(0x014, 1_010), Some(1)); // RTCRIS: the alarm has come
+/// ```
 #[repr(C)]
-#[derive(Clone, Copy)]
+#[derive(Clone, Debug)]
+#[derive(Drop)]
 pub struct Pl031 {
     /// RTCLR, the load register: the last loaded value, or 0 after a reset.
     pub lr: u32,

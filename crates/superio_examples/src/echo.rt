@@ -208,7 +208,7 @@ pub fn echo(
 {
     let mut port = Uart::new();
     let mut output = Vec::new(alloc);
-    port.write(1, IER_RDA_BIT);
+    let _ = port.write(1, IER_RDA_BIT);
     echo_input(&mut port, bound, input, pieces, &mut output)?;
     Ok(output)
 }

@@ -24,3 +24,5 @@ mod scripts;
 mod sessions;
 #[cfg(test)]
 mod sizes;
+#[cfg(test)]
+mod values;

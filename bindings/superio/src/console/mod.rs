@@ -67,7 +67,18 @@ pub struct ConsoleReceived {
 
 /// A serial port, and the output of its guest, at most 4,096 bytes, that waits for its reader. Any contents are a valid
 /// console.
+///
+/// ```
+/// # use superio::console::Console;
+/// let mut console = Console::new(false);
+/// assert_eq!(console.wants().input, 0); // the guest's driver is not ready
+/// assert!(console.write(1, 0x01).wakes); // now it is: wake the event loop, which reads input
+/// let typed = console.receive(b"hi");
+/// assert_eq!((typed.accepted, typed.work.interrupts), (2, 1)); // raise the interrupt
+/// assert_eq!(console.read(0).byte, b'h');
+/// ```
 #[repr(C)]
+#[derive(Clone, Debug)]
 pub struct Console {
     /// The port.
     pub port: Uart,

@@ -9,7 +9,7 @@ pub const OUTPUT_SIZE: usize = 4096;
 /// Bytes that wait, oldest first, in a ring of 4,096 places. Any values are valid: `head` is taken modulo 4,096, and a
 /// `len` above 4,096 counts as 4,096.
 #[repr(C)]
-#[derive(Clone, Copy)]
+#[derive(Clone)]
 pub struct OutputRing {
     /// The place of the oldest byte.
     pub head: u16,

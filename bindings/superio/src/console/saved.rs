@@ -30,6 +30,20 @@ const REFUSED_BIT: u8 = 0x08;
 
 const ALL_BITS: u8 = 0x0F;
 
+/// Two consoles are equal if their saved states are: then each later call answers alike.
+impl PartialEq for Console {
+    fn eq(&self, other: &Self) -> bool {
+        let mut bytes = [0; CONSOLE_SAVED_MAX];
+        let mut other_bytes = [0; CONSOLE_SAVED_MAX];
+        let count = self.save(&mut bytes);
+        let other_count = other.save(&mut other_bytes);
+        bytes[..count] == other_bytes[..other_count]
+    }
+}
+
+impl Eq for Console {
+}
+
 impl Console {
     /// Writes the console's encoding to the start of `bytes`, and returns its length; [`load`](Self::load) reads it back.
     /// The other bytes do not change. The encoding has no byte that the guest has read, nor one that the reader took.
@@ -54,7 +68,7 @@ impl Console {
     ///
     /// # Errors
     ///
-    /// The first check that fails, in the order of [`SavedStateError`]: any case but [`SavedStateError::InvalidArmed`].
+    /// The first check that fails, in the order of [`SavedStateError`]. No console has [`SavedStateError::InvalidArmed`].
     // Clauses in crates/superio_console/src/saved.rt: encoding, at_most_64, read, fault.
     pub fn from_bytes(bytes: &[u8]) -> Result<Console, SavedStateError> {
         let (flags, dropped, output, port) = decode_console(bytes)?;

@@ -35,7 +35,7 @@ pub trait RxFifo {
 /// Received bytes in a ring of 64 places. Any values are valid: `head` is taken modulo 64, and a `len` above 64 counts
 /// as 64.
 #[repr(C)]
-#[derive(Clone, Copy)]
+#[derive(Clone, Debug)]
 pub struct ArrayFifo {
     /// The place of the oldest byte.
     pub head: u8,

@@ -21,8 +21,17 @@ use registers::{
 };
 
 /// A 16550 serial port without I/O: its registers and received bytes. Any contents are a valid port.
+///
+/// ```
+/// # use superio::Uart;
+/// let mut port = Uart::new();
+/// let arrived = port.enqueue_raw_bytes(b"hi");
+/// assert_eq!((arrived.accepted, arrived.interrupts), (2, 0)); // IER enables nothing yet
+/// assert_eq!(port.write(1, 0x01).interrupts, 1); // IER enables RDA, so raise the interrupt
+/// assert_eq!(port.read(0).byte, b'h');
+/// ```
 #[repr(C)]
-#[derive(Clone, Copy)]
+#[derive(Clone, Debug)]
 pub struct Uart {
     /// The registers.
     pub registers: Registers,
@@ -87,6 +96,7 @@ impl Uart {
     ///
     /// A read of RBR or IIR ends RDA even if bytes are left, which then wait without an interrupt. So make this call
     /// after each guest read of offset 2 whose byte has bit 0x01, and in each turn of your event loop.
+    #[must_use = "an interrupt may have to be raised"]
     #[inline(always)]
     // Clauses in crates/superio_core/src/serial.rt: step, at_most_1, pending, coherent.
     pub fn character_timeout(&mut self) -> u8 {
@@ -119,7 +129,8 @@ impl Uart {
 
 /// The byte of a read, and the events to report. If there are both, report `in_buffer_empty` first.
 #[repr(C)]
-#[derive(Clone, Copy)]
+#[derive(Clone, Copy, Debug, PartialEq, Eq)]
+#[must_use = "the byte is the guest's"]
 pub struct ReadEffects {
     /// The byte that the guest reads.
     pub byte: u8,
@@ -131,7 +142,8 @@ pub struct ReadEffects {
 
 /// What a write leaves for you to do.
 #[repr(C)]
-#[derive(Clone, Copy)]
+#[derive(Clone, Copy, Debug, PartialEq, Eq)]
+#[must_use = "a byte may have to be sent, and interrupts to be raised"]
 pub struct WriteEffects {
     /// The written byte goes out: send it.
     pub sends: bool,
@@ -141,7 +153,8 @@ pub struct WriteEffects {
 
 /// What an enqueue did, and leaves for you to do.
 #[repr(C)]
-#[derive(Clone, Copy)]
+#[derive(Clone, Copy, Debug, PartialEq, Eq)]
+#[must_use = "bytes may be left, and an interrupt may have to be raised"]
 pub struct EnqueueEffects {
     /// How many of the bytes were accepted, from the first on.
     pub accepted: usize,

@@ -1,11 +1,14 @@
 // SPDX-License-Identifier: Apache-2.0 OR BSD-3-Clause
 //! The state of a clock, as vm-superio names its fields, and its encoding.
-ghost use Rattle.std.specs.Prelude.{◌≡◌, ◌≤◌, ◌+◌, ◌++◌, false, not, is_some, length, IfOk, IfSome};
+ghost use Rattle.std.specs.Prelude.{◌≡◌, ◌≤◌, ◌+◌, ◌++◌, false, not, is_some, length, IfOk, IfSome, nat_eq};
+ghost use Rattle.std.specs.Cmp.{on_equiv, on_per, partial_equiv_from_equiv};
+ghost use Rattle.std.specs.Cmp.Lexicographic.{pointwise, nat_list_eq_equiv};
 ghost use Rattle.std.specs.Result.{result_err};
 ghost use Rattle.std.specs.Int.{w32, w64, to_le_bytes, cast_unsigned};
 ghost use Rattle.superio_core.specs.Saved.{clock_fault, IsClock};
 
 use super::super::saved::{CLOCK_KIND, SavedStateError, decode_header, header};
+use super::Pl031;
 
 /// The size of a clock's encoding: the header and 25 bytes.
 pub const SAVED_SIZE: usize = 33;
@@ -65,6 +68,27 @@ impl RtcState {
             Some((self.lr, self.offset, self.mr, self.imsc, self.ris))
         }
     }
+}
+
+/// Two clocks are equal if their states are: then no guest can tell them apart.
+impl PartialEq for Pl031 {
+    ghost use Rattle.superio_core.specs.Rtc.{state_of_clock};
+    ghost use Rattle.superio_core.specs.Saved.{clock_encoding};
+
+    ghost eq = { λ a b. pointwise nat_eq (clock_encoding (state_of_clock a)) (clock_encoding (state_of_clock b)) };
+
+    ghost laws = { on_per (λ clock. clock_encoding (state_of_clock clock)) (partial_equiv_from_equiv nat_list_eq_equiv) };
+
+    fn eq(&self, other: &Self) -> bool {
+        self.state().to_bytes() == other.state().to_bytes()
+    }
+}
+
+impl Eq for Pl031 {
+    ghost use Rattle.superio_core.specs.Rtc.{state_of_clock};
+    ghost use Rattle.superio_core.specs.Saved.{clock_encoding};
+
+    ghost laws = { on_equiv (λ clock. clock_encoding (state_of_clock clock)) nat_list_eq_equiv };
 }
 
 impl RtcState {

@@ -1,6 +1,8 @@
 // SPDX-License-Identifier: Apache-2.0 OR BSD-3-Clause
 //! The encoding of a serial port's state.
-ghost use Rattle.std.specs.Prelude.{◌≡◌, ◌≤◌, ◌+◌, length, List, ℕ, ◌++◌, take, drop, IfOk};
+ghost use Rattle.std.specs.Prelude.{◌≡◌, ◌≤◌, ◌+◌, length, List, ℕ, ◌++◌, take, drop, IfOk, nat_eq};
+ghost use Rattle.std.specs.Cmp.{on_equiv, on_per, partial_equiv_from_equiv};
+ghost use Rattle.std.specs.Cmp.Lexicographic.{pointwise, nat_list_eq_equiv};
 ghost use Rattle.std.specs.Result.{result_err, IsOkAnd};
 ghost use Rattle.superio_core.specs.Serial.{state_with, State, state_of_uart};
 ghost use Rattle.superio_core.specs.Saved.{serial_encoding, serial_fault};
@@ -18,6 +20,7 @@ const SAVED_MIN: usize = HEADER_SIZE + REGISTER_COUNT;
 pub const SAVED_MAX: usize = SAVED_MIN + FIFO_SIZE;
 
 /// The bytes of a saved port. Contracts see a list of at most 81 bytes.
+#[derive(Clone, Debug)]
 #[derive(Drop)]
 pub struct SerialEncoding {
     bytes: [u8; SAVED_MAX],
@@ -39,6 +42,35 @@ impl SerialEncoding {
     {
         &self.bytes[..self.count]
     }
+}
+
+impl PartialEq for SerialEncoding {
+    ghost eq = { pointwise nat_eq };
+
+    ghost laws = { partial_equiv_from_equiv nat_list_eq_equiv };
+
+    fn eq(&self, other: &Self) -> bool {
+        self.as_bytes() == other.as_bytes()
+    }
+}
+
+impl Eq for SerialEncoding {
+    ghost laws = { nat_list_eq_equiv };
+}
+
+/// Two ports are equal if their saved states are: then no guest can tell them apart.
+impl PartialEq for Uart {
+    ghost eq = { λ a b. pointwise nat_eq (serial_encoding (state_of_uart a)) (serial_encoding (state_of_uart b)) };
+
+    ghost laws = { on_per (λ port. serial_encoding (state_of_uart port)) (partial_equiv_from_equiv nat_list_eq_equiv) };
+
+    fn eq(&self, other: &Self) -> bool {
+        self.to_bytes() == other.to_bytes()
+    }
+}
+
+impl Eq for Uart {
+    ghost laws = { on_equiv (λ port. serial_encoding (state_of_uart port)) nat_list_eq_equiv };
 }
 
 impl Uart {

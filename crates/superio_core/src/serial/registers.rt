@@ -85,7 +85,7 @@ pub(super) const DEFAULT_MODEM_CONTROL: u8 = 0x08;
 pub(super) const DEFAULT_MODEM_STATUS: u8 = 0xB0;
 
 /// The register that an access reaches, by its name in the datasheet. Contracts name it.
-#[derive(Clone, Copy)]
+#[derive(Clone, Copy, Debug, PartialEq, Eq)]
 pub enum Register {
     /// The low byte of the divisor latch.
     Dll,
@@ -112,7 +112,7 @@ pub enum Register {
 }
 
 /// A condition that may interrupt. Contracts name it.
-#[derive(Clone, Copy)]
+#[derive(Clone, Copy, Debug, PartialEq, Eq)]
 pub enum Condition {
     /// Received data available.
     Rda,
@@ -151,7 +151,7 @@ pub(super) const REGISTER_COUNT: usize = 9;
 
 /// The register bytes of a port, in the order of a saved state, without the received bytes.
 #[repr(C)]
-#[derive(Clone, Copy)]
+#[derive(Clone, Copy, Debug, PartialEq, Eq)]
 pub struct Registers {
     /// DLL, the low byte of the divisor latch.
     pub baud_divisor_low: u8,

@@ -74,7 +74,7 @@ impl SerialState {
         ensures state { IfOk result (λ state. state_of state ≡ state_of_uart port.now) }
         ensures at_most_64 { IfOk result (λ state. length state.in_buffer.items ≤ 64) }
     {
-        let mut held = port.in_buffer;
+        let mut held = port.in_buffer.clone()?;
         let mut in_buffer = Vec::with_capacity(alloc, held.len())?;
         while let Some(byte) = held.take_first() {
             in_buffer.push_reserved(byte);

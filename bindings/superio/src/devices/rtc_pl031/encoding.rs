@@ -4,6 +4,7 @@
 //! The state of a clock, as vm-superio names its fields, and its encoding.
 
 use super::super::saved::{CLOCK_KIND, SavedStateError, decode_header, header};
+use super::Pl031;
 
 /// The size of a clock's encoding: the header and 25 bytes.
 pub const SAVED_SIZE: usize = 33;
@@ -55,6 +56,15 @@ impl RtcState {
     }
 }
 
+/// Two clocks are equal if their states are: then no guest can tell them apart.
+impl PartialEq for Pl031 {
+    fn eq(&self, other: &Self) -> bool {
+        self.state().to_bytes() == other.state().to_bytes()
+    }
+}
+
+impl Eq for Pl031 {}
+
 impl RtcState {
     /// The state as bytes; `from_bytes` reads them back.
     ///
@@ -80,8 +90,8 @@ impl RtcState {
     ///
     /// # Errors
     ///
-    /// Returns the first check that fails, in the order of [`SavedStateError`]: any case but
-    /// [`SavedStateError::TooManyBytes`].
+    /// Returns the first check that fails, in the order of [`SavedStateError`]. No clock has
+    /// [`SavedStateError::TooManyBytes`] or [`SavedStateError::InvalidFlags`].
     // Clauses in crates/superio_core/src/rtc_pl031/encoding.rt: encoding, read, fault.
     pub fn from_bytes(bytes: &[u8]) -> Result<RtcState, SavedStateError> {
         Self::parse(bytes)

@@ -15,6 +15,7 @@ const SAVED_MIN: usize = HEADER_SIZE + REGISTER_COUNT;
 pub const SAVED_MAX: usize = SAVED_MIN + FIFO_SIZE;
 
 /// The bytes of a saved port. Contracts see a list of at most 81 bytes.
+#[derive(Clone, Debug)]
 pub struct SerialEncoding {
     bytes: [u8; SAVED_MAX],
     count: usize,
@@ -26,6 +27,25 @@ impl SerialEncoding {
     pub fn as_bytes(&self) -> &[u8] {
         &self.bytes[..self.count]
     }
+}
+
+impl PartialEq for SerialEncoding {
+    fn eq(&self, other: &Self) -> bool {
+        self.as_bytes() == other.as_bytes()
+    }
+}
+
+impl Eq for SerialEncoding {
+}
+
+/// Two ports are equal if their saved states are: then no guest can tell them apart.
+impl PartialEq for Uart {
+    fn eq(&self, other: &Self) -> bool {
+        self.to_bytes() == other.to_bytes()
+    }
+}
+
+impl Eq for Uart {
 }
 
 impl Uart {
@@ -46,8 +66,8 @@ impl Uart {
     ///
     /// # Errors
     ///
-    /// Returns the first check that fails, in the order of [`SavedStateError`]: any case but
-    /// [`SavedStateError::InvalidArmed`].
+    /// Returns the first check that fails, in the order of [`SavedStateError`]. No port has
+    /// [`SavedStateError::InvalidArmed`] or [`SavedStateError::InvalidFlags`].
     // Clauses in crates/superio_core/src/serial/encoding.rt: encoding, at_most_64, read, fault.
     pub fn from_bytes(bytes: &[u8]) -> Result<Uart, SavedStateError> {
         let (registers, held) = decode_serial(bytes)?;

@@ -1,8 +1,16 @@
 // SPDX-License-Identifier: Apache-2.0 OR BSD-3-Clause
-//! The texts of the errors, which are not proved.
+//! What is printed of errors, and of a console's output, which is not proved.
 use core::fmt;
 
+use crate::console::output_ring::OutputRing;
 use crate::saved::SavedStateError;
+
+/// Not its 4,096 bytes.
+impl fmt::Debug for OutputRing {
+    fn fmt(&self, f: &mut fmt::Formatter) -> fmt::Result {
+        f.debug_struct("OutputRing").field("head", &self.head).field("len", &self.len).finish_non_exhaustive()
+    }
+}
 
 impl fmt::Display for SavedStateError {
     fn fmt(&self, f: &mut fmt::Formatter) -> fmt::Result {

@@ -1,0 +1,100 @@
+// SPDX-License-Identifier: Apache-2.0 OR BSD-3-Clause
+//! The crate's types as values: which are copied in silence, what is equal, and what is printed.
+use std::fmt::Debug;
+use std::marker::PhantomData;
+
+use superio::console::output_ring::OutputRing;
+use superio::console::{Console, ConsoleRead, ConsoleReceived, Wants, Work};
+use superio::fifo::ArrayFifo;
+use superio::rtc_pl031::ClockRegister;
+use superio::saved::SavedStateError;
+use superio::serial::encoding::SerialEncoding;
+use superio::serial::registers::{Condition, Register};
+use superio::serial::{Asked, EnqueueEffects, ReadEffects, Registers, Sent, WriteEffects};
+use superio::{Pl031, RtcState, Uart};
+
+/// Whether a type is copied in silence: its own constant comes before that of the trait.
+struct Probe<T>(PhantomData<T>);
+
+trait NotCopied {
+    const IS_COPIED: bool = false;
+}
+
+impl<T> NotCopied for Probe<T> {}
+
+impl<T: Copy> Probe<T> {
+    const IS_COPIED: bool = true;
+}
+
+fn is_value<T: Clone + Debug>() {}
+
+fn is_compared<T: Clone + Debug + Eq>() {}
+
+#[test]
+fn each_type_is_printed_and_what_can_be_is_compared() {
+    is_value::<ArrayFifo>();
+    is_value::<OutputRing>();
+    is_compared::<Uart>();
+    is_compared::<Pl031>();
+    is_compared::<Console>();
+    is_compared::<Registers>();
+    is_compared::<SerialEncoding>();
+    is_compared::<RtcState>();
+    is_compared::<ReadEffects>();
+    is_compared::<WriteEffects>();
+    is_compared::<EnqueueEffects>();
+    is_compared::<ConsoleRead>();
+    is_compared::<ConsoleReceived>();
+    is_compared::<Wants>();
+    is_compared::<Work>();
+    is_compared::<SavedStateError>();
+    is_compared::<Register>();
+    is_compared::<ClockRegister>();
+    is_compared::<Condition>();
+    is_compared::<Asked>();
+    is_compared::<Sent>();
+}
+
+#[test]
+fn no_device_is_copied_in_silence() {
+    let copied = [
+        Probe::<Uart>::IS_COPIED,
+        Probe::<Pl031>::IS_COPIED,
+        Probe::<Console>::IS_COPIED,
+        Probe::<ArrayFifo>::IS_COPIED,
+        Probe::<OutputRing>::IS_COPIED,
+    ];
+    assert_eq!(copied, [false; 5]);
+    assert!(Probe::<WriteEffects>::IS_COPIED);
+}
+
+#[test]
+fn ports_are_equal_if_their_states_are() {
+    let (port, mut other) = (Uart::new(), Uart::new());
+    assert_eq!(other.enqueue_raw_bytes(b"a").accepted, 1);
+    assert_ne!(port, other);
+    assert_eq!(other.read(0).byte, b'a');
+    assert_ne!(port.in_buffer.head, other.in_buffer.head);
+    assert_eq!(port, other);
+    let _ = other.write(7, 1);
+    assert_ne!(port, other);
+}
+
+#[test]
+fn clocks_are_equal_if_their_states_are() {
+    let with_alarm = |armed| Pl031 { armed, ..Pl031::new() };
+    assert_eq!(with_alarm(1), with_alarm(2));
+    assert_ne!(with_alarm(1), Pl031::new());
+}
+
+#[test]
+fn consoles_are_equal_if_their_states_are_and_print_no_places() {
+    let (console, mut other) = (Console::new(true), Console::new(true));
+    let _ = other.write(0, b'x');
+    assert_ne!(console, other);
+    assert!(format!("{other:?}").contains("output: OutputRing { head: 0, len: 1, .. }"));
+    other.consume(1);
+    assert_ne!(console.output.head, other.output.head);
+    assert_eq!(console, other);
+    assert_ne!(console, Console::new(false));
+}
