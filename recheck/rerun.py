@@ -1,24 +1,24 @@
 # SPDX-License-Identifier: Apache-2.0 OR BSD-3-Clause
 """Translates, has Coq check the proofs, and sees that every claim has a theorem that rests on nothing."""
 import argparse
-import difflib
-import hashlib
 import os
 import re
 import shutil
 import subprocess
 import sys
 import tempfile
-from concurrent.futures import FIRST_COMPLETED, ThreadPoolExecutor, wait
 from pathlib import Path
+from typing import Any
 
 import antt2coq
 import expanded
 import rust2coq
 import rust_tree
 import shell2coq
+import statements
 from around import BUILD_SCRIPT, check_header, check_manifests
 from c_functions import safe_part
+from coq import Failed, check, coqc, rests_on
 
 HERE = Path(__file__).resolve().parents[1]
 
@@ -48,15 +48,11 @@ WORDS += [f"superio_console.{name}" for name in """Console.state_of Console.new_
     Console.after Console.work_of Saved.console_encoding Saved.console_fault Saved.IsConsole""".split()]
 
 
-class Failed(Exception):
-    """Something is not proved."""
-
-
 # The crates that are translated, and where their sources are.
 CRATES = {"core": "bindings/superio/src", "c": "bindings/c/from-source/src", "shell": "bindings/rust/src"}
 
 
-def left_out():
+def left_out() -> tuple[dict[str, dict[Path, Any]], Any]:
     """What is not translated of the files of each crate."""
     listed = rust_tree.left_out((HERE / "recheck/left-out.rs").read_text())
     found = {name: {Path(path).relative_to(folder): listed.pop(path) for path in [*listed] if path.startswith(f"{folder}/")}
@@ -64,7 +60,7 @@ def left_out():
     return found, listed.pop(BUILD_SCRIPT)
 
 
-def translated(root, around=True):
+def translated(root: Path, around: bool = True) -> tuple[dict[str, str], list[str]]:
     """The generated files, and the Coq names of the public functions. `around` is whether manifests and the header count."""
     left, build_script = left_out()
     c_functions = safe_part(rust_tree.source(root / CRATES["c"] / "lib.rs"), left["c"][Path("lib.rs")])
@@ -83,58 +79,10 @@ def translated(root, around=True):
     return files, [rust2coq.coq_name(name) for name in functions] + [shell2coq.coq_name(name) for name in public]
 
 
-# coqc fills 256 MB with new values before it collects any. With 32 MB it takes half the memory, and less time.
-HEAP = {"OCAMLRUNPARAM": "s=4M,o=1000"}
-# A warning is a fault, but for one of the translated definitions, which have names that they do not need.
-WARNINGS = "+default,-unused-pattern-matching-variable"
-
-
-def coqc(folder, name):
-    run = subprocess.run(["coqc", "-noglob", "-w", WARNINGS, "-Q", ".", "Recheck", f"{name}.v"], cwd=folder,
-                         env=os.environ | HEAP, capture_output=True, text=True)
-    if run.returncode:
-        raise Failed(f"{name}.v is not proved:\n{run.stdout}{run.stderr}")
-    return run.stdout
-
-
-def requirements(folder):
-    """For each file, those that it requires."""
-    found = {}
-    for file in folder.glob("*.v"):
-        required = " ".join(re.findall(r"^Require (?:Import |Export )?([^.]*(?:\.\w+[^.]*)*)\.$", file.read_text(), re.M))
-        found[file.stem] = {name[8:] for name in required.split() if name.startswith("Recheck.")}
-    return found
-
-
-def check(folder, jobs, names=None):
-    """Checks these files, or all, each after those of them that it requires."""
-    needs = requirements(folder)
-    names = needs.keys() if names is None else names
-    needs = {name: required & names for name, required in needs.items() if name in names}
-    with ThreadPoolExecutor(jobs) as pool:
-        running = {}
-        while needs or running:
-            for name in [name for name, left in needs.items() if not left]:
-                del needs[name]
-                running[pool.submit(coqc, folder, name)] = name
-            if not running:
-                raise Failed(f"these files require each other: {', '.join(needs)}")
-            for done in wait(running, return_when=FIRST_COMPLETED).done:
-                done.result()
-                name = running.pop(done)
-                for left in needs.values():
-                    left.discard(name)
-
-
-def rests_on(names):
-    """Has Coq print on what these rest."""
-    return ["Definition all : True :=", *(f"let _ := @{name} in" for name in names), "I.", "Print Assumptions all."]
-
-
-def audit(folder, functions):
+def audit(folder: Path, functions: list[str]) -> list[str]:
     """The theorems of Claims.v, if they cover everything and rest on nothing."""
     text = (folder / "Claims.v").read_text()
-    theorems = theorems_of(folder)
+    theorems = [f"Recheck.Claims.{name}" for name in statements.theorems_of(folder)]
     of_law = {law: name for name, law in re.findall(r"^Theorem (\w+) : (\w+)\.(?: |$)", text, re.M)}
     laws = []
     for path in LAWS:
@@ -156,62 +104,7 @@ def audit(folder, functions):
     return theorems
 
 
-STATEMENTS = HERE / "recheck/statements.txt"
-# The files whose definitions stand in statements.txt too, but for those that are made. In their order they are imported.
-IMPORTED = ("Prelude", "Machine", "Definitions", "Code", "Calls", "Acts", "ShellCode")
-DEFINED = ("Prelude", "Machine", "Acts", "Calls", "Claims", "Witnesses")
-SCHEME = re.compile(r"\w+_(?:ind|sind|rec|rect)")
-
-
-def statements(folder):
-    """What is proved, as Coq says it: each theorem, and all definitions of recheck/*.v, of Claims.v and of Witnesses.v. In the
-    end there are sums of the same without notations and with all that is implicit, and of the definitions of crates."""
-    requires = [f"Require Import Recheck.{name}." for name in IMPORTED] + ["Require Recheck.Claims Recheck.Witnesses."]
-
-    def said(*lines):
-        (folder / "Statements.v").write_text("\n".join([*requires, *lines]) + "\n")
-        return coqc(folder, "Statements")
-
-    prints, listed = [], said(*(f"Print Module Recheck.{file}." for file in DEFINED))
-    for file, module in zip(DEFINED, re.split(r"^Module\s+\w+\s+:= Struct$", listed, flags=re.M)[1:], strict=True):
-        if re.search(r"^ *Module ", module, re.M):
-            raise Failed(f"a module in {file}.v")
-        fields = re.findall(r"[{;]\s*(\w+) :", " ".join(re.findall(r"Record\s[^}]*}", module)))
-        names = re.findall(r"^ *(?:Definition|Inductive|CoInductive|Variant|Record)\s+(\w+)", module, re.M)
-        prints += [f"Print Recheck.{file}.{name}." for name in names
-                   if name not in fields and not SCHEME.fullmatch(name) and not name.startswith("used_")]
-    checks = [f"Check @{name}." for name in [*theorems_of(folder), *witnesses_of(folder)]] + rests_on(witnesses_of(folder))
-
-    def printed(setting):
-        text = re.sub(r"^\n?Arguments .*(?:\n .*)*\n", "", said(setting, *prints, *checks), flags=re.M)
-        return re.sub(r" +$", "", text, flags=re.M)
-
-    definitions = re.sub(r"\(\*.*?\*\)|\s+", " ", (folder / "Definitions.v").read_text(), flags=re.S)
-    sums = [hashlib.sha256(text.encode()).hexdigest() for text in (printed("Set Printing All."), " ".join(definitions.split()))]
-    return printed("Set Printing Width 120.") + f"\nWith all that is implicit: {sums[0]}\nDefinitions of crates/*/specs: {sums[1]}\n"
-
-
-def theorems_of(folder):
-    return [f"Recheck.Claims.{name}" for name in re.findall(r"^Theorem (\w+)", (folder / "Claims.v").read_text(), re.M)]
-
-
-def witnesses_of(folder):
-    """The uses of laws on calls that meet their conditions."""
-    text = (folder / "Witnesses.v").read_text()
-    return [f"Recheck.Witnesses.{name}" for name in re.findall(r"^Definition (used_\w+)", text, re.M)]
-
-
-def compare_statements(folder):
-    found, kept = statements(folder).splitlines(), STATEMENTS.read_text().splitlines()
-    of_proofs = "|".join({*requirements(folder)} - {*IMPORTED, *DEFINED})
-    if hidden := sorted(set(re.findall(rf"\b(?:{of_proofs})\.\w+", "\n".join(found)))):
-        raise Failed(f"statements with definitions that are not among them: {', '.join(hidden)}")
-    if found != kept:
-        lines = difflib.unified_diff(kept, found, "recheck/statements.txt", "proved", lineterm="", n=1)
-        raise Failed("other statements are proved:\n" + "\n".join([*lines][:60]))
-
-
-def main(said):
+def main(said: str | None) -> None:
     parser = argparse.ArgumentParser(description=said, formatter_class=argparse.RawDescriptionHelpFormatter)
     parser.add_argument("--keep", type=Path, metavar="DIR")
     parser.add_argument("--chk", action="store_true")
@@ -240,9 +133,7 @@ def main(said):
                 shutil.copy(file, folder)
             check(folder, arguments.jobs)
             theorems = audit(folder, functions)
-            if arguments.write_statements:
-                STATEMENTS.write_text(statements(folder))
-            compare_statements(folder)
+            statements.compare(folder, arguments.write_statements)
             if arguments.chk:
                 subprocess.run(["coqchk", "-silent", "-o", "-Q", ".", "Recheck", "Recheck.Witnesses"], cwd=folder, check=True)
         except (Failed, rust2coq.Refused, antt2coq.Refused) as fault:

@@ -5,7 +5,7 @@ import re
 import pytest
 from harness import ROOT, check
 
-import rerun
+import coq
 
 
 @pytest.fixture(scope="session")
@@ -22,5 +22,5 @@ def computed(tmp_path):
     def run(lines, words=("Prelude", "Machine")):
         text = "\n".join([*((ROOT / f"recheck/{name}.v").read_text() for name in words), lines])
         (tmp_path / "Cases.v").write_text(re.sub(r"^Require Import Recheck\..*\n", "", text, flags=re.M))
-        return rerun.coqc(tmp_path, "Cases")
+        return coq.coqc(tmp_path, "Cases")
     return run

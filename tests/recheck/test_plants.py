@@ -7,7 +7,9 @@ import shutil
 import pytest
 from harness import ROOT
 
+import coq
 import rerun
+import statements
 
 JOBS = len(os.sched_getaffinity(0))
 DEVICES, SHELL, SPECS = "bindings/superio/src/devices/", "bindings/rust/src/", "crates/"
@@ -165,7 +167,7 @@ HARMLESS += [(SHELL + file, old, new) for file, old, new in [
 # Definitions that say less, with which all is proved: Coq says other things of them.
 WEAKER = [
     (SPECS + "superio_laws/specs/Serial/Laws/Transmit.antt", "  pub due : IsTrue (is_call_due condition start (earlier ++ before) entry)\n",
-     "  pub due : later ≡ later\n", "-Definitions of crates"),
+     "  pub due : later ≡ later\n", "-    CallsFor_due : IsTrue"),
     ("recheck/Calls.v", "  | Read offset => offset < 256\n", "  | Read offset => offset < 3\n", "+| Read offset => offset < 3"),
 ]
 
@@ -204,7 +206,7 @@ def replaced(file, old, new):
 
 def with_requiring(folder, changed):
     """These files, and all that require them."""
-    needs = rerun.requirements(folder)
+    needs = coq.requirements(folder)
     while more := {name for name, required in needs.items() if required & changed} - changed:
         changed = changed | more
     return changed - {"Audit", "Statements"}
@@ -212,7 +214,7 @@ def with_requiring(folder, changed):
 
 def with_required(folder, names):
     """These files, and all that they require."""
-    needs = rerun.requirements(folder)
+    needs = coq.requirements(folder)
     while more := set().union(*(needs[name] for name in names)) - names:
         names = names | more
     return names
@@ -227,8 +229,8 @@ def short(value):
 @pytest.mark.parametrize("file, old, new, proofs", WRONG, ids=short)
 def test_wrong(file, old, new, proofs, checked, tmp_path):
     folder, changed = planted(checked, tmp_path, file, old, new)
-    with pytest.raises(rerun.Failed) as failed:
-        rerun.check(folder, JOBS, changed & with_required(folder, proofs))
+    with pytest.raises(coq.Failed) as failed:
+        coq.check(folder, JOBS, changed & with_required(folder, proofs))
     assert str(failed.value).partition(".v is not proved")[0] in proofs, failed.value
 
 
@@ -238,7 +240,7 @@ def test_wrong(file, old, new, proofs, checked, tmp_path):
 def test_harmless(file, old, new, checked, tmp_path):
     folder, changed = planted(checked, tmp_path, file, old, new)
     assert "Claims" in changed
-    rerun.check(folder, JOBS, changed)
+    coq.check(folder, JOBS, changed)
 
 
 @pytest.mark.where("variable RECHECK_PLANTS")
@@ -246,7 +248,7 @@ def test_harmless(file, old, new, checked, tmp_path):
 @pytest.mark.parametrize("file, old, new, line", WEAKER, ids=short)
 def test_weaker(file, old, new, line, checked, tmp_path):
     folder, changed = planted(checked, tmp_path, file, old, new)
-    rerun.check(folder, JOBS, changed)
-    with pytest.raises(rerun.Failed) as failed:
-        rerun.compare_statements(folder)
+    coq.check(folder, JOBS, changed)
+    with pytest.raises(coq.Failed) as failed:
+        statements.compare(folder)
     assert line in str(failed.value), failed.value

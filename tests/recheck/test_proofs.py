@@ -6,7 +6,9 @@ import shutil
 import pytest
 from harness import ROOT, check
 
+import coq
 import rerun
+import statements
 
 pytestmark = pytest.mark.needs("coq", "cargo")
 
@@ -24,7 +26,7 @@ def test_code_does_what_coq_computes(checked, tmp_path):
     expected = f"Some ({calls}, {total}%uint63)"
     same = f"Goal found {turns} {seed} = {expected}.\nProof. vm_cast_no_check (eq_refl ({expected})). Qed.\n"
     (folder / "Differential.v").write_text((ROOT / "tests/recheck/differential/Differential.v").read_text() + same)
-    rerun.coqc(folder, "Differential")
+    coq.coqc(folder, "Differential")
 
 
 # What is done to Claims.v, and what the run says then.
@@ -52,8 +54,8 @@ def said(checked, functions, folder, claims):
     """What the run says of another Claims.v."""
     shutil.copytree(checked[0], folder)
     (folder / "Claims.v").write_text(claims)
-    rerun.coqc(folder, "Claims")
-    with pytest.raises(rerun.Failed) as failed:
+    coq.coqc(folder, "Claims")
+    with pytest.raises(coq.Failed) as failed:
         rerun.audit(folder, functions)
     return str(failed.value)
 
@@ -84,29 +86,18 @@ Theorem retries : RetryLaw. Proof. exact I. Qed.
 
 def test_a_warning_fails(tmp_path):
     (tmp_path / "Warned.v").write_text("Lemma fact : 0 = 0. Proof. reflexivity. Qed.\nHint Resolve fact : core.\n")
-    with pytest.raises(rerun.Failed, match="Warned.v is not proved"):
-        rerun.coqc(tmp_path, "Warned")
+    with pytest.raises(coq.Failed, match="Warned.v is not proved"):
+        coq.coqc(tmp_path, "Warned")
 
 
-# A change of what is proved, in a file of Coq, and a line of what the run says then.
-OTHERS = {
-    "a theorem that is gone": ("Claims", r"Theorem uart_new : (?s:.*?)Qed\.\n", "", "-Claims.uart_new"),
-    "a weaker theorem": ("Claims", r"Theorem retries : RetryLaw\. .*", "Theorem retries : RetryLaw + True. Proof. right. exact I. Qed.",
-                         "+     : RetryLaw + True"),
-    "a hypothesis": ("Claims", r"(?=Implicit Types \(calls)", "Context {never : T -> False}.\nDefinition used := never.\n", "+Claims.used = "),
-    "a witness that is gone": ("Witnesses", r"Definition used_waiting_bytes (?s:.*?)\.\n", "", "-Witnesses.used_waiting_bytes"),
-}
-
-
-@pytest.mark.parametrize("name", OTHERS)
-def test_another_statement_fails(name, checked, tmp_path):
-    file, old, new, line = OTHERS[name]
+def test_another_statement_fails(checked, tmp_path):
+    """As test_statements.py shows on a smaller folder."""
     folder = tmp_path / "changed"
     shutil.copytree(checked[0], folder)
-    text, count = re.subn(old, new, (folder / f"{file}.v").read_text(), count=1)
+    text, count = re.subn(r"\(\* [^*]*\*\)\nTheorem uart_read (?s:.*?)Qed\.\n", "", (folder / "Claims.v").read_text(), count=1)
     assert count == 1
-    (folder / f"{file}.v").write_text(text)
-    rerun.check(folder, 1, {"Claims", "Witnesses"} if file == "Claims" else {file})
-    with pytest.raises(rerun.Failed) as failed:
-        rerun.compare_statements(folder)
-    assert line in str(failed.value), failed.value
+    (folder / "Claims.v").write_text(text)
+    coq.check(folder, 1, {"Claims", "Witnesses"})
+    with pytest.raises(coq.Failed) as failed:
+        statements.compare(folder)
+    assert re.search(r"^-uart_read$", str(failed.value), re.M), failed.value

@@ -1,0 +1,60 @@
+# SPDX-License-Identifier: Apache-2.0 OR BSD-3-Clause
+"""Has Coq check a folder of files, and answer questions about them."""
+import os
+import re
+import subprocess
+from collections.abc import Iterable
+from concurrent.futures import FIRST_COMPLETED, Future, ThreadPoolExecutor, wait
+from pathlib import Path
+
+
+class Failed(Exception):
+    """Something is not proved."""
+
+
+# coqc fills 256 MB with new values before it collects any. With 32 MB it takes half the memory, and less time.
+HEAP = {"OCAMLRUNPARAM": "s=4M,o=1000"}
+# A warning is a fault, but for one of the translated definitions, which have names that they do not need.
+WARNINGS = "+default,-unused-pattern-matching-variable"
+
+
+def coqc(folder: Path, name: str) -> str:
+    run = subprocess.run(["coqc", "-noglob", "-w", WARNINGS, "-Q", ".", "Recheck", f"{name}.v"], cwd=folder,
+                         env=os.environ | HEAP, capture_output=True, text=True)
+    if run.returncode:
+        raise Failed(f"{name}.v is not proved:\n{run.stdout}{run.stderr}")
+    return run.stdout
+
+
+def requirements(folder: Path) -> dict[str, set[str]]:
+    """For each file, those that it requires."""
+    found = {}
+    for file in folder.glob("*.v"):
+        required = " ".join(re.findall(r"^Require (?:Import |Export )?([^.]*(?:\.\w+[^.]*)*)\.$", file.read_text(), re.M))
+        found[file.stem] = {name[8:] for name in required.split() if name.startswith("Recheck.")}
+    return found
+
+
+def check(folder: Path, jobs: int, names: Iterable[str] | None = None) -> None:
+    """Checks these files, or all, each after those of them that it requires."""
+    needs = requirements(folder)
+    chosen = set(needs if names is None else names)
+    needs = {name: required & chosen for name, required in needs.items() if name in chosen}
+    with ThreadPoolExecutor(jobs) as pool:
+        running: dict[Future[str], str] = {}
+        while needs or running:
+            for name in [name for name, left in needs.items() if not left]:
+                del needs[name]
+                running[pool.submit(coqc, folder, name)] = name
+            if not running:
+                raise Failed(f"these files require each other: {', '.join(needs)}")
+            for done in wait(running, return_when=FIRST_COMPLETED).done:
+                done.result()
+                name = running.pop(done)
+                for left in needs.values():
+                    left.discard(name)
+
+
+def rests_on(names: Iterable[str]) -> list[str]:
+    """Has Coq print on what these rest."""
+    return ["Definition all : True :=", *(f"let _ := @{name} in" for name in names), "I.", "Print Assumptions all."]

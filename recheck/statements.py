@@ -1,0 +1,239 @@
+# SPDX-License-Identifier: Apache-2.0 OR BSD-3-Clause
+"""What is proved, as Coq says it, in two files that a person reads: claims.txt has what README claims, and
+statements.txt the rest. The sentences, the claims and the topics are the comments of Claims.v, and the words of a claim
+are README's."""
+import difflib
+import hashlib
+import re
+import textwrap
+from collections import defaultdict
+from pathlib import Path
+
+from coq import Failed, coqc, requirements, rests_on
+
+HERE = Path(__file__).resolve().parents[1]
+# The files whose definitions are shown, in the order in which they require each other, and what each of them has.
+SHOWN = {"Prelude": "the words of the definitions (recheck/Prelude.v)",
+         "Machine": "what Rust's numbers, arrays and loops do (recheck/Machine.v)",
+         "Types": "the structs of Rust, and what is valid in them",
+         "Definitions": "the definitions of crates/*/specs",
+         "Acts": "what a function does that calls objects (recheck/Acts.v)",
+         "ShellCode": "the structs of the shell, and its calls of objects",
+         "Calls": "lists of calls of the code (recheck/Calls.v)",
+         "Claims": "a word of the theorems (recheck/proofs/Claims.v)",
+         "Witnesses": "calls that meet the conditions of laws (recheck/proofs/Witnesses.v)"}
+# Of these files only those definitions are shown that a statement uses.
+IF_USED = ("Types", "Definitions", "ShellCode")
+# What is translated of a function's body is the code: no statement is made by it.
+CODE = re.compile(r"Code\.\w+|ShellCode\.vm_\w+")
+IMPORTED = ("Prelude", "Machine", "Definitions", "Code", "Acts", "ShellCode", "Calls", "Claims")
+KEYWORD = r"(?:Theorem|Definition|Fixpoint|Inductive|CoInductive|Variant|Record)"
+SCHEME = re.compile(r"\w+_(?:ind|sind|rec|rect)")
+SEPARATOR = "I\n     : True\n"  # what `Check I.` prints
+CLAIMS = """What is proved again of README's claims, as Coq prints it, below sentences that say it. A name that begins
+    with `rs_` is a function of Rust, and `Some` of a result says that the call returns it: it does not panic or hang.
+    `valid_Uart` and its like hold of every struct that Rust can make."""
+JUDGED = """A reviewer of README's claims may stop here. What is left to judge are the definitions that these statements
+    use. They follow, each after those that it uses itself."""
+OTHERS = """What is proved beside claims.txt, as Coq prints it: the other theorems, by topic; laws that have conditions,
+    used once each; and the definitions that are not in claims.txt."""
+
+
+def theorems_of(folder: Path) -> list[str]:
+    return re.findall(r"^Theorem (\w+)", (folder / "Claims.v").read_text(), re.M)
+
+
+def witnesses_of(folder: Path) -> list[str]:
+    """The uses of laws on calls that meet their conditions."""
+    return re.findall(r"^Definition (used_\w+)", (folder / "Witnesses.v").read_text(), re.M)
+
+
+def sentences(folder: Path, file: str) -> dict[str, str]:
+    """The comment that stands directly above a name."""
+    text = (folder / f"{file}.v").read_text()
+    found = re.findall(rf"^\(\* ((?:(?!\*\)).)*?) *\*\)\n{KEYWORD} (\w+)", text, re.M | re.S)
+    return {name: " ".join(words.split()) for words, name in found}
+
+
+def topics(folder: Path) -> dict[str, list[str]]:
+    """The theorems under each heading of Claims.v. All other comments below its first heading are sentences."""
+    found: dict[str, list[str]] = {}
+    head, _, text = (folder / "Claims.v").read_text().partition("(* ---- ")
+    if names := re.findall(r"^Theorem (\w+)", head, re.M):
+        raise Failed(f"no heading above {names[0]}")
+    for part in text.split("\n(* ---- "):
+        title = re.split(r"\n\n| *\*\)", part)[0]
+        found.setdefault(" ".join(title.split()), []).extend(re.findall(r"^Theorem (\w+)", part, re.M))
+        for lone in re.findall(rf"^\(\* ((?:(?!\*\)).)*?) *\*\)\n(?!{KEYWORD})", part, re.M | re.S):
+            raise Failed(f"no theorem below: {' '.join(lone.split())}")
+    return found
+
+
+def readme_claims(readme: str) -> dict[int, str]:
+    """The words of README's claims, without links."""
+    rows = re.findall(r"^\| (\d)\. (.*?) \| .* \|$", readme, re.M)
+    return {int(number): re.sub(r"\[([^]]*)\]\([^)]*\)", r"\1", words) for number, words in rows}
+
+
+class Statements:
+    """What Coq says of all that is in a folder."""
+    def __init__(self, folder: Path) -> None:
+        self.folder, self.defined, self.proofs = folder, list[str](), set[str]()
+        self.owners = defaultdict[str, set[str]](set)
+        self.modules = "|".join(requirements(folder))
+        self.theorems = [f"Claims.{name}" for name in theorems_of(folder)]
+        self.witnesses = [f"Witnesses.{name}" for name in witnesses_of(folder)]
+        self.list_definitions()
+        asked = [*self.defined, *self.theorems, *self.witnesses]
+        requires = [f"Require Recheck.{file}." for file in dict.fromkeys([*IMPORTED, *SHOWN])]
+        settings = [*requires, "Set Printing All.", "Set Printing Width 1000."]
+        self.full, rests = self.printed(asked, settings, rests_on(f"Recheck.{name}" for name in self.witnesses))
+        if rests != "Closed under the global context":
+            raise Failed(f"witnesses rest on something:\n{rests}")
+        self.uses = {name: self.used_by(name) for name in asked}
+        self.defined = [name for name in self.defined if not self.is_projection(name)]
+        always = [name for name in self.defined if not name.startswith(tuple(f"{file}." for file in IF_USED))]
+        self.all = self.closure([*always, *self.theorems, *self.witnesses])
+        shown = [name for name in asked if name in self.all and not self.is_projection(name)]
+        imports = [f"Import Recheck.{file}." for file in IMPORTED]
+        self.text, _ = self.printed(shown, [*requires, *imports, "Set Printing Width 120."], [])
+        self.sum = hashlib.sha256("\n".join(self.full[name] for name in shown).encode()).hexdigest()
+
+    def said(self, *lines: str) -> str:
+        (self.folder / "Statements.v").write_text("\n".join(lines) + "\n")
+        return coqc(self.folder, "Statements")
+
+    def list_definitions(self) -> None:
+        """The definitions of each file, and to which types the names in them may belong, such as constructors."""
+        listed = self.said("Set Printing Width 30.",  # so that each begins its own line
+                           *(f"{asks} Recheck.{file}." for asks in ("Require", "Print Module") for file in SHOWN))
+        for file, module in zip(SHOWN, re.split(r"^Module\s+\w+\s+:= Struct$", listed, flags=re.M)[1:], strict=True):
+            if re.search(r"^ *Module ", module, re.M):
+                raise Failed(f"a module in {file}.v")
+            for declared in re.split(rf"^ {{5}}(?=(?:Parameter|{KEYWORD})\s)", module, flags=re.M)[1:]:
+                kind, name = declared.split()[:2]
+                path = f"{file}.{name}"
+                if kind == "Parameter":
+                    self.proofs.add(path)
+                if kind == "Parameter" or CODE.fullmatch(path) or SCHEME.fullmatch(name) or name.startswith("used_"):
+                    continue
+                self.defined.append(path)
+                if kind != "Definition":
+                    for part in re.findall(r"(\w+)\s:(?!=)|:=\s+(\w+)", declared):
+                        self.owners[f"{file}.{part[0] or part[1]}"].add(path)
+
+    def printed(self, names: list[str], settings: list[str], more: list[str]) -> tuple[dict[str, str], str]:
+        """What Coq prints of each name, a whole definition or what a theorem states, and then of more."""
+        asked = [f"{'Print ' if name in self.defined else 'Check @'}Recheck.{name}. Check I." for name in names]
+        said = re.sub(r"^\n?Arguments .*(?:\n .*)*\n", "", self.said(*settings, *asked, *more), flags=re.M)
+        *found, last = (re.sub(r" +$", "", text, flags=re.M).strip() for text in said.split(SEPARATOR))
+        return dict(zip(names, found, strict=True)), last
+
+    def used_by(self, name: str) -> set[str]:
+        """The definitions that it names, each with its file since no file is imported."""
+        found = set()
+        for path in {".".join(words) for words in re.findall(rf"\b({self.modules})\.(\w+)", self.full[name])} - {name}:
+            if path in self.full and path not in self.proofs:
+                found.add(path)
+            elif path in self.owners:
+                found |= self.owners[path]
+            elif not CODE.fullmatch(path) and not (path in self.proofs and name.startswith("Witnesses.")):
+                raise Failed(f"{name} has {path}, which is not among the definitions of the statements")
+        return found - {name}
+
+    def is_projection(self, name: str) -> bool:
+        """Whether it is a field of a record, which stands in the record."""
+        field = name.partition(".")[2]
+        return name in self.owners and bool(re.search(rf"\| [^|]* => {field}\s+end\s+: ", self.full[name]))
+
+    def closure(self, names: list[str]) -> set[str]:
+        found: set[str] = set()
+        left = [*names]
+        while left:
+            if (name := left.pop()) not in found:
+                found.add(name)
+                left += self.uses[name]
+        return found
+
+    def claims(self) -> dict[tuple[int, ...], list[str]]:
+        """The theorems of each claim, or of several, by the first words of their sentences."""
+        words, found = sentences(self.folder, "Claims"), dict[tuple[int, ...], list[str]]()
+        for theorem in self.theorems:
+            sentence = words.get(theorem.partition(".")[2])
+            if sentence is None:
+                raise Failed(f"no sentence above {theorem}")
+            if named := re.match(r"Claims? (\d(?:(?:, | and )\d)*)\. ", sentence):
+                found.setdefault(tuple(map(int, re.findall(r"\d", named[1]))), []).append(theorem)
+        return dict(sorted(found.items()))
+
+    def told(self, name: str, comments: dict[str, dict[str, str]]) -> str:
+        """A statement or a definition under its sentence. A law stands under the theorem that proves it."""
+        file, _, word = name.partition(".")
+        sentence = re.sub(r"^Claims? \d[^.]*\. ", "", comments[file].get(word, ""))
+        lines = [*textwrap.wrap(sentence, 120), self.text[name]]
+        if law := self.law_of(name):
+            lines.append(self.text[law])
+        return "\n".join(lines) + "\n"
+
+    def law_of(self, theorem: str) -> str | None:
+        found = re.fullmatch(r"\S+\s+: (Definitions\.\w+)", self.full[theorem])
+        return found[1] if found and found[1] in self.text else None
+
+    def files(self, readme: str) -> dict[str, str]:
+        """What claims.txt and statements.txt have to be."""
+        comments = {file: sentences(self.folder, file) for file in SHOWN}
+        claims, words = self.claims(), readme_claims(readme)
+        named = {number for numbers in claims for number in numbers}
+        if faults := [f"no theorem is for claim {number} of README.md" for number in sorted(words.keys() - named)]:
+            raise Failed("\n".join(faults))
+        if others := sorted(named - words.keys()):
+            raise Failed(f"README.md has no claim {others[0]}")
+        of_claims = [theorem for theorems in claims.values() for theorem in theorems]
+        read = self.closure(of_claims)
+        parts = {"claims.txt": [paragraph(CLAIMS)], "statements.txt": [paragraph(OTHERS)]}
+        shown: set[str] = set()
+
+        def add(file: str, title: str, names: list[str]) -> None:
+            if names:
+                parts[file] += [heading(title), *(self.told(name, comments) for name in names)]
+                shown.update(names, filter(None, map(self.law_of, names)))
+        for numbers, theorems in claims.items():
+            title = [f"Claim{'s' * (len(numbers) > 1)} {' and '.join(map(str, numbers))}."]
+            title += [words.pop(number) + "." for number in numbers if number in words]
+            add("claims.txt", " ".join(title), theorems)
+        parts["claims.txt"].append(paragraph(JUDGED))
+        for topic, theorems in topics(self.folder).items():
+            paths = [f"Claims.{name}" for name in theorems]
+            add("statements.txt", topic, [path for path in paths if path not in of_claims])
+        add("statements.txt", "laws that have conditions, used once each", self.witnesses)
+        for file, title in SHOWN.items():
+            left = [name for name in self.defined if name.startswith(f"{file}.") and name in self.text.keys() - shown]
+            add("claims.txt", title, [name for name in left if name in read])
+            add("statements.txt", title, [name for name in left if name not in read])
+        parts["statements.txt"].append(f"All of both files, with what Coq does not show of it: {self.sum}\n")
+        return {file: "\n".join(texts) for file, texts in parts.items()}
+
+
+def paragraph(text: str) -> str:
+    return textwrap.fill(" ".join(text.split()), 120) + "\n"
+
+
+def heading(title: str) -> str:
+    return textwrap.fill(f"==== {title}", 120, subsequent_indent="     ") + "\n"
+
+
+def differences(kept: dict[str, str], found: dict[str, str]) -> list[str]:
+    """What changed in each file, in the lines of a diff."""
+    return [line for file, text in found.items()
+            for line in difflib.unified_diff(kept.get(file, "").splitlines(), text.splitlines(), f"recheck/{file}",
+                                             "proved", lineterm="", n=1)]
+
+
+def compare(folder: Path, writes: bool = False) -> None:
+    """Whether the files say what is proved, after they are written if this `writes` them."""
+    found = Statements(folder).files((HERE / "README.md").read_text())
+    if writes:
+        for file, text in found.items():
+            (HERE / "recheck" / file).write_text(text)
+    if faults := differences({file: (HERE / "recheck" / file).read_text() for file in found}, found):
+        raise Failed("other statements are proved:\n" + "\n".join(faults[:60]))

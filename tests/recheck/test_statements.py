@@ -1,0 +1,192 @@
+# SPDX-License-Identifier: Apache-2.0 OR BSD-3-Clause
+"""claims.txt and statements.txt show each change of what is proved by its name. Shown on a port of a few lines, since Coq
+needs a minute for the real ones."""
+import re
+import shutil
+
+import pytest
+
+import coq
+import statements
+
+pytestmark = pytest.mark.needs("coq")
+
+README = """| Claim | Contract |
+|---|---|
+| 1. A new port [fits](docs/THEOREM.md), always | `new: fits` |
+| 2. A write is `kept` | `write: kept` |
+"""
+FILES = {
+    "Prelude": """
+(* twice the number *)
+Definition double (n : nat) : nat := n + n.
+Definition same {kind : nat} (n : nat) : Prop := kind = kind /\\ n = n.
+""",
+    "Machine": "Require Import Recheck.Prelude.\nDefinition plain (n : nat) : nat := n.\n",
+    "Types": """Require Export Recheck.Prelude.
+(* A port, and how many bytes it holds. *)
+Record Port : Type := mk_Port { Port_held : nat }.
+Inductive Kind : Type := Kind_Read | Kind_Write.
+Record Width : Type := mk_Width { Width_bits : nat }.
+""",
+    "Definitions": """Require Export Recheck.Prelude Recheck.Types.
+(* a FIFO holds as many *)
+Definition most : nat := 64.
+(* no more are held than have room *)
+Definition Fits (port : Port) : Prop := Port_held port <= most.
+Definition kind_of (n : nat) : Kind := if Nat.eqb n 0 then Kind_Read else Kind_Write.
+Definition unused : nat := 7.
+(* doubling is adding *)
+Definition DoubleLaw : Prop := forall n, double n = n + n.
+""",
+    "Code": """Require Export Recheck.Types.
+Definition rs_Port_new : option Port := Some (mk_Port 0).
+Definition rs_Port_write (port : Port) : option Port := Some port.
+""",
+    "Acts": "Require Import Recheck.Machine.\nDefinition acts (n : nat) : nat := n.\n",
+    "ShellCode": "Require Import Recheck.Code.\nRecord VmPort : Type := mk_VmPort { VmPort_port : Port }.\n",
+    "Calls": "Require Import Recheck.Code.\nDefinition writes (port : Port) : option Port := rs_Port_write port.\n",
+    "Proofs": "Definition hidden (n : nat) : Prop := n = n.\n",
+    "Claims": """Require Import Recheck.Prelude Recheck.Definitions Recheck.Code Recheck.Calls.
+Require Recheck.Proofs.
+(* ---- the port *)
+
+(* Claim 1. A new port fits. *)
+Theorem port_new : exists port, rs_Port_new = Some port /\\ Fits port.
+Proof. exists (mk_Port 0). split; [reflexivity | apply le_0_n]. Qed.
+
+(* Claims 1 and 2. A write is kept, and no call
+   panics. *)
+Theorem port_write port : writes port = Some port.
+Proof. reflexivity. Qed.
+
+(* ---- numbers *)
+
+(* Doubling is adding. *)
+Theorem doubles : DoubleLaw.
+Proof. intro n. reflexivity. Qed.
+
+(* Zero is read. *)
+Theorem zero : kind_of 0 = Kind_Read /\\ same (kind := 1) 2.
+Proof. repeat split. Qed.
+""",
+    "Witnesses": """Require Import Recheck.Claims.
+Lemma three : 3 = 3. Proof. reflexivity. Qed.
+Definition used_doubles := doubles 3.
+""",
+}
+# A change: in which file, what stands there, and what in its place; and the lines in which it shows, by the file.
+CHANGES = {
+    "a theorem that is gone": ("Claims", r"\(\* Zero is read.(?s:.*)Qed\.\n", "", {"statements.txt": ["-zero"]}),
+    "a claim's theorem that says less": (
+        "Claims", r" /\\ Fits port\.(?s:.*?)Qed\.", ". Proof. exists (mk_Port 0). reflexivity. Qed.",
+        {"claims.txt": ["-     : exists port : Port, rs_Port_new = Some port /\\ Fits port"]}),
+    "another theorem that says less": (
+        "Claims", "kind_of 0 = Kind_Read /\\\\ ", "", {"statements.txt": ["-     : kind_of 0 = Kind_Read /\\ same 2"]}),
+    "a law of another name": ("Claims", ": DoubleLaw", ": forall n, double n = n + n",
+                              {"statements.txt": ["-     : DoubleLaw", "+     : forall n : nat, double n = n + n"]}),
+    "a definition of a claim": ("Definitions", "64", "65", {"claims.txt": ["-most = 64", "+most = 65"]}),
+    "a definition of another theorem": (
+        "Definitions", r"then Kind_Read else Kind_Write", "then Kind_Read else Kind_Read", {"statements.txt": ["-kind_of = "]}),
+    "a law": ("Definitions", "double n = n \\+ n", "double n = 0 + n + n", {"statements.txt": ["-DoubleLaw = "]}),
+    "a type of Rust": ("Types", r"Kind_Write\.", "Kind_Write | Kind_None.", {"statements.txt": ["-Inductive Kind"]}),
+    "a list of calls": ("Calls", "rs_Port_write port", "Some port", {"claims.txt": ["-writes = "]}),
+    "a word that no theorem uses": ("Machine", r":= n\.", ":= 0.", {"statements.txt": ["-plain = "]}),
+    "a hypothesis": ("Claims", r"\(\* ---- numbers(?s:.*)",
+                     r"Section Ports.\nContext {never : False}.\nDefinition used := never.\n\g<0>End Ports.\n",
+                     {"statements.txt": ["+used = "]}),
+    "a witness that is gone": ("Witnesses", "Definition used(?s:.*)", "", {"statements.txt": ["-Witnesses.used_doubles"]}),
+    "what Coq does not show": ("Claims", r"\(kind := 1\)", "(kind := 2)", {"statements.txt": ["-All of both files"]}),
+    "a sentence": ("Claims", "A new port fits", "A port fits", {"claims.txt": ["-A new port fits."]}),
+    "a sentence of a definition": ("Definitions", "a FIFO holds", "a ring holds", {"claims.txt": ["-a FIFO holds as many"]}),
+    "another claim": ("Claims", "Claim 1. A new", "Claim 2. A new",
+                      {"claims.txt": ["-==== Claim 1. A new port fits, always."]}),
+    "a theorem that is no claim's": ("Claims", "Claim 1. A new port", "A new port",
+                                     {"claims.txt": ["-port_new"], "statements.txt": ["+port_new"]}),
+    "what no statement uses": ("Definitions", "unused : nat := 7", "unused : nat := 8", {}),
+    "a width of a struct that no statement uses": ("Types", "Width_bits : nat", "Width_bits : bool", {}),
+    "a body of the code": ("Code", "Some \\(mk_Port 0\\)", "Some (mk_Port (0 + 0))", {}),
+}
+# And what no such file is made of.
+REFUSED = {
+    "a theorem without a sentence": ("Claims", r"\(\* Zero is read\. \*\)\n", "", r"^no sentence above Claims\.zero$"),
+    "a sentence above an empty line": ("Claims", r"(?<=read\. \*\)\n)", "\n", r"^no sentence above Claims\.zero$"),
+    "a sentence of no theorem": ("Claims", r"(?=\(\* ---- numbers)", "(* Claim 1. A port is small. *)\n\n",
+                                 r"^no theorem below: Claim 1\. A port is small\.$"),
+    "a claim without a theorem": ("Claims", "Claims 1 and 2. ", "Claim 1. ", r"^no theorem is for claim 2 of README\.md$"),
+    "a claim that README does not make": ("Claims", "Claims 1 and 2. ", "Claims 2 and 3. ", r"^README\.md has no claim 3$"),
+    "a theorem above all headings": ("Claims", r"\(\* ---- the port \*\)\n", "", r"^no heading above port_new$"),
+    "a module": ("Calls", "(?=Definition writes)", "Module Hidden.\nDefinition n := 0.\nEnd Hidden.\n", r"^a module in Calls\.v$"),
+    "an axiom": ("Witnesses", "Definition used_doubles := doubles 3", "Axiom all : False.\nDefinition used_doubles := all",
+                 r"^witnesses rest on something:\n(?s:.*)\ball : False$"),
+    "a word that is sealed": ("Claims", r"(\(\* Zero is read\. \*\)\nTheorem zero : )",
+                              r"(* A word. *)\nTheorem word : Prop. Proof. exact True. Qed.\n\1word -> ",
+                              r"^Claims\.zero has Claims\.word, which is not among the definitions of the statements$"),
+    "a definition of the proofs": ("Claims", "same \\(kind := 1\\) 2", "Proofs.hidden 2",
+                                   r"^Claims\.zero has Proofs\.hidden, which is not among the definitions of the statements$"),
+}
+
+
+@pytest.fixture(scope="module")
+def small(tmp_path_factory):
+    """A folder with the small port, checked, and its two files."""
+    folder = tmp_path_factory.mktemp("small")
+    for name, text in FILES.items():
+        (folder / f"{name}.v").write_text(text)
+    coq.check(folder, 1)
+    return folder, statements.Statements(folder).files(README)
+
+
+def changed(small, folder, file, old, new):
+    shutil.copytree(small, folder)
+    text, count = re.subn(old, new, (folder / f"{file}.v").read_text(), count=1)
+    assert count == 1, old
+    (folder / f"{file}.v").write_text(text)
+    needs, names = coq.requirements(folder), {file}
+    while more := {name for name, required in needs.items() if required & names} - names:
+        names |= more
+    coq.check(folder, 1, names - {"Statements"})
+    return statements.Statements(folder).files(README)
+
+
+@pytest.mark.parametrize("name", CHANGES)
+def test_a_change_shows(name, small, tmp_path):
+    file, old, new, lines = CHANGES[name]
+    found = changed(small[0], tmp_path / "changed", file, old, new)
+    for changed_file in found:
+        said = statements.differences({changed_file: small[1][changed_file]}, {changed_file: found[changed_file]})
+        for line in lines.get(changed_file, []):
+            assert any(each.startswith(line) for each in said), said
+        shown = [each for each in said[2:] if each[0] in "+-" and not each.startswith(("-All of both", "+All of both"))]
+        assert bool(shown) == bool(lines.get(changed_file)) or name == "what Coq does not show", said
+    assert bool(lines) == (found != small[1])
+
+
+@pytest.mark.parametrize("name", REFUSED)
+def test_refused(name, small, tmp_path):
+    file, old, new, why = REFUSED[name]
+    with pytest.raises(coq.Failed) as failed:
+        changed(small[0], tmp_path / "changed", file, old, new)
+    assert re.search(why, str(failed.value)), failed.value
+
+
+def test_what_a_reviewer_reads(small):
+    """README's claims come first, in its order and by its words, and then the definitions, each after those that it uses."""
+    claims = small[1]["claims.txt"]
+    parts = ["==== Claim 1. A new port fits, always.", "A new port fits.\nport_new\n     : exists",
+             "==== Claims 1 and 2. A write is `kept`.", "A write is kept, and no call panics.\nport_write\n",
+             "A reviewer of README's claims may stop here", "A port, and how many bytes it holds.\nRecord Port",
+             "a FIFO holds as many\nmost = 64", "no more are held than have room\nFits =", "writes ="]
+    places = [claims.index(part) for part in parts]
+    assert places == sorted(places)
+    assert not re.search("^(?:doubles|zero|kind_of|double|unused|Width|VmPort)", claims, re.M)
+
+
+def test_what_the_rest_is(small):
+    """Each theorem and definition is in one of the files, once; a law stands under its theorem."""
+    rest = small[1]["statements.txt"]
+    assert "==== numbers\n\nDoubling is adding.\ndoubles\n     : DoubleLaw\nDoubleLaw = forall n : nat, double n = n + n\n" in rest
+    both = small[1]["claims.txt"] + rest
+    for name in ("port_new", "port_write", "doubles", "zero", "most =", "Fits =", "kind_of =", "double =", "plain =", "writes =",
+                 "DoubleLaw ="):
+        assert len(re.findall(rf"^{name}", both, re.M)) == 1, name
