@@ -117,11 +117,9 @@ def compared(root, folder, rustc="rustc"):
     return [*expanded.compare(root, rustc, rerun.CRATES, rerun.left_out()[0], folder)]
 
 
-@pytest.mark.needs("cargo")
-@pytest.mark.parametrize("rustc", ["rustc", "/usr/bin/rustc"])
+@pytest.mark.parametrize("rustc", [pytest.param("rustc", marks=pytest.mark.needs("cargo")),
+                                   pytest.param("/usr/bin/rustc", marks=pytest.mark.needs("debian-rust"))])
 def test_rustc_reads_the_same(rustc, tmp_path):
-    if not shutil.which(rustc):
-        pytest.skip(f"no {rustc}")
     assert [folder.name for folder, count in compared(ROOT, tmp_path, rustc) if count > 900] == ["superio", "from-source", "rust"]
 
 
