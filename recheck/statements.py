@@ -32,7 +32,8 @@ SCHEME = re.compile(r"\w+_(?:ind|sind|rec|rect)")
 SEPARATOR = "I\n     : True\n"  # what `Check I.` prints
 CLAIMS = """What is proved again of README's claims, as Coq prints it, below sentences that say it. A name that begins
     with `rs_` is a function of Rust, and `Some` of a result says that the call returns it: it does not panic or hang.
-    `valid_Uart` and its like hold of every struct that Rust can make."""
+    `valid_Uart` and its like hold of every struct that Rust can make, and `inhabited` of a record of facts if they
+    do."""
 JUDGED = """A reviewer of README's claims may stop here. What is left to judge are the definitions that these statements
     use. They follow, each after those that it uses itself."""
 OTHERS = """What is proved beside claims.txt, as Coq prints it: the other theorems, by topic; laws that have conditions,
