@@ -14,7 +14,7 @@ pytestmark = pytest.mark.needs("coq", "cargo")
 
 
 def test_every_claim_is_proved(checked):
-    assert int(re.fullmatch(r"proved again: (\d+) theorems\n", checked[1])[1]) >= 197
+    assert int(re.fullmatch(r"proved again: (\d+) theorems\n", checked[1])[1]) >= 209
 
 
 def test_code_does_what_coq_computes(checked, tmp_path):
