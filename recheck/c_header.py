@@ -1,0 +1,139 @@
+# SPDX-License-Identifier: Apache-2.0 OR BSD-3-Clause
+"""That C finds the structs and functions of the C crate as superio.h declares them."""
+import re
+from collections.abc import Iterable, Iterator
+from pathlib import Path
+from typing import Any, TypeVar
+
+from rust_tree import Refused, source
+
+T = TypeVar("T")
+Member = tuple[str, str, int]                        # its name, its type, and how many, or 0 if it is no array
+Function = tuple[str, list[tuple[str, str]]]        # its result, and the name and type of each parameter
+
+HEADER = "bindings/c/superio.h"
+# The name of each struct in C.
+STRUCTS = {"Uart": "superio_serial", "ReadEffects": "superio_serial_read_effects",
+           "WriteEffects": "superio_serial_write_effects", "EnqueueEffects": "superio_serial_enqueue_effects",
+           "Pl031": "superio_rtc", "RtcReadEffects": "superio_rtc_read_effects",
+           "RtcWriteEffects": "superio_rtc_write_effects", "I8042WriteEffects": "superio_i8042_write_effects",
+           "Console": "superio_console", "Work": "superio_console_work", "Wants": "superio_console_wanted",
+           "ConsoleRead": "superio_console_read_effects", "ConsoleReceived": "superio_console_receive_effects"}
+TYPES = {**STRUCTS, **{f"i{width}": f"int{width}_t" for width in (8, 16, 32, 64)},
+         **{f"u{width}": f"uint{width}_t" for width in (8, 16, 32, 64)}, "usize": "size_t", "bool": "bool",
+         "()": "void"}
+SIGNATURE = re.compile(r'^#\[no_mangle\]\npub (?:unsafe )?extern "C" fn (\w+)\(([^)]*)\)(?: -> (\w+))? \{$', re.M)
+
+# What the preprocessor may be told: no name of C's gets another meaning.
+DIRECTIVE = re.compile(r"#(define SUPERIO_|undef SUPERIO_|ifndef SUPERIO_H$|ifdef __(cplusplus|clang__)$"
+                       r"|if (defined\(__has_attribute\)|SUPERIO_HAS)|else$|endif$|include <std(bool|def|int)\.h>$"
+                       r"|pragma clang diagnostic (push|pop|ignored \"-Wgcc-compat\"))")
+
+# The numbers of the header that are constants of Rust.
+NUMBERS = {"SUPERIO_ABI": "ABI", "SUPERIO_SERIAL_FIFO_SIZE": "FIFO_SIZE", "SUPERIO_SERIAL_SAVED_MAX": "SAVED_MAX",
+           "SUPERIO_CONSOLE_OUTPUT_SIZE": "OUTPUT_SIZE", "SUPERIO_CONSOLE_SAVED_MAX": "CONSOLE_SAVED_MAX",
+           "SUPERIO_RTC_SAVED_SIZE": "SAVED_SIZE"}
+STRUCT = re.compile(r"typedef struct (\w+) \{(.*?)\} \1;", re.S)
+PROTOTYPE = re.compile(r"^([a-z]\w+)\s+(superio_\w+)\(((?:[^()]|\([^()]*\))*)\)", re.M)
+
+
+def check_header(root: Path, crate: Any) -> None:
+    """That the structs and functions of the C crate are those of the header: names, types, and the order of fields and
+    of parameters."""
+    text = header(root)
+    numbers = dict(re.findall(r"^#define (SUPERIO_\w+) (\d+)$", text, re.M))
+    same(once((name, fields_of(body, numbers)) for name, body in STRUCT.findall(text)),
+         {STRUCTS[name]: [*fields(crate, name)] for name in STRUCTS})
+    for name, constant in NUMBERS.items():
+        if crate.number(crate.consts[constant].value) != int(numbers[name]):
+            raise Refused(f"{HEADER}: {name} is not {constant}")
+    loads = re.findall(r"SUPERIO_LOAD_(\w+) = (\d+)", text)
+    same({name.replace("_", "").lower(): int(number) for name, number in loads}, faults(crate))
+    prototypes = PROTOTYPE.findall(text)
+    same(once((name, (result, parameters_of(given))) for result, name, given in prototypes), functions(root))
+
+
+def header(root: Path) -> str:
+    """The header without its comments."""
+    text = (root / HEADER).read_text()
+    if (root / "bindings/c/from-source/superio.h").read_text() != text:
+        raise Refused("bindings/c/from-source/superio.h is not that of bindings/c")
+    text = re.sub(r"/\*.*?\*/", " ", text, flags=re.S)
+    for line in re.findall(r"^ *#.*", text, re.M):
+        if not DIRECTIVE.match(line):
+            raise Refused(f"{HEADER}: {line}")
+    return text
+
+
+def faults(crate: Any) -> dict[str, int]:
+    """What a load returns, by the names of the cases, in which C has `_` between words."""
+    arms = crate.functions["load_status"].body.statements[0].value.arms
+    found = {arm.pattern.path[-1].lower(): crate.number(arm.body) for arm in arms}
+    return found | {"ok": crate.number(crate.consts["LOADED"].value)}
+
+
+def functions(root: Path) -> dict[str, Function]:
+    """The result and the parameters of each function that C can call."""
+    found: dict[str, Function] = {}
+    for name, given, result in SIGNATURE.findall(source(root / "bindings/c/from-source/src/lib.rs")):
+        parts = " ".join(given.split()).rstrip(",")
+        found[name] = TYPES[result or "()"], [of_c(*part.split(": ")) for part in parts.split(", ") if part]
+    return found
+
+
+def same(in_c: dict[str, T], in_rust: dict[str, T]) -> None:
+    for name in [*in_c, *in_rust]:
+        if in_c.get(name) != in_rust.get(name):
+            raise Refused(f"{HEADER}: {name}: {in_c.get(name)}, and in Rust {in_rust.get(name)}")
+
+
+def once(pairs: Iterable[tuple[str, T]]) -> dict[str, T]:
+    found: dict[str, T] = {}
+    for name, value in pairs:
+        if name in found:
+            raise Refused(f"{HEADER}: {name} twice")
+        found[name] = value
+    return found
+
+
+def fields_of(body: str, numbers: dict[str, str]) -> list[Member]:
+    found = []
+    for type_, name, _, count in re.findall(r"(\w+) (\w+)(\[(\w+)\])?;", body):
+        found.append((name, type_, int(numbers.get(count, count or 0))))
+    return found
+
+
+def fields(crate: Any, name: str) -> Iterator[Member]:
+    """The fields of a struct as C has them: those of a struct in it that has no name in C one by one."""
+    item = crate.types[name]
+    if item.kind != "struct" or "repr(C)" not in item.derived:
+        raise Refused(f"{name} has not the layout of C")
+    for field, type_ in item.fields:
+        if isinstance(type_, tuple) and type_[0] == "list":
+            yield field, TYPES[type_[1]], crate.number(type_.length)
+        elif type_ in TYPES:
+            yield field, TYPES[type_], 0
+        else:
+            for inner, its_type, count in fields(crate, type_):
+                yield f"output_{inner}" if field == "output" else inner, its_type, count  # of a console's output
+
+
+def parameters_of(given: str) -> list[tuple[str, str]]:
+    found = []
+    for part in " ".join(given.split()).split(", "):
+        if part == "void":
+            continue
+        array = re.sub(r"\[.*\]$", "", part)
+        type_, _, name = array.rpartition(" ")
+        pointer = name.startswith("*") or array != part
+        found.append((name.lstrip("*"), type_ + (" *" if pointer else "")))
+    return found
+
+
+def of_c(name: str, type_: str) -> tuple[str, str]:
+    """A parameter as C has it."""
+    pointer = re.fullmatch(r"(&mut |&|\*mut |\*const )(\w+)", type_)
+    if not pointer:
+        return name.lstrip("_"), TYPES[type_]
+    constant = "const " if pointer[1] in ("&", "*const ") else ""
+    return name.lstrip("_"), f"{constant}{TYPES[pointer[2]]} *"
