@@ -87,9 +87,14 @@ class Driver(NamedTuple):
 
     def is_proved(self, cbmc, entry, monitor, *options):
         """Whether CBMC proves an entry of prove.c; it refutes all others."""
-        said = run([*cbmc, *self.all_words(monitor), *options, "-DABSTRACT_BYTES", self.harness / "prove.c",
-                    HERE / "monitor" / "device.c", "--function", entry, "--drop-unused-functions", "--slice-formula",
-                    "--object-bits", "12", "--no-standard-checks", "--unwinding-assertions", *self.proof], timeout=1800)
-        found = re.findall(r"^VERIFICATION (\w+)$", said.stdout, re.M)
-        assert found in (["SUCCESSFUL"], ["FAILED"]), said.stdout
-        return found == ["SUCCESSFUL"]
+        return verdict([*cbmc, *self.all_words(monitor), *options, "-DABSTRACT_BYTES", self.harness / "prove.c",
+                        HERE / "monitor" / "device.c", "--function", entry, *self.proof])[0]
+
+
+def verdict(command):
+    """Whether CBMC, with these words, proves all that is asserted, and what it prints."""
+    said = run([*command, "--drop-unused-functions", "--slice-formula", "--object-bits", "12", "--no-standard-checks",
+                "--unwinding-assertions"], timeout=1800)
+    found = re.findall(r"^VERIFICATION (\w+)$", said.stdout, re.M)
+    assert found in (["SUCCESSFUL"], ["FAILED"]), said.stdout
+    return found == ["SUCCESSFUL"], said.stdout

@@ -1,7 +1,9 @@
 # SPDX-License-Identifier: Apache-2.0 OR BSD-3-Clause
 """Linux's driver of a PL031, as it is in Debian's source, around a clock in a monitor: what is compiled of both."""
-from pathlib import Path
+import re
+from typing import NamedTuple
 
+from guest import verdict
 from harness import ROOT, check
 from sources import HERE, extract, sources
 
@@ -17,7 +19,8 @@ linux/sched linux/seq_file linux/slab linux/timerqueue linux/types linux/workque
 
 
 def write(folder):
-    """Writes the driver into a folder, with stand-ins for the kernel's headers."""
+    """Writes the driver into a folder, with stand-ins for the kernel's headers. In clock_driver.c the kernel's functions for
+    clocks are beside it, and in clock_alone.c, for a proof, they are not."""
     linux = sources("linux")
     for header in HEADERS:
         path = folder / "include" / f"{header}.h"
@@ -26,14 +29,43 @@ def write(folder):
     text = [f'#include "{linux / file}"\n' for file in WHOLE]
     text += [extract(linux / file, names) for file, names in FUNCTIONS.items()]
     (folder / "clock_driver.c").write_text("\n".join(text), encoding="utf-8")
-    return folder
+    (folder / "clock_alone.c").write_text(text[0], encoding="utf-8")
+    linux /= "include"
+    return Clock([f"-I{path}" for path in (
+        folder, folder / "include", HARNESS, ROOT / "bindings/c", linux, linux / "uapi")])
 
 
-def compile_program(folder, program, library, *options):
-    """A program of the harness over the C library. Its text is mostly the driver's, so no warning of it counts."""
-    linux = sources("linux") / "include"
-    built = folder / Path(program).stem
-    check(["gcc", "-std=gnu11", "-w", "-O1", *(f"-I{path}" for path in (
-        folder, folder / "include", HARNESS, ROOT / "bindings/c", linux, linux / "uapi")), *options, HARNESS / program,
-        library, "-o", built])
-    return built
+class Clock(NamedTuple):
+    """The driver, by what a compiler of C has to be told to find it."""
+    words: list
+
+    def compiled(self, built, library):
+        """The exchanges over the C library. Their text is mostly the driver's, so no warning of it counts."""
+        check(["gcc", "-std=gnu11", "-w", "-O1", *self.words, HARNESS / "clock.c", library, "-o", built])
+        return built
+
+    def is_proved(self, cbmc, entry, monitor, *options):
+        """Whether CBMC proves an entry of clock_prove.c for a monitor with these faults; it refutes all others."""
+        faults = "".join(f"[{fault}]=true," for fault in monitor.faults)
+        is_proved, said = verdict([*cbmc, *self.words, *options, f"-DHAS={faults or 0}", HARNESS / "clock_prove.c",
+                                   "--function", entry, "--unwind", "3"])
+        assert "-DREACH" not in options or set(re.findall(r"reached: .*: (\w+)$", said, re.M)) == {"FAILURE"}, said
+        return is_proved
+
+
+# Beside each entry of clock_prove.c: what it is about.
+ENTRIES = {
+    "restores": "a new clock, or one that is restored",
+    "passes": "a second goes by",
+    "interrupt": "the handler ends its interrupt, and tells of it once",
+    "relation": "what others may do has a second, and the handler",
+    "relation_twice": "and it has two steps in turn if it has both",
+    "read_time": "the time is read",
+    "set_time": "the time is set",
+    "read_alarm": "the alarm is read",
+    "set_alarm": "an alarm is set",
+    "turn_alarm": "the alarm is turned on or off",
+    "starts": "a kernel starts",
+    "due": "the time until an alarm",
+    "comes": "from a new clock on, an alarm that is set comes",
+}

@@ -3,6 +3,7 @@
 from typing import NamedTuple
 
 import xen_driver
+import linux_clock
 from guest import Monitor
 from linux_driver import ENTRIES
 
@@ -62,3 +63,21 @@ XEN += [Check(entry, Monitor(line, (*NO_LIMIT, *faults)), options, False, "xen")
     ("interrupt_runs", EDGES, ("NO_OFFER",), ()), ("interrupt_runs", LEVELS, ("NO_OFFER",), ()),
     ("host", EDGES, ("NO_RETRY",), ()), ("resume", EDGES, ("NO_RETRY_AT_IER",), ()), ("resume", EDGES, ("DROPS_IER",), ()),
     ("quiet", EDGES, (), ("-DREACH",)), ("interrupt_runs", EDGES, (), ("-DREACH",))]]
+
+# Linux's driver of the clock. The gate leaves out what is BESIDE, to take less time.
+REACH = ("-DREACH",)
+
+
+def clock(entry, *faults, options=(), holds=False):
+    return Check(entry, Monitor(LEVELS, faults), options, holds, "clock")
+
+
+OUTSIDE = ("due", "comes", "read_alarm")
+CLOCK = [clock(entry, holds=True) for entry in linux_clock.ENTRIES if entry not in OUTSIDE]
+CLOCK_BESIDE = [clock(entry, holds=True) for entry in OUTSIDE]
+CLOCK_BESIDE += [clock("starts", "PASSES_CONTROL", "EXPECTS_RESET", holds=True)]
+CLOCK_BESIDE += [clock(entry, options=REACH) for entry in ("set_time", "set_alarm", "turn_alarm", "due")]
+CLOCK_REFUTED = [clock(entry, fault) for entry, fault in [
+    ("starts", "PASSES_CONTROL"), ("comes", "NO_LINE"), ("comes", "NO_TIMER"), ("comes", "NO_READ"),
+    ("set_time", "NOT_AT_ONCE"), ("restores", "NOT_RESTORED")]]
+CLOCK_REFUTED += [clock(entry, options=REACH) for entry in ("restores", "passes", "interrupt")]

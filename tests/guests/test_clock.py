@@ -8,10 +8,13 @@ import os
 import platform
 import re
 
+import cbmc
 import linux_clock
+import proofs
 import pytest
 from harness import ROOT, check
 from seeds import seed
+from sources import HERE
 
 pytestmark = [pytest.mark.needs("cc", "linux-source"),
               pytest.mark.where("version of Linux's source with sums in tests/guests")]
@@ -21,9 +24,13 @@ EXCHANGES = int(os.environ.get("GUESTS_EXCHANGES", "20000"))
 
 
 @pytest.fixture(scope="module")
-def program(tmp_path_factory):
-    folder = linux_clock.write(tmp_path_factory.mktemp("clock"))
-    return linux_clock.compile_program(folder, "clock.c", LIBRARY)
+def driver(tmp_path_factory):
+    return linux_clock.write(tmp_path_factory.mktemp("clock"))
+
+
+@pytest.fixture(scope="module")
+def program(driver, tmp_path_factory):
+    return driver.compiled(tmp_path_factory.mktemp("exchanges") / "clock", LIBRARY)
 
 
 def wrong(program, *faults, exchanges=EXCHANGES):
@@ -58,3 +65,18 @@ def test_an_alarm_that_the_driver_clears(program, fault):
     """If a timer is up to a second late, or the guest is stopped in the middle of a call, the driver's own write of
     RTCICR may find the alarm, and clear it."""
     assert "a program waits for ever" in wrong(program, fault, exchanges=max(EXCHANGES, 40000))
+
+
+def test_the_clock_of_the_proof(tmp_path):
+    """clock_device.c is the library's clock, as far as random calls tell."""
+    built = tmp_path / "compare_clock"
+    check(["gcc", "-std=gnu11", "-O1", f"-I{ROOT}/bindings/c", HERE / "monitor/compare_clock.c", LIBRARY, "-o", built])
+    calls, alarms, nevers = map(int, re.match(r"(\d+) calls are the same, (\d+) alarms come, (\d+) never\n$",
+                                              check([built, 2000000, seed()])).groups())
+    assert calls == 2000000 and alarms > 1000 and nevers > 1000
+
+
+@pytest.mark.where("CBMC 6")
+@pytest.mark.parametrize("case", [*proofs.CLOCK, *proofs.CLOCK_REFUTED], ids=str)
+def test_proof(case, driver):
+    assert driver.is_proved(cbmc.installed(), case.entry, case.monitor, *case.options) == case.holds

@@ -14,7 +14,6 @@
 #include <stdlib.h>
 int strcmp(const char *a, const char *b);
 
-#define NEVER UINT64_MAX
 enum { BASE = 0x9010000, IRQ = 34 };
 
 /* Marsaglia's xorshift. */
@@ -26,23 +25,6 @@ static unsigned choose(unsigned bound) {
     return (unsigned)(x >> 24) % bound;
 }
 
-/* What the monitor does wrong. */
-enum fault {
-    PASSES_CONTROL, /* passes writes at RTCCR on */
-    NO_LINE,        /* sets no line */
-    NO_TIMER,       /* sets no timer */
-    NO_READ,        /* reads no RTCMIS when the timer goes off */
-    NOT_AT_ONCE,    /* sets a timer to 0, which stops it */
-    NOT_RESTORED,   /* sets neither after a restore */
-    LATE,           /* sets a timer that is up to a second late */
-    STOPS,          /* stops the guest for up to ten seconds in the middle of a call, and not for one */
-    EXPECTS_RESET,  /* and the guest expects that a write of RTCCR takes the clock back to the host's time */
-    FAULTS
-};
-static const char *const NAMES[] = {"PASSES_CONTROL", "NO_LINE", "NO_TIMER", "NO_READ", "NOT_AT_ONCE", "NOT_RESTORED",
-                                    "LATE", "STOPS", "EXPECTS_RESET"};
-static bool has[FAULTS];
-
 static const char *wrong; /* what was wrong first in this exchange */
 static void check(bool is_good, const char *what) {
     if (!is_good && !wrong)
@@ -53,25 +35,9 @@ void KASSERT(bool is_good) {
         abort();
 }
 
-/* ---- what a guest may expect of its clock */
-
-static uint64_t now; /* the host's time, in seconds */
-static uint32_t set; /* the time that was set, or that the clock had at first */
-static uint64_t set_at;
-
-/* The registers, and the moment at which guest time reaches the match. An access finds that it has. */
-static struct {
-    int64_t ahead;
-    uint32_t match;
-    bool is_armed, is_raised, is_enabled;
-    uint64_t reached;
-} guest;
-
-/* The host's time as 32 bits, plus how far the guest is ahead; and the host's time alone if that has no 32 bits. */
-static uint32_t guest_time(uint64_t moment) {
-    int64_t sum = (uint32_t)moment + guest.ahead;
-    return sum >= 0 && sum <= U32_MAX ? sum : (uint32_t)moment;
-}
+#include "clock_monitor.c"
+static const char *const NAMES[] = {"PASSES_CONTROL", "NO_LINE", "NO_TIMER", "NO_READ", "NOT_AT_ONCE", "NOT_RESTORED",
+                                    "LATE", "STOPS", "EXPECTS_RESET"};
 
 /* Whether guest time counts from now on for so many seconds. */
 static bool counts(uint64_t seconds) {
@@ -82,73 +48,6 @@ static bool counts(uint64_t seconds) {
 static void find_reached(void) {
     uint32_t rest = guest.match - guest_time(now);
     guest.reached = guest.match < guest_time(now) ? now : counts(rest) ? now + rest : NEVER;
-}
-
-static void expect_access(void) {
-    if (guest.is_armed && guest_time(now) >= guest.match) {
-        guest.is_armed = false;
-        guest.is_raised = true;
-    }
-}
-
-static void expect_write(unsigned offset, uint32_t value) {
-    expect_access();
-    switch (offset) {
-    case RTC_MR:
-        guest.match = value;
-        guest.is_armed = value > guest_time(now);
-        guest.is_raised |= value == guest_time(now);
-        break;
-    case RTC_LR: guest.ahead = (int64_t)value - (uint32_t)now; break;
-    case RTC_CR: /* a PL031 runs on; here a write of 1 takes the clock back to the host's time */
-        if (has[EXPECTS_RESET]) {
-            guest.ahead = 0;
-            set = now;
-            set_at = now;
-        }
-        break;
-    case RTC_IMSC: guest.is_enabled = value & 1; break;
-    case RTC_ICR: guest.is_raised &= !(value & 1); break;
-    default: check(false, "a write of another register");
-    }
-    find_reached();
-}
-
-static void expect_read(unsigned offset, uint32_t value) {
-    switch (offset) {
-    case RTC_DR: check(value == guest_time(now), "RTCDR shows another time"); break;
-    case RTC_MR: check(value == guest.match, "RTCMR"); break;
-    case RTC_CR: check(value == 1, "RTCCR"); break;
-    case RTC_IMSC: check(value == guest.is_enabled, "RTCIMSC"); break;
-    case RTC_RIS: check(value == guest.is_raised, "RTCRIS"); break;
-    case RTC_MIS: check(value == (guest.is_raised && guest.is_enabled), "RTCMIS"); break;
-    default: check(offset >= 0xFE0, "a read of another register");
-    }
-}
-
-/* ---- the monitor, by docs/USING.md, 'A clock with an interrupt line' */
-
-static superio_rtc device;
-static bool line;
-static uint64_t timer; /* when it goes off */
-
-static void read_status(void);
-
-/* After each access, and after a restore. */
-static void follow(void) {
-    uint64_t due = superio_rtc_alarm_due(&device, now);
-    line = superio_rtc_interrupt_line(&device) && !has[NO_LINE];
-    timer = due == SUPERIO_RTC_NEVER || due == 0 || has[NO_TIMER] ? NEVER : now + due + choose(1 + has[LATE]);
-    if (due == 0 && !has[NO_TIMER] && !has[NO_READ] && !has[NOT_AT_ONCE])
-        read_status();
-}
-
-static void read_status(void) {
-    if (!has[NO_READ]) {
-        superio_rtc_read(&device, RTC_MIS, now);
-        expect_access();
-    }
-    follow();
 }
 
 static void pass(uint64_t seconds) {
@@ -228,6 +127,7 @@ void writel(u32 value, volatile void *address) {
     if (offset != RTC_CR || has[PASSES_CONTROL])
         check(!superio_rtc_write(&device, offset, value, now).invalid_write, "an invalid write");
     expect_write(offset, value);
+    find_reached();
     accessed = now;
     follow();
     check_line();
