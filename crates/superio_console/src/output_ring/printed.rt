@@ -5,6 +5,10 @@ use std::fmt;
 
 impl fmt::Debug for OutputRing {
     fn fmt<W: fmt::Write>(&self, f: &mut fmt::Formatter<W>) -> fmt::Result {
-        write!(f, "OutputRing {{ head: {}, len: {}, .. }}", self.head, self.len)
+        write!(
+            f,
+            "OutputRing {{ head: {}, len: {}, .. }}",
+            self.head, self.len
+        )
     }
 }
