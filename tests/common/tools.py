@@ -60,7 +60,7 @@ def of_guests(line):
     return f"import sys; sys.path[:0] = ['{HERE}', '{HERE.parent}/guests']; {line}"
 
 
-# What no package of Debian 12 has: tests of it run where that is there.
+# What no package of Debian 12 has: tests of it run where that is there. Those of tests/guests fetch it.
 PLACES = {"KVM": "import fcntl, os; fcntl.ioctl(fcntl.ioctl(os.open('/dev/kvm', os.O_RDWR), 0xAE01), 0xAE60)",
           "Deno": "deno",
           **{f"version of {called} with sums in tests/guests": of_guests(f"import sources; assert sources.is_recorded('{name}')")
@@ -68,7 +68,7 @@ PLACES = {"KVM": "import fcntl, os; fcntl.ioctl(fcntl.ioctl(os.open('/dev/kvm', 
                                   ("Xen's source", "xen")]},
           "source of each driver that polls with sums in tests/guests":
           of_guests("import polling_drivers; assert polling_drivers.are_recorded()"),
-          "CBMC 6": of_guests("import cbmc; assert cbmc.installed()"),
+          "CBMC 6": of_guests("import cbmc; assert cbmc.fetched()"),
           "Linux on x86-64": "/lib64/ld-linux-x86-64.so.2",
           "folder VM_SUPERIO of vm-superio 0.8.2": "$VM_SUPERIO",
           "variable RECHECK_PLANTS": "$RECHECK_PLANTS",

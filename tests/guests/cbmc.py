@@ -4,7 +4,7 @@ out/guests/cbmc."""
 import shutil
 import subprocess
 
-from debian import download
+from debian import download, make_whole
 from sources import KEPT
 
 RELEASE, PACKAGES = "trixie", ["cbmc", "libc6", "libstdc++6", "libgcc-s1", "minisat", "zlib1g"]
@@ -24,9 +24,10 @@ def installed():
 
 def fetched():
     """The same; it is fetched if it is not there."""
-    return installed() or unpack() or installed()
+    if not installed():
+        make_whole(FOLDER, lambda folder: download(folder, RELEASE, PACKAGES))
+    return installed()
 
 
-def unpack():
-    """Gets Debian 13's packages."""
-    download(FOLDER, RELEASE, PACKAGES)
+def version(command):
+    return subprocess.run([*command, "--version"], stdout=subprocess.PIPE, text=True, check=True).stdout.split()[0]

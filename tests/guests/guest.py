@@ -1,6 +1,6 @@
 # SPDX-License-Identifier: Apache-2.0 OR BSD-3-Clause
-"""A monitor, for whatever driver: the code of docs/PORT.md, also with a rule of it broken, or a console. And what runs, and
-proves, a driver's harness with it."""
+"""A monitor, for whatever driver: the code of docs/PORT.md, also with a rule of it broken, or a console. And what runs,
+and proves, a driver's harness with it."""
 import re
 from pathlib import Path
 from typing import NamedTuple
@@ -16,7 +16,8 @@ INTERRUPT = re.compile(r"^static void interrupt\(.*?^}\n", re.M | re.S)
 # Rules that a monitor may break: the text of the page, and what stands there instead. The poll's limit while bytes are
 # held is one of them for a line that takes levels. For edges it is not, so no other rule may rest on it.
 FAULTS = {
-    "NO_LIMIT": [("times > 0 || has_waiting_input()", "times > 0"), ("if (has_waiting_input())\n        make_turn_in(5);", "")],
+    "NO_LIMIT": [("times > 0 || has_waiting_input()", "times > 0"),
+                 ("if (has_waiting_input())\n        make_turn_in(5);", "")],
     "NO_TIMEOUT": [(f"interrupt({TIMEOUT});\n    else", "interrupt(0);\n    else"), (f"retry({TIMEOUT})", "retry(0)")],
     "ONLY_IN_TURNS": [(f"interrupt({TIMEOUT});\n    else", "interrupt(0);\n    else")],
     "NO_RETRY": [("is_refused = is_refused || times > 0;", ""), ("if (times > 0)\n        make_turn_in(5);", "")],
@@ -76,25 +77,28 @@ class Driver(NamedTuple):
 
     def all_words(self, monitor):
         (self.folder / "port.c").write_text(monitor.text(), encoding="utf-8")
-        return [f"-I{self.folder}", f"-I{self.folder}/include", f"-I{self.harness}", f"-I{ROOT}/bindings/c", *self.words,
-                *monitor.options]
+        return [f"-I{self.folder}", f"-I{self.folder}/include", f"-I{self.harness}", f"-I{ROOT}/bindings/c",
+                *self.words, *monitor.options]
 
     def compiled(self, program, library, monitor, *options):
         """A program of the harness over the C library. Its text is mostly the driver's, so no warning of it counts."""
         built = self.folder / Path(program).stem
-        check(["gcc", "-std=gnu11", "-w", "-O1", *self.all_words(monitor), *options, self.harness / program, library, "-o", built])
+        check(["gcc", "-std=gnu11", "-w", "-O1", *self.all_words(monitor), *options, self.harness / program, library,
+               "-o", built])
         return built
 
-    def is_proved(self, cbmc, entry, monitor, *options):
-        """Whether CBMC proves an entry of prove.c; it refutes all others."""
-        return verdict([*cbmc, *self.all_words(monitor), *options, "-DABSTRACT_BYTES", self.harness / "prove.c",
-                        HERE / "monitor" / "device.c", "--function", entry, *self.proof])[0]
+    def verify(self, cbmc, entry, monitor, *options):
+        """What CBMC says of an entry of prove.c."""
+        return assertions([*cbmc, *self.all_words(monitor), *options, "-DABSTRACT_BYTES", self.harness / "prove.c",
+                           HERE / "monitor" / "device.c", "--function", entry, *self.proof])
 
 
-def verdict(command):
-    """Whether CBMC, with these words, proves all that is asserted, and what it prints."""
+def assertions(command):
+    """What CBMC says, told these words: each assertion's text, and whether it holds."""
     said = run([*command, "--drop-unused-functions", "--slice-formula", "--object-bits", "12", "--no-standard-checks",
                 "--unwinding-assertions"], timeout=1800)
-    found = re.findall(r"^VERIFICATION (\w+)$", said.stdout, re.M)
-    assert found in (["SUCCESSFUL"], ["FAILED"]), said.stdout
-    return found == ["SUCCESSFUL"], said.stdout
+    found = re.findall(r"^\[\S+\] line \d+ (.*): (SUCCESS|FAILURE)$", said.stdout, re.M)
+    failed = ["FAILURE" for _, result in found if result == "FAILURE"]
+    assert f"VERIFICATION {'FAILED' if failed else 'SUCCESSFUL'}\n" in said.stdout and found, said.stdout
+    assert re.search(rf"^\*\* {len(failed)} of {len(found)} failed", said.stdout, re.M), said.stdout
+    return [(text, result == "SUCCESS") for text, result in found]

@@ -11,7 +11,7 @@ import subprocess
 from pathlib import Path
 from typing import NamedTuple
 
-from debian import download, download_source
+from debian import download, download_source, make_whole
 from harness import ROOT
 
 HERE = Path(__file__).resolve().parent
@@ -21,6 +21,7 @@ PACKAGES = ROOT / "out" / "packages"  # where tools/install-packages unpacks pac
 
 class Source(NamedTuple):
     """A package of a release of Debian whose files have an archive of a driver's source."""
+    called: str
     package: str
     release: str
     is_source: bool = False  # a source package, and otherwise one that has an archive of Linux
@@ -30,34 +31,41 @@ class Source(NamedTuple):
         return KEPT / "packages" / f"{self.package}-{self.release}"
 
 
-SOURCES = {"linux": Source("linux-source-6.1", "bookworm"), "linux-5.10": Source("linux-source-5.10", "bullseye"),
-           "linux-6.12": Source("linux-source-6.12", "trixie"), "xen": Source("xen", "bookworm", True),
-           "uboot": Source("u-boot", "bookworm", True), "seabios": Source("seabios", "bookworm", True),
-           "grub": Source("grub2", "bookworm", True), "edk2": Source("edk2", "bookworm", True)}
+SOURCES = {"linux": Source("Linux", "linux-source-6.1", "bookworm"),
+           "linux-5.10": Source("Linux", "linux-source-5.10", "bullseye"),
+           "linux-6.12": Source("Linux", "linux-source-6.12", "trixie"),
+           "xen": Source("Xen", "xen", "bookworm", True), "uboot": Source("U-Boot", "u-boot", "bookworm", True),
+           "seabios": Source("SeaBIOS", "seabios", "bookworm", True), "grub": Source("GRUB", "grub2", "bookworm", True),
+           "edk2": Source("EDK II", "edk2", "bookworm", True)}
 
 
-def found(name, pattern):
-    """A file of the package of a source."""
+def files(name):
+    """The archive of a source, and the file that says its version, or none of both. A machine may be told to install no
+    file of usr/share/doc."""
     source = SOURCES[name]
-    return next((path for folder in (Path("/"), PACKAGES, source.folder) for path in folder.glob(pattern)), None)
-
-
-def archive(name):
-    """The archive of a source, or none."""
-    source = SOURCES[name]
-    return found(name, f"{source.package}_*.orig.tar.?z" if source.is_source else f"usr/src/{source.package}.tar.xz")
+    archives, versions = [f"{source.package}_*.orig.tar.?z"] * 2 if source.is_source else [
+        f"usr/src/{source.package}.tar.xz", f"usr/share/doc/{source.package}/changelog*.gz"]
+    for folder in (Path("/"), PACKAGES, source.folder):
+        found = next(folder.glob(archives), None), next(folder.glob(versions), None)
+        if all(found):
+            return found
+    return None, None
 
 
 def version(name):
     """The version of a source that this machine has, or none."""
-    source = SOURCES[name]
-    if source.is_source:
-        return re.search(r"_(.*)\.orig\.tar", archive(name).name)[1] if archive(name) else None
-    changes = found(name, f"usr/share/doc/{source.package}/changelog*.gz")
-    if not changes:
+    _, file = files(name)
+    if not file:
         return None
-    with gzip.open(changes, "rt", encoding="utf-8") as lines:
+    if SOURCES[name].is_source:
+        return re.search(r"_(.*)\.orig\.tar", file.name)[1]
+    with gzip.open(file, "rt", encoding="utf-8") as lines:
         return re.match(r"\S+ \(([\d.]+)", lines.readline())[1]
+
+
+def told(name):
+    """Such as Linux 6.1.176."""
+    return f"{SOURCES[name].called} {version(name)}"
 
 
 def sums(name):
@@ -65,29 +73,32 @@ def sums(name):
     return HERE / f"{name.split('-')[0]}-{version(name)}.sha256"
 
 
-def is_recorded(name):
-    return sums(name).exists()
-
-
 def fetch(name):
-    """Gets the package of a source, if this machine has none. Debian 12's Linux is one of tools/install-packages."""
+    """Gets the package of a source, if this machine has none."""
     source = SOURCES[name]
-    if not archive(name):
-        if source.is_source:
-            download_source(source.folder, source.release, source.package)
-        else:
-            download(source.folder, source.release, [source.package])
+    if files(name)[0]:
+        return
+    if source.is_source:
+        make_whole(source.folder, lambda folder: download_source(folder, source.release, source.package))
+    else:
+        make_whole(source.folder, lambda folder: download(folder, source.release, [source.package]))
+
+
+def is_recorded(name):
+    """Whether a source is of a version that was read. It is fetched if it is not there."""
+    fetch(name)
+    return sums(name).exists()
 
 
 def sources(name):
     """The folder with the files of a source. They are unpacked once, which takes a quarter of a minute."""
-    lines = sums(name).read_text(encoding="ascii").splitlines()
-    wanted = {path: number for number, path in (line.split("  ") for line in lines)}
-    folder = KEPT / sums(name).stem
-    if not all((folder / path).exists() for path in wanted):
-        folder.mkdir(parents=True, exist_ok=True)
-        subprocess.run(["tar", "--extract", f"--file={archive(name)}", f"--directory={folder}", "--strip-components=1",
-                        "--wildcards", "--no-wildcards-match-slash", *(f"*/{path}" for path in wanted)], check=True)
+    text = sums(name).read_text(encoding="ascii")
+    wanted = {path: number for number, path in (line.split("  ") for line in text.splitlines())}
+    # Another list has another folder.
+    folder = KEPT / f"{sums(name).stem}-{hashlib.sha256(text.encode()).hexdigest()[:8]}"
+    make_whole(folder, lambda folder: subprocess.run(
+        ["tar", "--extract", f"--file={files(name)[0]}", f"--directory={folder}", "--strip-components=1", "--wildcards",
+         "--no-wildcards-match-slash", *(f"*/{path}" for path in wanted)], check=True))
     other = [path for path, number in wanted.items()
              if hashlib.sha256((folder / path).read_bytes()).hexdigest() != number]
     if other:

@@ -77,6 +77,6 @@ def test_the_clock_of_the_proof(tmp_path):
 
 
 @pytest.mark.where("CBMC 6")
-@pytest.mark.parametrize("case", [*proofs.CLOCK, *proofs.CLOCK_REFUTED], ids=str)
+@pytest.mark.parametrize("case", [case for _, cases in proofs.OF_GATE_OF_CLOCK for case in cases], ids=str)
 def test_proof(case, driver):
-    assert driver.is_proved(cbmc.installed(), case.entry, case.monitor, *case.options) == case.holds
+    assert case.is_met(driver, cbmc.installed())

@@ -25,12 +25,8 @@ void KASSERT(bool is_good) { __CPROVER_assert(is_good, "BUG_ON"); }
 
 #include "clock_monitor.c"
 
-/* With REACH defined, each of these must fail: its place is reached, so what is assumed is possible. */
-#ifdef REACH
+/* Each of these has to fail. This shows that its place is reached, so that what is assumed is possible. */
 #define REACHED(condition) __CPROVER_assert(!(condition), "reached: " #condition)
-#else
-#define REACHED(condition)
-#endif
 
 enum { IRQ = 34 };
 static char window[SUPERIO_RTC_WINDOW];
@@ -255,6 +251,8 @@ void relation(void) {
     else
         second();
     n = look();
+    REACHED(is_in_handler && guest.is_raised && line);
+    REACHED(!is_in_handler && told > 0);
     check(others_may(&first, &n), "others may do it");
     check(invariant(), "others keep the invariant");
 }
@@ -273,6 +271,7 @@ void relation_twice(void) {
     __CPROVER_assume(invariant());
     o = look();
     __CPROVER_assume(others_may(&n, &o));
+    REACHED(guest.is_raised && line);
     check(others_may(&m, &o), "others may do both");
 }
 
@@ -325,6 +324,7 @@ void read_time(void) {
     struct rtc_time tm;
     any_state();
     check(local.vendor->ops.read_time(&of_driver, &tm) == 0, "reading the time");
+    REACHED(guest.is_raised && line);
     check(rtc_tm_to_time64(&tm) == guest_time(accessed), "the time that is read");
     check_time(rtc_tm_to_time64(&tm));
     check(invariant(), "reading the time: the invariant");
@@ -345,6 +345,7 @@ void read_alarm(void) {
     struct rtc_wkalrm found;
     any_state();
     check(local.vendor->ops.read_alarm(&of_driver, &found) == 0, "reading the alarm");
+    REACHED(guest.is_armed && guest.is_enabled);
     check(rtc_tm_to_time64(&found.time) == guest.match && found.enabled == guest.is_enabled, "the alarm that is read");
     check(invariant(), "reading the alarm: the invariant");
 }
@@ -415,6 +416,7 @@ void starts(void) {
     is_in_handler = true; /* no kernel has a handler yet */
     check(pl031_probe(&bus_device, &(struct amba_id){.data = &arm_pl031}) == 0, "a start");
     struct view last = look();
+    REACHED(guest.is_armed && guest.is_enabled);
     if (has[EXPECTS_RESET])
         check(guest.ahead == 0, "a start takes the clock back to the host's time");
     else
@@ -441,6 +443,7 @@ void comes(void) {
         read_status();
     }
     now = end;
+    REACHED(line);
     check(line == ((uint32_t)end >= time), "the line is up once the alarm's time is reached, and not before");
     if (line) {
         run_handler();

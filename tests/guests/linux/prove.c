@@ -1,8 +1,8 @@
 /* SPDX-License-Identifier: Apache-2.0 OR BSD-3-Clause */
 /*
- * Proves, with CBMC, that no state is reachable in which a byte waits for ever: an invariant holds when the port is opened
- * (open), and each step of the guest and of the host keeps it (the other entries), whatever others do before each access.
- * So it holds after any number of steps. ../README.md has the argument.
+ * Proves, with CBMC, that no state is reachable in which a byte waits for ever: an invariant holds when the port is
+ * opened (open), and each step of the guest and of the host keeps it (the other entries), whatever others do before each
+ * access. So it holds after any number of steps. ../README.md has the argument.
  */
 
 /* The loop that receives bytes in a pass of the handler, or what `received` and `looked` prove of it. */
@@ -35,12 +35,11 @@ int tty_insert_flip_char(struct tty_port *p, unsigned char ch, char flag) {
 void *kmalloc(unsigned long size, int flags) { return NULL; }
 void *memcpy(void *to, const void *from, size_t size) { return to; } /* what bytes are is left out */
 
-/* ---- the handler, on a processor of its own: it is idle; it has begun; it is about to read IIR again; or it has read IIR,
- * something is pending, and it waits for the port's lock */
+/* ---- the handler, on a processor of its own: it is idle; it has begun; it is about to read IIR again; or it has read
+ * IIR, something is pending, and it waits for the port's lock */
 
 static enum { IDLE, BEGUN, RUNS, SERVES } handler;
 static bool is_in_handler; /* the code that is run is the handler's own, so only the host does steps */
-static bool is_alone;      /* nobody does steps */
 
 /* A step of the handler outside of the lock: it begins, or reads IIR. */
 static void handler_step(void) {
@@ -72,16 +71,10 @@ static bool others_may(const struct view *m, unsigned h, const struct view *n, u
     return !lost && !(got & 2) && (k != IDLE || !((h != IDLE || is_rda_raised(m)) && !is_rda_raised(n)));
 }
 
-static bool is_bounded;
+static unsigned accesses;
 
 void between(void) {
-    if (is_alone)
-        return;
-    if (is_bounded) {
-        if (nondet_bool())
-            turn(choose(3));
-        return;
-    }
+    accesses++;
     unsigned was = handler;
     look(&before, &mon);
     __CPROVER_assert(is_sane(&before), "sane before each access");
@@ -100,7 +93,8 @@ static bool invariant(void) {
     bool base = is_sane(&m) && !(mon.port.line_control & 0x80) && mon.is_ready && up.ier < 16
         && (mon.port.interrupt_enable == up.ier || mon.port.interrupt_enable == (up.ier | UART_IER_THRI)) /* the timer's */
         && is_set(up.ier, UART_IER_RDI) && state.xmit.head >= 0 && state.xmit.head < 4096 && state.xmit.tail >= 0
-        && state.xmit.tail < 4096 && !up.port.lock.is_taken && flow <= STARTING && (flow == SETTLED || tty.is_stopped == (flow == STOPPING))
+        && state.xmit.tail < 4096 && !up.port.lock.is_taken && flow <= STARTING
+        && (flow == SETTLED || tty.is_stopped == (flow == STOPPING))
         && handler <= SERVES && (up.port.ignore_status_mask & ~0x1fu) == 0;
     /* What is to send has THRE enabled; THRE is pending if it is, unless the handler is about to serve the port. */
     bool sends = !has_to_send() || is_set(up.ier, UART_IER_THRI);
@@ -173,7 +167,8 @@ static bool sends_then;
 static int tail_then;
 
 void lock_of(spinlock_t *lock) {
-    if (is_in_handler && lock == &up.port.lock && handler != IDLE) { /* while the handler waits for the lock, others make any steps */
+    /* While the handler waits for the lock, others make any steps. */
+    if (is_in_handler && lock == &up.port.lock && handler != IDLE) {
         handler = SERVES;
         any_changing_state();
         __CPROVER_assume(invariant());
@@ -210,7 +205,8 @@ static void any_serving(void) {
 }
 
 /* The loop of serial8250_rx_chars receives a byte, and then looks at LSR, in turn. Each of the two keeps what `serves`
- * says, so any number of them does. In place of the loop, `pass` has any state of this kind, after at least one byte. */
+ * says, so any number of them does. In place of the loop, `pass` has any state of this kind, after at least one byte.
+ */
 void receives(void) {
     any_serving();
     unsigned status = choose(0x10000);
@@ -218,6 +214,8 @@ void receives(void) {
     bool holds_some = mon.port.len > 0;
     has_read = false;
     serial8250_read_char(&up, status);
+    REACHED(has_read && mon.port.len > 0);
+    REACHED(has_read && mon.port.len == 0);
     __CPROVER_assert(serves(), "a byte is received: the invariant");
     __CPROVER_assert(!(status & UART_LSR_DR) || has_read, "a byte is received: it is read out");
 }
@@ -225,6 +223,8 @@ void receives(void) {
 void looks(void) {
     any_serving();
     unsigned status = serial_in(&up, UART_LSR);
+    REACHED(status & UART_LSR_DR);
+    REACHED(!(status & UART_LSR_DR));
     __CPROVER_assert(serves(), "LSR is looked at: the invariant");
     __CPROVER_assert((status & 0xfe) == 0x60, "LSR is looked at: the transmitter is empty");
 }
@@ -236,13 +236,6 @@ unsigned short receives_some(struct uart_8250_port *port, unsigned short status)
     has_read = true;
     return 0x60 | choose(2);
 }
-#endif
-
-/* With REACH defined, each of these must fail: it shows that its place is reached, so that what is assumed is possible. */
-#ifdef REACH
-#define REACHED(condition) __CPROVER_assert(!(condition), "reached: " #condition)
-#else
-#define REACHED(condition)
 #endif
 
 /* The relation has no step, each step of the host, and each of the handler, and if it has two in turn, it has both. */
@@ -259,7 +252,8 @@ static struct monitor any_sane(void) {
 static bool has_same_rest(const struct monitor *m, const struct monitor *n) {
     return m->port.interrupt_enable == n->port.interrupt_enable && m->port.line_control == n->port.line_control
         && m->port.modem_control == n->port.modem_control && m->port.modem_status == n->port.modem_status
-        && m->port.baud_divisor_low == n->port.baud_divisor_low && m->port.baud_divisor_high == n->port.baud_divisor_high
+        && m->port.baud_divisor_low == n->port.baud_divisor_low
+        && m->port.baud_divisor_high == n->port.baud_divisor_high
         && m->port.scratch == n->port.scratch && m->is_ready == n->is_ready && m->line == n->line
         && m->can_refuse == n->can_refuse;
 }
@@ -281,7 +275,9 @@ void relation(void) {
     if (!is_in_handler) {
         handler_step();
         __CPROVER_assert(others_made(&first, was, &mon, handler), "relation: handler");
+        REACHED(was == RUNS && handler == SERVES && mon.port.len == 64);
     }
+    REACHED(is_in_handler && handler == SERVES && mon.port.len == 64);
 }
 
 void relation_twice(void) {
@@ -293,17 +289,20 @@ void relation_twice(void) {
     any_changed_by_others(&o);
     __CPROVER_assume(others_made(&m, h, &n, k));
     __CPROVER_assume(others_made(&n, k, &o, l));
+    REACHED(h == IDLE && k == BEGUN && l == SERVES);
+    REACHED(is_in_handler && h == SERVES && m.port.len < n.port.len && n.port.len < o.port.len);
     __CPROVER_assert(others_made(&m, h, &o, l), "relation: twice");
 }
 
 /* Each step of the rest of the guest keeps the invariant. */
-#define ACT(name, kind, count)                                                                                          \
-    void name(void) {                                                                                                   \
-        any_state();                                                                                                    \
-        act(kind, written, count);                                                                                      \
-        REACHED(handler == IDLE && mon.line == LEVEL);                                                                  \
-        REACHED(handler == SERVES && mon.line == SINGLE && mon.port.len == 64);                                         \
-        __CPROVER_assert(invariant(), #name ": invariant");                                                             \
+#define ACT(name, kind, count)                                                                                        \
+    void name(void) {                                                                                                 \
+        any_state();                                                                                                  \
+        unsigned flow_then = flow;                                                                                    \
+        act(kind, written, count);                                                                                    \
+        REACHED(handler == IDLE && (accesses > 0 || flow != flow_then));                                              \
+        REACHED(handler == SERVES && mon.port.len == 64 && (accesses > 0 || flow != flow_then));                      \
+        __CPROVER_assert(invariant(), #name ": invariant");                                                           \
     }
 ACT(act_write, 0, choose(5000))
 ACT(act_stopped, 1, 0)
@@ -320,13 +319,19 @@ ACT(act_timer, 9, 0)
 void host(void) {
     any_state();
     host_step();
+    REACHED(handler == IDLE && mon.port.len == 64 && mon.waiting > 0);
+    REACHED(handler == SERVES && (mon.is_refused || mon.line == LEVEL));
     __CPROVER_assert(invariant(), "turn: invariant");
 }
 
 /* The handler's begin, and its read of IIR. */
 void begins(void) {
     any_state();
+    unsigned was = handler;
     handler_step();
+    REACHED(was == IDLE && handler == BEGUN);
+    REACHED(was == RUNS && handler == SERVES);
+    REACHED(was == RUNS && handler == IDLE && mon.port.len == 64);
     __CPROVER_assert(invariant(), "handler's step: invariant");
 }
 
@@ -338,20 +343,21 @@ void pass(void) {
     int result = up.port.handle_irq(&up.port); /* serial8250_default_handle_irq */
     handler = result ? RUNS : IDLE;
     REACHED(handler == IDLE && mon.port.len == 64);
-    REACHED(handler == RUNS && held_then == 64 && sends_then && mon.port.len > 0 && mon.line == LEVEL);
-    REACHED(handler == RUNS && !held_then && mon.port.len == 0 && mon.is_refused);
+    REACHED(handler == RUNS && held_then == 64 && sends_then && mon.port.len > 0);
+    REACHED(handler == RUNS && !held_then && mon.port.len == 0 && (mon.is_refused || mon.line == LEVEL));
     __CPROVER_assert(invariant(), "pass: invariant");
     __CPROVER_assert(!result || !held_then || has_read, "pass: a byte is read out, if one is held");
     __CPROVER_assert(!result || !sends_then || has_written, "pass: a byte is sent, if one is to send");
 #ifdef COUNTS /* counts make long runs slow */
     __CPROVER_assert(rbr_reads - reads_then <= 256 && thr_writes - writes_then <= up.tx_loadsz, "pass: it is bounded");
-    __CPROVER_assert(up.port.ignore_status_mask & UART_LSR_DR || received == rbr_reads, "pass: each byte goes to the tty layer");
+    __CPROVER_assert(up.port.ignore_status_mask & UART_LSR_DR || received == rbr_reads,
+                     "pass: each byte goes to the tty layer");
 #endif
 }
 
-/* The whole interrupt: serial8250_interrupt makes passes. What `pass` proves of one stands for each. It may give up after
- * any pass, so after 514 too; more than three show nothing new, since each begins with any state of the invariant. If it
- * gives up, bytes may be held that no interrupt is pending for, so without LIMIT this fails. */
+/* The whole interrupt: serial8250_interrupt makes passes. What `pass` proves of one stands for each. It may give up
+ * after any pass, so after 514 too; more than three show nothing new, since each begins with any state of the invariant.
+ * If it gives up, bytes may be held that no interrupt is pending for, so without LIMIT this fails. */
 static unsigned passes;
 _Bool is_last_pass(void) { return passes >= 3 || nondet_bool(); }
 
@@ -369,7 +375,8 @@ void whole_interrupt(void) {
     __CPROVER_assume(handler == BEGUN);
     up.port.handle_irq = a_pass;
     serial8250_interrupt(4, &info);
-    REACHED(handler == RUNS && mon.port.len > 0 && !mon.was_up);
+    REACHED(handler == RUNS && mon.port.len > 0 && !mon.was_up); /* it gives up */
+    REACHED(handler == IDLE && passes == 2);
     handler = IDLE; /* also if it has given up */
     __CPROVER_assert(invariant(), "interrupt: invariant");
 }
@@ -398,47 +405,12 @@ void open(void) {
 #endif
     open_port();
     is_in_handler = false;
+    REACHED(handler == IDLE && mon.port.len == 64);
     __CPROVER_assert(invariant(), "open: invariant");
 #ifdef ALONE
     __CPROVER_assert(up.bugs == 0, "open: no bug is found");
 #else
+    REACHED(handler == SERVES && mon.is_polled);
     __CPROVER_assert(!(up.bugs & ~(UART_BUG_TXEN | UART_BUG_THRE)), "open: no other bugs are found");
 #endif
-}
-
-/* Any first steps after the port is opened, each made at once: bounded, and to show what goes wrong. */
-#ifndef LINES
-#define LINES 3 /* and 2, for edges alone */
-#endif
-#ifndef STEPS
-#define STEPS 6
-#endif
-void bounded(void) {
-    mon.port = superio_serial_new();
-    mon.line = choose(LINES);
-    mon.can_refuse = nondet_bool();
-    fix_guest();
-    state.xmit.head = state.xmit.tail = 0;
-    tty.termios.c_cflag = CS8 | CREAD | CLOCAL;
-    is_alone = is_bounded = true;
-    open_port();
-    mon.edges = 0;
-    interrupt(0);
-    for (unsigned i = 0; i < STEPS; i++) {
-        unsigned kind = choose(5);
-        is_alone = true;
-        if (kind == 0)
-            turn(choose(5));
-        else if (kind == 1)
-            act(0, written, 1 + choose(2));
-        else if (kind == 2)
-            act(6, written, 1);
-        else if (is_asked()) {
-            if (mon.line != LEVEL)
-                mon.edges--;
-            is_alone = false; /* the host makes turns */
-            serial8250_interrupt(4, &info);
-        }
-        __CPROVER_assert(!is_quiet() || is_all_done(), "bounded: nothing waits");
-    }
 }

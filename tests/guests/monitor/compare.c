@@ -1,5 +1,5 @@
 /* SPDX-License-Identifier: Apache-2.0 OR BSD-3-Clause */
-/* Compares device.c with the library by random calls, from new ports and from any bytes. compare CALLS */
+/* Compares device.c with the library by random calls, from new ports and from any bytes. compare CALLS SEED */
 #include <stdio.h>
 #include <stdlib.h>
 #include <string.h>
@@ -29,6 +29,7 @@ static unsigned draw(unsigned bound) { x ^= x << 13; x ^= x >> 7; x ^= x << 17; 
 
 int main(int count, char **arguments) {
     long calls = count > 1 ? atol(arguments[1]) : 10000000;
+    x ^= (count > 2 ? strtoull(arguments[2], 0, 0) : 0) * 0x9e3779b97f4a7c15ull;
     superio_serial a = superio_serial_new(), b = model_new();
     unsigned long fulls = 0;
     for (long i = 0; i < calls; i++) {

@@ -5,6 +5,9 @@ unsigned nondet_unsigned(void);
 _Bool nondet_bool(void);
 struct monitor nondet_monitor(void);
 
+/* Each of these has to fail. This shows that its place is reached, so that what is assumed is possible. */
+#define REACHED(condition) __CPROVER_assert(!(condition), "reached: " #condition)
+
 unsigned choose(unsigned bound) {
     unsigned number = nondet_unsigned();
     __CPROVER_assume(number < bound);
@@ -23,7 +26,7 @@ enum { FIRST_LINE = SINGLE, LAST_LINE = MERGED };
 
 static bool is_asked(void) { return mon.line == LEVEL ? mon.was_up : mon.edges > 0; }
 
-static void host_step(void) { turn(choose(100)); }
+static void host_step(void) { turn(choose(MANY)); }
 
 static bool is_set(unsigned byte, unsigned bits) { return (byte & bits) == bits; }
 

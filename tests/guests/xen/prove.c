@@ -1,8 +1,8 @@
 /* SPDX-License-Identifier: Apache-2.0 OR BSD-3-Clause */
 /*
- * Proves, with CBMC, that no state is reachable in which a byte waits for ever: an invariant holds once the port is opened,
- * and each access of any processor keeps it. Before an access others may have led to any state of the invariant, but for
- * what a lock keeps from them. ../README.md has the argument.
+ * Proves, with CBMC, that no state is reachable in which a byte waits for ever: an invariant holds once the port is
+ * opened, and each access of any processor keeps it. Before an access others may have led to any state of the invariant,
+ * except for what a lock keeps from them. ../README.md has the argument.
  */
 #include <stdint.h>
 static void note(unsigned offset, uint8_t byte);
@@ -58,7 +58,8 @@ static void check_steps(void) {
 /* While the port is opened, or the machine wakes: any turns of the event loop. */
 static bool host_may(const struct view *m, const struct view *n) {
     unsigned lost = m->pending & ~n->pending, got = n->pending & ~m->pending;
-    return is_coherent(n) && n->len >= m->len && !lost && !(got & ~(m->enable & 1) << 2) && (!is_asked_for(m) || is_asked_for(n));
+    return is_coherent(n) && n->len >= m->len && !lost && !(got & ~(m->enable & 1) << 2)
+        && (!is_asked_for(m) || is_asked_for(n));
 }
 
 void between(void) {
@@ -133,7 +134,8 @@ int setup_irq(int irq, unsigned flags, struct irqaction *action) {
     return 0;
 }
 
-void take_byte(char byte, struct cpu_user_regs *regs) { received++; } /* if it sends, it is as another processor that does */
+/* If it sends, it is as another processor that does. */
+void take_byte(char byte, struct cpu_user_regs *regs) { received++; }
 
 /* ---- any state */
 
@@ -180,13 +182,6 @@ static void any_state(void) {
 
 /* ---- what is proved */
 
-/* With REACH defined, each of these must fail: it shows that its place is reached, so that what is assumed is possible. */
-#ifdef REACH
-#define REACHED(condition) __CPROVER_assert(!(condition), "reached: " #condition)
-#else
-#define REACHED(condition)
-#endif
-
 /* What the host may do while the port is opened has a turn, and two in turn. */
 void relation(void) {
     any_monitor();
@@ -196,6 +191,7 @@ void relation(void) {
     __CPROVER_assert(host_may(&before, &before), "relation: nothing");
     host_step();
     look(&after, &mon);
+    REACHED(after.len == 64 && after.len > before.len && after.pending == 6);
     __CPROVER_assert(host_may(&before, &after), "relation: turn");
 }
 
@@ -211,6 +207,7 @@ void relation_twice(void) {
     any_changed_by_others(&mon);
     look(&last, &mon);
     __CPROVER_assume(host_may(&after, &last));
+    REACHED(before.len < after.len && after.len < last.len && before.modem_control == 0x1a);
     __CPROVER_assert(host_may(&before, &last), "relation: twice");
 }
 
@@ -243,13 +240,14 @@ void resume(void) {
     is_alone = true;
     act(8, NULL, 0);
     is_alone = false;
-    REACHED(mon.is_refused && mon.port.len == 64);
+    REACHED(mon.port.len == 64 && (mon.is_refused || mon.line == LEVEL));
     __CPROVER_assert(invariant(), "resume: the invariant");
 }
 
 void host(void) {
     any_state();
     host_step();
+    REACHED(handler == IDLE && mon.port.len == 64 && (mon.is_refused || mon.line == LEVEL));
     __CPROVER_assert(invariant(), "turn: the invariant");
 }
 
@@ -259,6 +257,7 @@ void begins(void) {
     if (mon.line != LEVEL)
         mon.edges--;
     handler = RUNS;
+    REACHED(mon.port.len == 64 && mon.line == LAST_LINE);
     __CPROVER_assert(invariant(), "the handler begins: the invariant");
 }
 

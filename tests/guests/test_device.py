@@ -1,0 +1,38 @@
+# SPDX-License-Identifier: Apache-2.0 OR BSD-3-Clause
+"""The serial port in C that the proofs are about is the library's: both reply alike to random calls, in any state."""
+import platform
+import re
+
+import pytest
+from guest import HERE
+from harness import ROOT, check, run
+from seeds import seed
+
+pytestmark = pytest.mark.needs("cc")
+
+LIBRARY = ROOT / "prebuilt" / f"{platform.machine()}-linux" / "libsuperio_c.a"
+CALLS = 5000000
+
+
+def compared(folder, text):
+    """What a comparison says of a port whose file has this text."""
+    (folder / "device.c").write_text(text, encoding="utf-8")
+    (folder / "compare.c").write_bytes((HERE / "monitor" / "compare.c").read_bytes())
+    built = folder / "compare"
+    check(["gcc", "-std=gnu11", "-O1", f"-I{ROOT}/bindings/c", folder / "compare.c", LIBRARY, "-o", built])
+    return run([built, CALLS, seed()]).stdout
+
+
+DEVICE = (HERE / "monitor" / "device.c").read_text(encoding="utf-8")
+
+
+def test_same_as_the_library(tmp_path):
+    assert re.fullmatch(rf"{CALLS} calls are the same, [1-9]\d* found the FIFO full\n", compared(tmp_path, DEVICE))
+
+
+@pytest.mark.parametrize("old, new", [
+    ("lower(p, RDA);", ""), ("return p->len > 0 && raise_condition", "return raise_condition"),
+    ("% SIZE] = byte", "% 63] = byte"), ("iir == (RDA | THRE)", "iir == 0")])
+def test_another_port_is_found(tmp_path, old, new):
+    assert DEVICE.count(old) == 1
+    assert "differs" in compared(tmp_path, DEVICE.replace(old, new))
