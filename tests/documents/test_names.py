@@ -23,7 +23,7 @@ LIBRARIES = ["superio_core", "superio_laws", "superio_console", "vm_superio"]
 CRATES = [*LIBRARIES, "superio_c", "superio_script", "superio_examples"]
 CITATION = re.compile(r"(\w+(?:::\w+)*(?:, \w+(?:::\w+)*)*): ([a-z]\w*(?:, \w+)*)")
 COMMAND = re.compile(r"\b((?:tools|tests)/[\w./-]+) ([^#]*)")
-FILE = re.compile(r"(?<![\w/.~$:*-])(?:\.{1,2}/)*([\w.-]+(?:/[\w.-]+)+|[\w-]+\."
+FILE = re.compile(r"(?<![\w/.~$:*-])(?:\.{1,2}/)*(?!\.{1,2}/)([\w.-]+(?:/[\w.-]+)+|[\w-]+\."
                   r"(?:antt|c|edits|h|json|md|mjs|py|rs|rt|script|toml|txt))(?![\w*])")
 WORD = re.compile(r"(?<!\S)--[\w-]+|\b[^\W\d]\w{3,}\b")
 # Code that is not read: commands of the kit, options and settings of other programs, and what is built.

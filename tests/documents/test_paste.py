@@ -27,7 +27,8 @@ KIT = re.compile(r"^(?:rt|tools/run|tools/prebuild)\b", re.M)
 PROGRAMS = {"cc": "cc", "cargo": "debian-rust", "git": "git", "make": "make", "npm": "npm", "pkg-config": "pkg-config",
             "venv": "pip", "pip": "pip"}
 PROMPT = re.compile(r"\w+> ")
-SHORTER = [(r"^tools/((?:re)?check\b[^#\n]*)", r"tools/\1 --help "),
+# At a terminal `./superio` is the shell. Here what is typed comes from a pipe.
+SHORTER = [(r"^\./superio$", "./superio --shell"), (r"^tools/((?:re)?check\b[^#\n]*)", r"tools/\1 --help "),
            (r"^(python3 -m pytest)\b", r"\1 --collect-only -q")]
 BUILT = "crates/superio/out/superio"
 

@@ -155,7 +155,7 @@ def test_installed_by_pip(archives, what, tmp_path):
     python = environment(tmp_path / "environment")
     done = ended([*PIP, "--python", python, "install", *words], env=CLEAN, timeout=TIMEOUT * 5, cwd="/")
     assert done[0] == 0, done
-    said = ended([python, "-m", "superio"], b"read LSR\n", cwd="/", env=CLEAN)
+    said = ended([python, "-m", "superio", "--shell"], b"read LSR\n", cwd="/", env=CLEAN)
     assert said == (0, "LSR = 0x60  THRE TEMT\n", "")
     found = ended([python, "-c", "import superio; print(superio.__file__)"], cwd="/", env=CLEAN)[1]
     assert Path(found).is_relative_to(archives.place) == ("-e" in words), found

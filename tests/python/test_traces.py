@@ -12,7 +12,7 @@ from support import run
 
 from superio.recording import picture, replay
 from superio.script import BadLine, text_of
-from superio.view import Viewer, table
+from superio.view import _PLACES, Viewer, table
 
 RECORDING = ROOT / "examples" / "linux-boot" / "boot.recording.xz"
 WITH_INPUT = RECORDING.with_name("console.recording.xz")
@@ -42,7 +42,11 @@ PLACES = [("next", 2), ("next 3", 5), ("back 2", 3), ("next thre", 8), ("back rd
           ("next", "there is no call further on"), ("goto 0", "there is no call before"),
           ("goto x", "the syntax is: goto N"), ("first", 1), ("back", "there is no call before"), ("", 2),
           ("foo", "no command is called foo: help lists them"), ("next timeout", 9),
-          ("goto 13", "there is no call further on"), ("goto 3", 3), ("back sent", "no sent before")]
+          ("goto 13", "there is no call further on"), ("goto 3", 3), ("back sent", "no sent before"),
+          ("last", 12), ("back difference", "no difference before"), ("back reset", "no reset before"),
+          ("back timeout", 9), ("back sent", 8), ("back thre", "no thre before"), ("back change", 7),
+          ("back refused", 6), ("back interrupt", 3), ("next rda", 6), ("goto 20", "there is no call further on"),
+          ("back 6", "there is no call before"), ("next 7", "there is no call further on"), ("back 5", 1)]
 
 # Traces, and the bars of their lanes in the picture.
 PICTURES = [
@@ -91,6 +95,11 @@ def test_short_forms():
 def test_faults(trace, reason):
     with pytest.raises(BadLine, match=reason):
         steps_of(trace)
+
+
+def test_each_place_is_looked_for_in_both_directions():
+    assert {*_PLACES} <= {line.partition(" ")[2] for line, _ in PLACES if line.startswith("next ")}
+    assert {*_PLACES} <= {line.partition(" ")[2] for line, _ in PLACES if line.startswith("back ")}
 
 
 def test_places():

@@ -1,13 +1,13 @@
 # SPDX-License-Identifier: Apache-2.0 OR BSD-3-Clause
-"""The command line of `python3 -m superio`: the shell, a file of lines, or the viewer of a trace."""
+"""The command line of `python3 -m superio` and of `./superio`: a script, the shell, or the viewer of a trace."""
 import argparse
 import os
 import signal
 import sys
-from contextlib import nullcontext
+from contextlib import suppress
 from typing import List
 
-from . import __version__
+from . import __version__, program
 from .library import LibraryError
 from .prompt import Leave, use_history
 from .script import reason_of
@@ -15,28 +15,33 @@ from .session import Session
 from .view import view
 
 _EPILOG = """\
-exit status:
+exit status, without --shell that of the program superio:
   0  every line was carried out
-  1  a line was bad: standard error has its file, number and reason
-  2  a file, the library or the arguments are wrong
+  1  a line was bad: standard error has its number, and with --shell also its file and why
+  2  a file, the library or the arguments are wrong, or a read or a write failed
+  3  memory was refused
+  4  the script has more than 65,536 bytes
 
-python3 -m superio view --help describes the viewer of a trace.
+%(prog)s view --help describes the viewer of a trace.
 """
 
 
-def _parser() -> argparse.ArgumentParser:
+def _parser(name: str) -> argparse.ArgumentParser:
     parser = argparse.ArgumentParser(
-        "python3 -m superio", formatter_class=argparse.RawDescriptionHelpFormatter, epilog=_EPILOG,
-        description="A board with emulated devices, such as a serial port. At a terminal it is a shell; help "
-                    "lists its commands. A file or a pipe runs without prompts, up to the first bad line.")
+        name, formatter_class=argparse.RawDescriptionHelpFormatter, epilog=_EPILOG,
+        description="A board with emulated devices, such as a serial port. At a terminal it is a shell, and help lists "
+                    "its commands.\nA file or a pipe is a script, whose lines get the replies of the program superio: "
+                    "docs/SCRIPT.md has them.")
+    parser.add_argument("--shell", action="store_true",
+                        help="the file or the pipe has lines as the shell takes them: also its commands and comments")
     parser.add_argument("file", nargs="?", metavar="FILE", help="the lines to carry out; - is standard input")
     parser.add_argument("--version", action="version", version=f"superio {__version__}")
     return parser
 
 
-def _viewer_parser() -> argparse.ArgumentParser:
+def _viewer_parser(name: str) -> argparse.ArgumentParser:
     parser = argparse.ArgumentParser(
-        "python3 -m superio view", usage="%(prog)s [-h] TRACE [--table [FILE]] [--svg FILE]",
+        f"{name} view", usage="%(prog)s [-h] TRACE [--table [FILE]] [--svg FILE]",
         description="Steps through a recorded trace, call by call.")
     parser.add_argument("trace", metavar="TRACE",
                         help="a script, or a recording as in examples/linux-boot; - is standard input")
@@ -47,47 +52,67 @@ def _viewer_parser() -> argparse.ArgumentParser:
     return parser
 
 
-def _run(arguments: List[str]) -> None:
-    if arguments[:1] == ["view"]:
-        options = _viewer_parser().parse_args(arguments[1:])
-        view(options.trace, options.table, options.svg)
-        return
-    path = _parser().parse_args(arguments).file
-    sys.stdout.reconfigure(line_buffering=True)  # type: ignore[union-attr]  # each reply goes out at once
+def _run_program(path: str) -> int:
+    """Runs a script as the program does, says how it ended, and returns the exit status."""
+    source = 0 if path == "-" else os.open(path, os.O_RDONLY)
+    end = program.run(source, 1)
+    with suppress(OSError):  # of standard error, which changes no status
+        os.write(2, f"{end.said}\n".encode("ascii") if end.said else b"")
+    return end.status
+
+
+def _run_shell(path: str) -> None:
     session = Session(sys.stdout)
-    if path is None and sys.stdin.isatty():
+    if not path:
         use_history()
         session.run_prompt()
-        return
-    is_file = path not in (None, "-")
-    with open(path, "rb") if is_file else nullcontext(sys.stdin.buffer) as file:
-        session.run_lines(path if is_file else "<stdin>", file)
+    elif path == "-":
+        session.run_lines("<stdin>", sys.stdin.buffer)
+    else:
+        session.run_file(path)
 
 
-def main(arguments: List[str]) -> int:
-    """Runs the command line. Returns the exit status."""
-    sys.stdout.reconfigure(errors="backslashreplace")  # type: ignore[union-attr]
-    if not sys.stdout.isatty():
-        signal.signal(signal.SIGPIPE, signal.SIG_DFL)  # a closed pipe ends in silence
+def _run(arguments: List[str], name: str) -> int:
+    """Carries out the command line, and returns the exit status."""
+    if arguments[:1] == ["view"]:
+        options = _viewer_parser(name).parse_args(arguments[1:])
+        view(options.trace, options.table, options.svg)
+        return 0
+    options = _parser(name).parse_args(arguments)
+    is_typed = sys.stdin is not None and sys.stdin.isatty()
+    path = options.file or ("" if is_typed else "-")
+    if path and not options.shell:
+        return _run_program(path)
+    sys.stdout.reconfigure(line_buffering=True)  # type: ignore[union-attr]  # each reply goes out at once
+    _run_shell(path)
+    return 0
+
+
+def main(arguments: List[str], name: str = "python3 -m superio") -> int:
+    """Runs the command line of a command that was called by this name. Returns the exit status."""
+    if sys.stdout is not None:  # which is closed otherwise
+        sys.stdout.reconfigure(errors="backslashreplace")  # type: ignore[union-attr]
+        if not sys.stdout.isatty():
+            signal.signal(signal.SIGPIPE, signal.SIG_DFL)  # a closed pipe ends in silence
     try:
         try:
-            _run(arguments)
+            return _run(arguments, name)
         except Leave:
-            pass
+            return 0
         finally:
-            sys.stdout.flush()
+            if sys.stdout is not None:
+                sys.stdout.flush()
     except KeyboardInterrupt:
         return 128 + signal.SIGINT
     except ValueError as error:
         print(error, file=sys.stderr)
         return 1
     except (OSError, LibraryError) as error:
-        print(f"python3 -m superio: {reason_of(error)}", file=sys.stderr)
-        os.dup2(os.open(os.devnull, os.O_WRONLY), sys.stdout.fileno())  # where Python's own flush at the end goes
+        print(f"{name}: {reason_of(error)}", file=sys.stderr)
+        os.dup2(os.open(os.devnull, os.O_WRONLY), 1)  # where Python's own flush at the end goes
         return 2
     finally:
         signal.signal(signal.SIGINT, signal.SIG_DFL)  # Ctrl-C while Python ends has no traceback
-    return 0
 
 
 if __name__ == "__main__":

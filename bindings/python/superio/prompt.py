@@ -3,6 +3,7 @@
 file that a command names is written."""
 import atexit
 import cmd
+import difflib
 import glob
 import os
 import shutil
@@ -89,9 +90,7 @@ class Prompt(cmd.Cmd):
     def carry_out(self, line: bytes) -> None:
         """Carries out a line, without its LF. A `ValueError` or `OSError` says why not; `Leave` ends the session."""
         name, _, rest = line.decode("utf-8", "surrogateescape").strip().partition(" ")
-        if name not in self.help:
-            raise ScriptError(f"no command is called {shown(name)}: help lists them")
-        usage = self.help[name].usage
+        usage = self.entry(name).usage
         try:
             if rest and " " not in usage:
                 raise UsageError
@@ -99,15 +98,21 @@ class Prompt(cmd.Cmd):
         except UsageError:
             raise ScriptError(f"the syntax is: {usage}") from None
 
+    def entry(self, name: str) -> Help:
+        """The command of this name. If there is none, the fault suggests one that is written much like it."""
+        if name not in self.help:
+            like = difflib.get_close_matches(name.lower(), self.help, 1)
+            suggested = f"did you mean {like[0]}? " if like else ""
+            raise ScriptError(f"no command is called {shown(name)}: {suggested}help lists them")
+        return self.help[name]
+
     def perform(self, name: str, rest: str) -> None:
         """Carries out a command with the rest of its line."""
         getattr(self, f"do_{name}")(rest)
 
     def do_help(self, rest: str) -> None:
-        if rest and rest not in self.help:
-            raise ScriptError(f"no command is called {shown(rest)}: help lists them")
         if rest:
-            entry = self.help[rest]
+            entry = self.entry(rest)
             self.say(entry.usage, f"{entry.about}.", *filter(None, [entry.more]))
             return
         for title, group in self.groups.items():

@@ -169,12 +169,21 @@ def bits_by_name(register: Register) -> Dict[str, int]:
     return {name: bit for bit, name in register.bits}
 
 
+def character_format(line_control: int) -> str:
+    """The format of characters that a value of LCR sets, as `8N1`."""
+    parity = "OEMS"[line_control >> 4 & 3] if line_control & 0x08 else "N"
+    return f"{5 + (line_control & 3)}{parity}{2 if line_control & 0x04 else 1}"
+
+
+FORMATS = {character_format(value): value for value in reversed(range(0x40))}
+"""The formats of characters, each with the least value of LCR that sets it."""
+
+
 def bit_names(register: Register, value: int) -> List[str]:
     """The names of the bits that are set in a register's value. LCR begins with the character format, as `8N1`."""
     names = [name for bit, name in register.bits if value & bit]
     if register.name == "LCR":
-        parity = "OEMS"[value >> 4 & 3] if value & 0x08 else "N"
-        names.insert(0, f"{5 + (value & 3)}{parity}{2 if value & 0x04 else 1}")
+        names.insert(0, character_format(value))
     if register.name == "IIR" and not names and value & 0x01:
         names = ["none"]
     return names

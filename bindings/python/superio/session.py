@@ -3,17 +3,17 @@
 import os
 import shlex
 import time
-from typing import IO, Callable, Dict, Iterable, List, Optional, Tuple
+from typing import IO, Callable, Dict, Iterable, Iterator, List, Optional, Tuple
 
 from .board import FURTHER_LINES, MASK, PROGRAM_LINES, Board, Call, Command, Line
+from .program import LONGEST
 from .prompt import Help, Prompt, write_text
 from .registers import CLOCK, SERIAL
 from .script import LINE_FIELDS, BadLine, ScriptError, parse, syntax_of, text_of
-from .tell import Story, changes, clock_registers, registers, told, turn
+from .tell import Story, changes, clock_registers, expected_size, registers, told, turn
 from .words import Speaker, UsageError
 
 _DEEPEST = 10
-_LONGEST_SCRIPT = 65_536  # bytes
 
 INTRO = """\
 A serial port and other devices, as a guest sees them.
@@ -40,7 +40,8 @@ _GROUPS: Dict[str, Tuple[Help, ...]] = {
         Help("read REGISTER", "the guest reads: read LSR, read 5",
              f"REGISTER is {_READ}, or an offset from 0 to 255.", ("serial",), "sr"),
         Help("write REGISTER VALUE", "the guest writes: write IER RDA|THRE",
-             f"REGISTER is {_WRITTEN}, or an offset. VALUE is 65, 0x41, 'A', or names of bits as RDA|THRE.",
+             f"REGISTER is {_WRITTEN}, or an offset. VALUE is 65, 0x41, 'A', or names of bits as RDA|THRE; for LCR "
+             "also 8N1|DLAB.",
              ("serial", "bits"), "sw"),
         Help('type "TEXT"', "bytes arrive for the guest",
              r"""1 to 128 bytes. In quotes \n, \r, \t, \0, \e, \\, \" and \x41 are single bytes.""", (), "type"),
@@ -56,8 +57,9 @@ _GROUPS: Dict[str, Tuple[Help, ...]] = {
         Help("clock read|write REGISTER [VALUE] [MOMENT]", "clock read DR now, clock write IMSC 1",
              f"REGISTER is {_CLOCK_NAMES}, ID0 to ID7, or an offset. MOMENT is now, now+5, or seconds since 1970; it "
              "is now if left out.", ("read write", "clock"), "clock"),
-        Help("alarm +SECONDS", "sets the clock's match register",
-             "alarm 0x6553f100 sets it to that guest time. The line goes up if IMSC is 1.", ("+",), "alarm"),
+        Help("alarm +SECONDS|GUEST_TIME [MOMENT]", "sets the clock's match register",
+             "alarm +5 is in 5 seconds. GUEST_TIME is in seconds since 1970: alarm 5 was long ago. The line goes up if "
+             "IMSC is 1.", ("+",), "alarm"),
         Help("i8042 read|write OFFSET [VALUE]", "i8042 write 4 0xfe resets the machine", "", ("read write",), "i8042"),
     ),
     "What happened": (
@@ -96,6 +98,15 @@ def _path(rest: str) -> str:
     return os.path.expanduser(word)
 
 
+def _read(path: str, file: Iterable[bytes]) -> Iterator[bytes]:
+    """The lines of an open file. An error of a read has the file's name, and one of a write has none."""
+    try:
+        yield from file
+    except OSError as error:
+        error.filename = path
+        raise
+
+
 class Session(Prompt):
     """Carries out lines on a board, and writes the replies to a stream."""
 
@@ -105,6 +116,7 @@ class Session(Prompt):
         super().__init__(out)
         self._depth = 0
         self._shows_calls = False
+        self._explains = False  # says more than a script's reply, to somebody at a prompt
         self._host_time = host_time
         self.renew()
 
@@ -149,7 +161,7 @@ class Session(Prompt):
         if self._shows_calls:
             self.say(text_of(command))
         if call.reply is not None:
-            self.say(call.reply if is_short else told(call))
+            self.say(call.reply if is_short else told(call), *(expected_size(call) if self._explains else ()))
 
     def _note_for_script(self, call: Call) -> None:
         """Keeps what a script for the program has. A further line that changed nothing, such as a load that was
@@ -169,6 +181,15 @@ class Session(Prompt):
                 if isinstance(error, OSError) and not error.filename:
                     raise  # the reply was not written
                 raise BadLine(name, number, line, error) from error
+
+    def run_file(self, path: str) -> None:
+        """Carries out the lines of the file at this path."""
+        with open(path, "rb") as file:
+            self.run_lines(path, _read(path, file))
+
+    def run_prompt(self) -> None:
+        self._explains = True
+        super().run_prompt()
 
     def do_regs(self, rest: str) -> None:
         if rest not in ("", "serial", "clock"):
@@ -193,13 +214,11 @@ class Session(Prompt):
         self.say(f"port and clock saved to {path}")
 
     def do_load(self, rest: str) -> None:
-        path = _path(rest)
         if self._depth == _DEEPEST:
             raise ScriptError(f"files that load each other go at most {_DEEPEST} deep")
         self._depth += 1
         try:
-            with open(path, "rb") as file:
-                self.run_lines(path, file)
+            self.run_file(_path(rest))
         finally:
             self._depth -= 1
 
@@ -221,8 +240,8 @@ class Session(Prompt):
         if self._outside:
             raise ScriptError(f"the program superio has no script of this session: {turn(self._outside)}, is none of "
                               "its lines. trace FILE writes all calls, for load and for the viewer")
-        if sum(len(line) + 1 for line in self._script) > _LONGEST_SCRIPT:
-            raise ScriptError(f"a script for the program superio has at most {_LONGEST_SCRIPT:,} bytes, and these are "
+        if sum(len(line) + 1 for line in self._script) > LONGEST:
+            raise ScriptError(f"a script for the program superio has at most {LONGEST:,} bytes, and these are "
                               "more. trace FILE writes all calls, for load and for the viewer")
         self._tell_lines(rest, self._script, "the script is")
 

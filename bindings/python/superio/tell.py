@@ -6,6 +6,7 @@ from typing import Dict, List, Optional, Tuple
 
 from .board import OUTPUT_SIZE, Board, Call, Snapshot
 from .devices import Rtc, Serial
+from .library import RTC_SAVED_SIZE, SERIAL_SAVED_MAX
 from .registers import (CLOCK, CLOCK_KEPT, FIELDS, FIFO_BITS, FIFO_SIZE, LOOPBACK, SERIAL, Register, RtcState,
                         SerialState, bit_names, bits_by_name)
 from .script import text_of
@@ -129,7 +130,22 @@ def _clock_access(call: Call) -> str:
         return "ok"
     if call.after.clock.armed:
         return f"alarm set for guest time {value[0]:#010x}  {date_of(value[0])} UTC"
-    return "ok: guest time is there, so the alarm is up" if call.after.clock.ris & 1 else "ok: that time is past"
+    if call.after.clock.ris & 1:
+        return "ok: guest time is there, so the alarm is up"
+    return f"ok, and no alarm: guest time {value[0]:#010x}, {date_of(value[0])} UTC, is past"
+
+
+_SIZES = {"sl": ("serial port", SERIAL_SAVED_MAX - FIFO_SIZE, SERIAL_SAVED_MAX),
+          "cl": ("clock", RTC_SAVED_SIZE, RTC_SAVED_SIZE)}
+
+
+def expected_size(call: Call) -> List[str]:
+    """How long a saved state has to be, if a line was to load one of another length."""
+    if call.command.name not in _SIZES or call.reply not in ("too short", "wrong length", "too many bytes"):
+        return []
+    name, least, most = _SIZES[call.command.name]
+    given = len(call.command.values[0]) if call.command.values else 0
+    return [f"{plural(given, 'byte')} came, and a saved {name} has {least if least == most else f'{least} to {most}'}"]
 
 
 def _text_output(call: Call) -> str:

@@ -5,7 +5,7 @@ from copy import copy
 from typing import Any, Callable, List, Optional
 
 from .board import BYTES, MASK, MOMENT, Board, Command, Field
-from .registers import (CLOCK, SERIAL, Register, bits_by_name, clock_offset, clock_register, serial_offset,
+from .registers import (CLOCK, FORMATS, SERIAL, Register, bits_by_name, clock_offset, clock_register, serial_offset,
                         serial_register)
 from .script import LINE_FIELDS, ScriptError, parse, shown
 
@@ -42,14 +42,16 @@ def _unescaped(match: "re.Match[bytes]") -> bytes:
     return bytes([_ESCAPES[match[2][0]]])
 
 
-def _integer(text: str, what: str, bits: int, base: int = 0) -> int:
-    """A number as people type it: decimal, or with 0x or 0b before it, if `base` is 0, and hexadecimal if it is 16."""
+def _integer(text: str, what: str, bits: int, base: int = 0, instead: str = "") -> int:
+    """A number as people type it: decimal, or with 0x or 0b before it, if `base` is 0, and hexadecimal if it is 16.
+    `instead` is what may stand in its place, as a message adds it that refuses a text which is no number at all."""
     try:
         number = int(text, 10 if base == 0 and text.isdigit() else base)
     except ValueError:
-        raise ScriptError(f"{shown(text)} is no {what}") from None
+        raise ScriptError(f"{shown(text)} is no {what}{instead}") from None
     if not 0 <= number < 1 << bits:
-        raise ScriptError(f"{shown(text)} is no {what}: it has {bits} bits")
+        most = (1 << bits) - 1
+        raise ScriptError(f"{shown(text)} is no {what}: it is from 0 to {f'{most:#x}' if base else most}")
     return number
 
 
@@ -106,37 +108,42 @@ class Speaker:
         if field.kind == "serial":
             if text.upper() in SERIAL:
                 return serial_offset(text, line_control, name == "sw")
-            return _integer(text, f"offset, and no register: those are {' '.join(SERIAL)}", bits, base)
+            return _integer(text, field.name, bits, base, f", and no register: those are {' '.join(SERIAL)}")
         if field.kind == "clock":
             if re.sub("^RTC", "", text.upper()) in CLOCK:
                 return clock_offset(text)
-            return _integer(text, f"offset, and no register: those are {' '.join(CLOCK)}", bits, base)
+            return _integer(text, field.name, bits, base, f", and no register: those are {' '.join(CLOCK)}")
         return _integer(text, field.name, bits, base)
 
     @staticmethod
     def _value(text: str, register: Optional[Register], bits: int, base: int) -> int:
-        """A value: a number, a character in quotes, or bits of the register by name, as RDA|THRE."""
+        """A value: a number, a character in quotes, or bits of the register by name, as RDA|THRE. One of LCR may be or
+        have a format of characters, as 8N1."""
         if text[:1] in ("'", '"'):
             data = characters(text)
             if len(data) != 1:
                 raise ScriptError(f"{shown(text)} is not one byte")
             return data[0]
         total = 0
-        named = bits_by_name(register) if register else {}
-        hint = f", and {register.name} has the bits {' '.join(named)}" if register and named else ""
+        named, instead = bits_by_name(register) if register else {}, ": a character has quotes, as 'A'"
+        if register and named:
+            instead = f", and {register.name} has the bits {' '.join(named)}"
+        if register and register.name == "LCR":
+            named, instead = {**named, **FORMATS}, instead + " and formats as 8N1"
         for part in text.split("|"):
-            total |= named[part.upper()] if part.upper() in named else _integer(part, "value" + hint, bits, base)
+            name = part.upper()
+            total |= named[name] if name in named else _integer(part, "value", bits, base, instead)
         return total
 
     def _moment(self, text: str, base: int = 0) -> int:
         """A moment: `now`, `now+5`, `+5`, or seconds since 1970."""
         match = re.fullmatch(r"(?:now)?([+-]\d+)?", text)
         if not match:
-            return _integer(text, "moment: it is now, now+5, or seconds since 1970", 64, base)
+            return _integer(text, "moment", 64, base, ": it is now, now+5, or seconds since 1970")
         seconds = _integer((match[1] or "0").lstrip("+-"), "number of seconds", 64)
         moment = self._time() + (-seconds if "-" in text else seconds)
         if moment >= 1 << 64:
-            raise ScriptError(f"{shown(text)} is no moment: it has 64 bits")
+            raise ScriptError(f"{shown(text)} is no moment: it is from 0 to {(1 << 64) - 1}")
         return max(0, moment)
 
     @staticmethod

@@ -22,20 +22,32 @@ TOP = ROOT / "superio"
 EXAMPLE = ROOT / "examples" / "three_devices.script"
 BOOT = ROOT / "examples" / "linux-boot" / "boot.recording.xz"
 NOWHERE = "/nowhere/at/all: No such file or directory\n"
+SHELL, SCRIPT = ["--shell"], ["-"]
+NO_FILE = "/proc/self/mem"  # which can be opened, and not read from its start
 
 # Arguments and standard input, and the status, the output and the errors.
 RUNS = [
-    ([], b"# comment\nkr 04\nread XYZ\nkr 04\n",
+    (SHELL, b"# comment\nkr 04\nread XYZ\nkr 04\n",
      (1, "00\n", '<stdin>:3: "read XYZ": XYZ is no offset, and no register: '
                  f"those are {' '.join(registers.SERIAL)}\n")),
-    ([], b"\xff\x1b\n", (1, "", '<stdin>:1: "\\xff\\x1b": no command is called \\xff\\x1b: help lists them\n')),
-    ([], b"\n   # indented\n  kr 04  \t\r\nread LSR\r\n\r\nkr 04", (0, "00\nLSR = 0x60  THRE TEMT\n00\n", "")),
-    ([], b"# " + b"x" * 200_000 + b"\nkr 04\nkr", (1, "00\n", '<stdin>:3: "kr": the syntax is: kr OO\n')),
-    ([], b"kr " + b"1" * 100, (1, "", f'<stdin>:1: "kr {"1" * 57}..": {"1" * 24}.. is no offset: it has 8 bits\n')),
-    ([], b"kr 04\nquit\nkr 04\n", (0, "00\n", "")),
-    ([], b"write SCR 7\nreset\nread SCR\n", (0, "ok\na fresh board\nSCR = 0x00\n", "")),
-    ([], b"kr 04\nload /nowhere/at/all\nkr 04\n", (1, "00\n", '<stdin>:2: "load /nowhere/at/all": ' + NOWHERE)),
-    (["/"], b"", (2, "", "python3 -m superio: /: Is a directory\n")),
+    (SHELL, b"\xff\x1b\n", (1, "", '<stdin>:1: "\\xff\\x1b": no command is called \\xff\\x1b: help lists them\n')),
+    (SHELL, b"\n   # indented\n  kr 04  \t\r\nread LSR\r\n\r\nkr 04", (0, "00\nLSR = 0x60  THRE TEMT\n00\n", "")),
+    (SHELL, b"# " + b"x" * 200_000 + b"\nkr 04\nkr", (1, "00\n", '<stdin>:3: "kr": the syntax is: kr OO\n')),
+    (SHELL, b"kr " + b"1" * 100,
+     (1, "", f'<stdin>:1: "kr {"1" * 57}..": {"1" * 24}.. is no offset: it is from 0 to 0xff\n')),
+    (SHELL, b"kr 04\nquit\nkr 04\n", (0, "00\n", "")),
+    (SHELL, b"write SCR 7\nreset\nread SCR\n", (0, "ok\na fresh board\nSCR = 0x00\n", "")),
+    (SHELL, b"kr 04\nload /nowhere/at/all\nkr 04\n", (1, "00\n", '<stdin>:2: "load /nowhere/at/all": ' + NOWHERE)),
+    (SHELL, b"load /proc/self/mem\n", (1, "", f'<stdin>:1: "load {NO_FILE}": {NO_FILE}: Input/output error\n')),
+    ([*SHELL, NO_FILE], b"", (2, "", f"python3 -m superio: {NO_FILE}: Input/output error\n")),
+    ([*SHELL, "/"], b"", (2, "", "python3 -m superio: /: Is a directory\n")),
+    (["/"], b"", (2, "", "input or output fault\n")),
+    # A script, of which `tests/python` runs many. What the shell alone takes is bad.
+    *((SCRIPT, b"kr 04\n" + line + b"\nkr 04\n", (1, "00\n", "bad line 2\n")) for line in (
+        b"sr 5", b"si", b"# read LSR", b"kr 04\r")),
+    (SCRIPT, b"refuse 0000000000000001\nsw 01 02\nkr 04", (0, "trigger\n00\n", "")),
+    (SCRIPT, b"", (0, "", "")),
+    (SCRIPT, b"kr 04\n" * 10_923, (4, "", "script too long\n")),
     (["/nowhere/at/all"], b"", (2, "", "python3 -m superio: " + NOWHERE)),
     (["view", "/nowhere/at/all"], b"", (2, "", "python3 -m superio: " + NOWHERE)),
     (["view", "-"], b"sr\n", (1, "", '<stdin>:1: "sr": the syntax is: sr OO\n')),
@@ -99,13 +111,19 @@ SUPERIO = f"{sys.executable} -m superio"
 
 # Commands for bash, and the status, the output and a part of the errors.
 COMMANDS = [
-    (f"yes 'kr 04' | {SUPERIO} | head -n 1; exit ${{PIPESTATUS[1]}}", (128 + signal.SIGPIPE, "00\n", "")),
+    (f"yes 'kr 04' | {SUPERIO} --shell | head -n 1; exit ${{PIPESTATUS[1]}}", (128 + signal.SIGPIPE, "00\n", "")),
     (f"{SUPERIO} view {BOOT} --table | head -n 1; exit ${{PIPESTATUS[0]}}", (128 + signal.SIGPIPE, "piece 1\n", "")),
-    (f"echo 'kr 04' | {SUPERIO} > /dev/full", (2, "", "No space left on device")),
+    (f"echo 'kr 04' | {SUPERIO} --shell > /dev/full", (2, "", "No space left on device")),
+    (f"printf 'kr 04\\nkr 4' | {SUPERIO} > /dev/full", (2, "", "input or output fault\n")),
+    (f"echo 'kr 4' | {SUPERIO} 2> /dev/full", (1, "", "")),
+    (f"echo 'kr 4' | {SUPERIO} 2>&-", (1, "", "")),
+    (f"echo 'kr 04' | {SUPERIO} >&-", (2, "", "input or output fault\n")),
+    (f"{SUPERIO} <&-", (2, "", "input or output fault\n")),
     (f"echo 'kr 04' | {SUPERIO} view - --table > /dev/full", (2, "", "No space left on device")),
-    (f"echo 'save /dev/stdout' | {SUPERIO} | tail -n 1", (0, "port and clock saved to /dev/stdout\n", "")),
+    (f"echo 'save /dev/stdout' | {SUPERIO} --shell | tail -n 1", (0, "port and clock saved to /dev/stdout\n", "")),
     (f"SUPERIO_LIBRARY=/nowhere/lib.so {SUPERIO}", (2, "", "python3 -m superio: /nowhere/lib.so cannot be loaded")),
-    *((f"{SUPERIO} {wrong}", (2, "", "usage: ")) for wrong in ("--unknown", "a b", "view", "view --unknown a")),
+    *((f"{SUPERIO} {wrong}", (2, "", "usage: python3 -m superio ")) for wrong in (
+        "--unknown", "a b", "view", "view --unknown a")),
 ]
 
 
@@ -122,7 +140,7 @@ class Runs(FolderTest):
             for name, text in before.items():
                 (self.folder / name).write_text(text)
             with self.subTest(script, before=before):
-                *done, errors = run(script=script.encode(), cwd=self.folder)
+                *done, errors = run("--shell", script=script.encode(), cwd=self.folder)
                 self.assertEqual((expected, True), (tuple(done), said in errors if said else not errors), errors)
                 self.assertEqual({**before, **new}, {path.name: path.read_text() for path in self.folder.iterdir()})
 
@@ -136,13 +154,19 @@ class Runs(FolderTest):
         self.path.symlink_to(TOP)
         bare = {name: text for name, text in ENVIRONMENT.items() if name == "SUPERIO_LIBRARY"}
         for program in (TOP, self.path):
-            self.assertEqual(run(EXAMPLE), ended([program, EXAMPLE], cwd=self.folder,
-                                                 env={"PATH": "/usr/bin:/bin", **bare}))
+            def called(*arguments):
+                return ended([program, *arguments], cwd=self.folder, env={"PATH": "/usr/bin:/bin", **bare})
+            self.assertEqual(run(EXAMPLE), called(EXAMPLE))
+            # What it says of itself has the name by which it was called.
+            self.assertEqual((2, "", f"{program}: {NOWHERE}"), called("/nowhere/at/all"))
+            for words in ([], ["view"]):
+                self.assertEqual(f"usage: {' '.join([str(program), *words])} [-h]",
+                                 called(*words, "--help")[1].partition("] ")[0] + "]")
 
     def test_a_full_disk_leaves_what_was_there(self):
         """A limit on the size of files stands for it."""
         self.path.write_text("what was there\n")
-        for arguments, script, status in (([], f"save '{self.path}'\n".encode(), 1),
+        for arguments, script, status in ((SHELL, f"save '{self.path}'\n".encode(), 1),
                                           (["view", "-", "--svg", self.path], b"sr 05\n", 2)):
             done = run(*arguments, script=script,
                        preexec_fn=lambda: resource.setrlimit(resource.RLIMIT_FSIZE, (10, 10)))
@@ -151,19 +175,28 @@ class Runs(FolderTest):
             self.assertEqual([self.path], list(self.folder.iterdir()))
 
     def test_a_name_that_the_output_cannot_encode(self):
-        done = run(script="save é\n".encode(), cwd=self.folder, env={**ENVIRONMENT, "PYTHONIOENCODING": "ascii"})
+        done = run("--shell", script="save é\n".encode(), cwd=self.folder,
+                   env={**ENVIRONMENT, "PYTHONIOENCODING": "ascii"})
         self.assertEqual((0, "port and clock saved to \\xe9\n", ""), done)
 
     def test_ctrl_c_while_python_ends_has_no_traceback(self):
         program = "import os, signal, superio.__main__ as it; it.main(['-']); os.kill(os.getpid(), signal.SIGINT)"
         self.assertEqual((-signal.SIGINT, "", ""), ended([sys.executable, "-c", program], env=ENVIRONMENT))
 
+    def test_ctrl_c_ends_each_form(self):
+        for arguments, call in (("'-'", "os.read"), ("'--shell', '-'", "it.Session.run_lines"),
+                                ("'view', '-'", "superio.view._steps")):
+            program = ("import os, sys, unittest.mock, superio.__main__ as it, superio.view\n"
+                       f"{call} = unittest.mock.Mock(side_effect=KeyboardInterrupt)\n"
+                       f"sys.exit(it.main([{arguments}]))")
+            self.assertEqual((128 + signal.SIGINT, "", ""), ended([sys.executable, "-c", program], env=ENVIRONMENT))
+
     def test_a_file_keeps_its_mode_and_a_link_its_target(self):
         self.path.touch()
         self.path.chmod(0o640)
         link = self.folder / "link"
         link.symlink_to(self.path)
-        self.assertEqual(0, run(script=f"save {link}\n".encode())[0])
+        self.assertEqual(0, run("--shell", script=f"save {link}\n".encode())[0])
         self.assertEqual((0o640, True), (self.path.stat().st_mode & 0o777, link.is_symlink()))
         self.assertTrue(self.path.read_text().startswith("sl "))
 
@@ -176,7 +209,7 @@ class Runs(FolderTest):
     def test_each_reply_goes_out_at_once_and_ctrl_c_ends_a_pipe(self):
         pipes = dict.fromkeys(("stdin", "stdout", "stderr"), subprocess.PIPE)
         # What runs in the background ignores Ctrl-C, and so would the program.
-        with subprocess.Popen([sys.executable, "-m", "superio"], env=ENVIRONMENT, **pipes,
+        with subprocess.Popen([sys.executable, "-m", "superio", "--shell"], env=ENVIRONMENT, **pipes,
                               preexec_fn=lambda: signal.signal(signal.SIGINT, signal.default_int_handler)) as process:
             timer = threading.Timer(TIMEOUT, process.kill)  # else a reply that does not come is waited for without end
             timer.start()
@@ -197,7 +230,8 @@ CONTROL = re.compile(r"\x1b\[\??[0-9;]*[a-zA-Z]|\x07")
 SESSIONS = [
     ([("write IER RDA", "ok\n"), ('type "hi"', "2 bytes received; interrupt for RDA\n"),
       ("read IIR", "IIR = 0xc4  RDA\n"), ("read RBR", 'RBR = 0x68  "h"\n')], CTRL_D),
-    ([("foo", "no command is called foo: help lists them\n"), ("", ""), ("sr 05", "60\n")], "quit\r"),
+    ([("foo", "no command is called foo: help lists them\n"), ("", ""), ("sr 05", "60\n"),
+      ("sl 00", "too short\n1 byte came, and a saved serial port has 17 to 81\n")], "quit\r"),
     ([("write SCR 7", "ok\n"), ("read SCR", "SCR = 0x07\n"), (UP + UP + "1", "ok\n"),  # write SCR 71
       ("ead SCR" + HOME + "r", "SCR = 0x47\n"), ("read LR" + LEFT + "S", "LSR = 0x60  THRE TEMT\n")], "exit\r"),
     ([("rea\tLS\t", "LSR = 0x60  THRE TEMT\n"), ("wri\tie\tRD\t|TH\t", "ok; interrupt for THRE\n"),

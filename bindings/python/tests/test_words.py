@@ -10,14 +10,21 @@ from unittest import mock
 
 from support import PACKAGE, ROOT, FolderTest, run
 
-from superio import Command
-from superio.prompt import write_text
+from superio import Command, Rtc, Serial
+from superio.board import LINES
+from superio.prompt import Leave, write_text
+from superio.registers import CLOCK, SERIAL
 from superio.script import ScriptError, reason_of, shown
 from superio.session import Session
 from superio.tell import quoted
 from superio.words import characters
 
 NOW = 0x6553F100
+# Formats of characters, by the data sheet: 5 to 8 bits; 0x04 for 2 stop bits; 0x08 for a parity, by 0x30: odd, even,
+# mark and space.
+PARITIES = {"N": 0, "O": 0x08, "E": 0x18, "M": 0x28, "S": 0x38}
+FORMATS = {f"{5 + bits}{parity}{stop}": bits | of_parity | of_stop for bits in range(4)
+           for parity, of_parity in PARITIES.items() for stop, of_stop in ((1, 0), (2, 0x04))}
 
 # The line of a script, and the lines that mean it.
 MEANINGS = {
@@ -28,6 +35,8 @@ MEANINGS = {
     "sw 07 03": ["write SCR 0b11"],
     "sw 01 09": ["write ier rda|0x08", "sw IER RDA|MS"],
     "sw 00 41": ["write THR 'A'"],
+    **{f"sw 03 {value:02x}": [f"write LCR {name}", f"sw LCR {name.lower()}"] for name, value in FORMATS.items()},
+    "sw 03 da": ["write LCR 7E1|DLAB|BREAK", "write LCR break|dlab|7e1"],
     "sw 00 20": ["write THR ' '"],
     "sw 00 0a": [r"write THR '\n'"],
     "sq 68656c6c6f0a": ['type "hello\\n"', r'sq "hello\n"'],
@@ -54,39 +63,60 @@ MEANINGS = {
 
 # A part of why a line is none, and such lines, after those before them.
 FAULTS = {
-    "no command is called reed: help lists them": ["reed LSR"],
-    "no command is called foo": ["help foo"],
+    "no command is called foo: help lists them": ["foo", "help foo"],
+    **{f"no command is called {typed}: did you mean {meant}? help lists them": [f"{typed} LSR", f"help {typed}"]
+       for typed, meant in (("reed", "read"), ("wirte", "write"), ("REGS", "regs"), ("Read", "read"), ("SR", "sr"),
+                            ("clok", "clock"), ("timout", "timeout"), ("exti", "exit"))},
     "the syntax is: sr OO": ["sr", "sr 5 5"],
     "the syntax is: sq HH..": ["sq 4"],
     "the syntax is: read REGISTER": ["read", "read LSR now"],
     'the syntax is: type "TEXT"': ["type"],
     "the syntax is: clock read|write REGISTER [VALUE] [MOMENT]": ["clock", "clock read", "clock set DR 1"],
     "the syntax is: i8042 read|write OFFSET [VALUE]": ["i8042 read"],
-    "the syntax is: alarm +SECONDS": ["alarm", "alarm +1 now 2"],
+    "the syntax is: alarm +SECONDS|GUEST_TIME [MOMENT]": ["alarm", "alarm +1 now 2"],
     "the syntax is: drain": ["drain 5"],
     "the syntax is: reset": ["reset 5"],
     "the syntax is: regs [serial|clock]": ["regs all"],
     "the syntax is: save FILE": ["save", "save a b", 'save "a'],
-    "XYZ is no offset, and no register: those are RBR": ["read XYZ", "sr XYZ"],
-    "256 is no offset": ["read 256"],
-    "-1 is no offset": ["read -1"],
-    "FOO is no value, and IER has the bits RDA THRE RLS MS": ["write IER FOO"],
+    f"XYZ is no offset, and no register: those are {' '.join(SERIAL)}": ["read XYZ", "sr XYZ", "write XYZ 5"],
+    f"XYZ is no offset of the clock, and no register: those are {' '.join(CLOCK)}": ["clock read XYZ", "cr now XYZ"],
+    # A number that is too large is one all the same: what it has to be is said, and nothing else.
+    **{f"{number} is no {what}: it is from 0 to {most}": [line.format(number)]
+       for what, most, lines in (
+           ("offset", "255", ["read {}", "write {} 5", "i8042 read {}", "i8042 write {} 5"]),
+           ("offset", "0xff", ["sr {}", "sw {} 5", "kr {}", "kw {} 5"]),
+           ("value", "255", ["write SCR {}", "write IER {}", "write LCR {}", "write FCR {}", "write 9 {}",
+                             "i8042 write 4 {}"]),
+           ("value", "0xff", ["sw SCR {}", "sw IER {}", "kw 4 {}"]),
+           ("offset of the clock", "65535", ["clock read {}", "clock write {} 5"]),
+           ("offset of the clock", "0xffff", ["cr now {}", "cw now {} 5"]),
+           ("value", "4294967295", ["clock write LR {}", "clock write IMSC {}"]),
+           ("value", "0xffffffff", ["cw now LR {}", "cw now IMSC {}"]),
+           ("guest time", "4294967295", ["alarm {}"]),
+           ("number of seconds", "4294967295", ["alarm +{}"]),
+           ("moment", "18446744073709551615", ["clock read DR {}"]),
+           ("moment", "0xffffffffffffffff", ["cr {} DR"]),
+           ("mask", "0xffffffffffffffff", ["refuse {}"]))
+       for line in lines for number in (hex(int(most, 0) + 1) if "0x" in most else int(most) + 1, "9" * 24,
+                                        *([-1] if what != "moment" else []))},  # where -1 is a second ago
+    "-5 is no number of seconds: it is from 0 to 4294967295": ["alarm +-5"],
+    "FOO is no value, and IER has the bits RDA THRE RLS MS": ["write IER FOO", "sw IER FOO", "write IER RDA|FOO"],
+    "FOO is no value, and LCR has the bits BREAK DLAB and formats as 8N1": ["write LCR FOO"],
+    "9N1 is no value, and LCR has": ["write LCR 9N1"], "8N3 is no value": ["write LCR 8N3", "write LCR DLAB|8N3"],
+    "8N1 is no value, and MCR has": ["write MCR 8N1"],
+    "A is no value: a character has quotes, as 'A'": ["write THR A", "write SCR A", "clock write LR A"],
     "RDA is no value": ["write FCR RDA"],
     "'AB' is not one byte": ["write THR 'AB'"],
-    "256 is no value": ["write THR 256"],
     'the text has no closing "': ['type "a', 'type "a" b', r'type "\"'],
     "no escape is called \\q": [r'type "\q"'],
     "1 to 128 bytes": ["type " + "x" * 129, 'type ""'],
-    "noon is no moment": ["clock read DR noon"],
+    "noon is no moment: it is now, now+5, or seconds since 1970": ["clock read DR noon", "cr noon DR"],
     "is no number of seconds": [f"clock read DR now+{1 << 64}", "clock read DR now+" + "9" * 5000],
-    "is no moment: it has 64 bits": [f"clock read DR now+{(1 << 64) - NOW}"],
-    "is no moment: it is now, now+5, or seconds since 1970: it has 64 bits": [f"clock read DR {1 << 64}"],
-    "4294967296 is no guest time: it has 32 bits": ["alarm 4294967296"],
-    "4294967296 is no number of seconds: it has 32 bits": ["alarm +4294967296"],
+    f"is no moment: it is from 0 to {(1 << 64) - 1}": [f"clock read DR now+{(1 << 64) - NOW}"],
     "guest time has 32 bits": ["alarm +4294967295", f"alarm +{(1 << 32) - NOW}"],
     "/: Is a directory": ["source /"],
     "/nowhere/at/all: No such file or directory": ["save /nowhere/at/all"],
-    "Input/output error": ["load /proc/self/mem"],
+    "/proc/self/mem: Input/output error": ["load /proc/self/mem", "source /proc/self/mem"],
     "No space left on device": ["save /dev/full"],
     "no call was made yet": ["diff", "type hi\nreset\ndiff"],
     "RBR is out of reach while DLAB is set": ["write LCR 0x83\nwrite DLL 1\nread RBR"],
@@ -115,11 +145,75 @@ DIALOGUES = [
     (["clock read DR", "clock write DR 1", "clock read ICR", "clock write LR 100", "clock write MR 99",
       "clock write MR 100", "clock read RIS"],
      ["DR = 0x6553f100  2023-11-14 22:13:20 UTC", "invalid: nothing can be written at 0x0000, DR",
-      "invalid: nothing can be read at 0x001c, ICR", "ok", "ok: that time is past",
+      "invalid: nothing can be read at 0x001c, ICR", "ok",
+      "ok, and no alarm: guest time 0x00000063, 1970-01-01 00:01:39 UTC, is past",
       "ok: guest time is there, so the alarm is up", "RIS = 0x00000001  ALARM"]),
     (["clock read 0xfe7", "clock read 2"],
      ["ID1 = 0x00000010", "invalid: nothing can be read at 0x0002"]),
     (["i8042 read 4", "i8042 write 4 0xfe", "i8042 write 4 0xff"], ["0x00", "reset", "ok"]),
+]
+
+# What a prompt says of lines that load a saved state, below the reply.
+PORT, CLOCK_SAVED = Serial().to_bytes(), Rtc().to_bytes()
+FOR_PORT, FOR_CLOCK = "a saved serial port has 17 to 81", "a saved clock has 33"
+LOADS = [
+    ("sl", b"", ["too short", f"0 bytes came, and {FOR_PORT}"]),
+    ("sl", PORT[:16], ["wrong length", f"16 bytes came, and {FOR_PORT}"]),
+    ("sl", PORT, ["ok"]),
+    ("sl", PORT[:6] + bytes([74]) + PORT[7:] + bytes(65), ["too many bytes", f"82 bytes came, and {FOR_PORT}"]),
+    ("sl", PORT + b"a", ["wrong length", f"18 bytes came, and {FOR_PORT}"]),
+    ("sl", CLOCK_SAVED, ["other device"]),
+    ("sl", bytes(17), ["not a saved state"]),
+    ("cl", CLOCK_SAVED[:1], ["too short", f"1 byte came, and {FOR_CLOCK}"]),
+    ("cl", CLOCK_SAVED[:-1], ["wrong length", f"32 bytes came, and {FOR_CLOCK}"]),
+    ("cl", CLOCK_SAVED + b"a", ["wrong length", f"34 bytes came, and {FOR_CLOCK}"]),
+    ("cl", CLOCK_SAVED, ["ok"]),
+]
+
+# Each command in each form of its usage, after lines, and what it says.
+NEW_CLOCK = ["  MR   0x00000000", "  LR   0x00000000", "  IMSC 0x00000000", "  RIS  0x00000000", "  no alarm is set",
+             "  interrupt line down"]
+CLOCK_ROWS = ["clock, in UTC", "  DR   0x6553f100  2023-11-14 22:13:20", *NEW_CLOCK]
+PORT_ROWS = ["serial port", "  IER  0x00", "  IIR  0xc1  none", "  LCR  0x03  8N1", "  MCR  0x08  OUT2",
+             "  LSR  0x60  THRE TEMT", "  MSR  0xb0  CTS DSR DCD", "  SCR  0x00", "  divisor 12, FIFO 0 of 64",
+             "  pending: nothing", "  line called 0 times, 0 bytes out"]
+USES = [
+    ("read REGISTER", [], "read LSR", ["LSR = 0x60  THRE TEMT"]),
+    ("write REGISTER VALUE", ["sw 03 83"], "write DLL 7", ["ok"]),
+    ('type "TEXT"', [], 'type "a b"', ["3 bytes received; no interrupt: IER does not enable RDA"]),
+    ("timeout", [], "timeout", ["no interrupt: no byte is held"]),
+    ("drain", ["sq 6162"], "drain", ['"ab"']),
+    ("output", ["sw 00 61"], "output", ['"a"']),
+    ("restore", ["sw 01 02"], "restore", ["restored; interrupt for THRE"]),
+    ("clock read REGISTER", [], "clock read DR", ["DR = 0x6553f100  2023-11-14 22:13:20 UTC"]),
+    ("clock read REGISTER MOMENT", [], "clock read DR 5", ["DR = 0x00000005  1970-01-01 00:00:05 UTC"]),
+    ("clock write REGISTER VALUE", [], "clock write CR 1", ["ok"]),
+    ("clock write REGISTER VALUE MOMENT", [], "clock write MR 9 5",
+     ["alarm set for guest time 0x00000009  1970-01-01 00:00:09 UTC"]),
+    ("alarm +SECONDS", [], "alarm +5", ["alarm set for guest time 0x6553f105  2023-11-14 22:13:25 UTC"]),
+    ("alarm +SECONDS MOMENT", [], "alarm +5 4", ["alarm set for guest time 0x00000009  1970-01-01 00:00:09 UTC"]),
+    ("alarm GUEST_TIME", [], "alarm 5", ["ok, and no alarm: guest time 0x00000005, 1970-01-01 00:00:05 UTC, is past"]),
+    ("alarm GUEST_TIME MOMENT", [], "alarm 5 4", ["alarm set for guest time 0x00000005  1970-01-01 00:00:05 UTC"]),
+    ("i8042 read OFFSET", [], "i8042 read 4", ["0x00"]),
+    ("i8042 write OFFSET VALUE", [], "i8042 write 4 254", ["reset"]),
+    ("regs", [], "regs", [*PORT_ROWS, *CLOCK_ROWS]),
+    ("regs serial", [], "regs serial", PORT_ROWS),
+    ("regs clock", [], "regs clock", CLOCK_ROWS),
+    ("why", [], "why", ["RDA is not pending: no call has raised it. IER does not enable it.",
+                        "THRE is not pending: no call has raised it. IER does not enable it."]),
+    ("diff", ["sw 07 01"], "diff", ["sw 07 01", "  SCR 0x00 -> 0x01"]),
+    ("trace", ["read 7", "si"], "trace", ["sr 07", "si"]),
+    ("trace on", ["trace on"], "read 7", ["sr 07", "SCR = 0x00"]),
+    ("trace off", ["trace on", "trace off"], "read 7", ["SCR = 0x00"]),
+    ("trace FILE", ["read 7"], "trace file", ["the calls since the last reset are in file"]),
+    ("script", ["read 7", "si"], "script", ["sr 07"]),
+    ("script FILE", ["read 7"], "script file", ["the script is in file"]),
+    ("save FILE", [], "save file", ["port and clock saved to file"]),
+    ("load FILE", ["sw 07 01", "save file", "reset", "load file"], "read 7", ["SCR = 0x01"]),
+    ("source FILE", ["sw 07 01", "save file", "reset", "source file"], "read 7", ["SCR = 0x01"]),
+    ("reset", ["sw 07 01", "reset"], "regs", [*PORT_ROWS, *CLOCK_ROWS]),
+    ("help NAME", [], "help drain", ["drain", "the guest's driver reads what is held."]),
+    ("quit", [], "help quit", ["quit", "ends, as exit and Ctrl-D do."]),   # which is tried below
 ]
 
 NEITHER = "is not pending: no call has raised it. IER does not enable it"
@@ -188,6 +282,10 @@ COMPLETIONS = [
 ]
 
 
+def words_of(usage):
+    return re.findall(r"[\w+]+", usage)
+
+
 class Words(FolderTest):
     def afresh(self, *lines):
         """What is said to lines in a new session, line by line."""
@@ -241,6 +339,31 @@ class Words(FolderTest):
             self.assertEqual(rows, said, lines)
         self.assertEqual(self.said("regs serial") + self.said("regs clock"), self.said("regs"))
 
+    def test_each_use_of_each_command(self):
+        """Each word of its usage is in one of the forms."""
+        usages = {entry.usage for entry in self.session_help() if entry.name not in LINES}
+        forms = {name: {word for form, *_ in USES if form.split()[0] == name for word in words_of(form)}
+                 for name in (usage.split()[0] for usage in usages)}
+        self.assertEqual({usage.split()[0]: {*words_of(usage)} for usage in usages}, forms)
+        self.addCleanup(os.chdir, os.getcwd())
+        os.chdir(self.folder)
+        for form, before, line, expected in USES:
+            self.afresh(*before)
+            self.assertEqual(expected, self.said(line), form)
+        for line in ("quit", "exit"):
+            self.assertRaises(Leave, self.afresh, line)
+
+    def session_help(self):
+        self.afresh()
+        return self.session.help.values()
+
+    def test_what_a_prompt_says_of_a_load(self):
+        for name, data, expected in LOADS:
+            self.afresh()
+            for explains in (False, True):
+                self.session._explains = explains
+                self.assertEqual(expected if explains else expected[:1], self.said(f"{name} {data.hex()}"))
+
     def test_a_load(self):
         """It asks for what is pending, each time anew. If that is refused, the port stays."""
         self.afresh("sw 01 01", "sq 61")
@@ -265,7 +388,7 @@ class Words(FolderTest):
                              (quoted(b"a" * (64 + count)), shown("a" * (24 + count))))
 
     def test_a_register_without_bits_has_none_in_a_fault(self):
-        with self.assertRaisesRegex(ScriptError, "^FOO is no value$"):
+        with self.assertRaisesRegex(ScriptError, "^FOO is no value: a character has quotes, as 'A'$"):
             self.afresh("write SCR FOO")
 
     def test_help_names_each_command(self):

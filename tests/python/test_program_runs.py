@@ -1,0 +1,97 @@
+# SPDX-License-Identifier: Apache-2.0 OR BSD-3-Clause
+"""Scripts as `./superio` runs them without the shell: in all that a run shows, as the program of the kit. Run the
+tests of that program by hand over this one, with `--program superio`: tests/devices/test_scripts.py, test_reading.py
+and test_failing_io.py."""
+import os
+from unittest import mock
+
+import pytest
+from harness import at_least
+from script_tests import FURTHER_TESTS, TESTS, Script, of_documents, scripts_of
+
+from superio import board, program
+
+KEPT = [*(test for path in sorted(TESTS.glob("*.txt")) for test in scripts_of(path)),
+        *(test.by_program for path in sorted(FURTHER_TESTS.glob("*.txt")) for test in scripts_of(path)),
+        *(test.by_program for test in of_documents())]
+LONGEST = 65_536
+# A script of each kind of end, and longer than is written at once.
+LONG = Script("long", b"st\n" * 2_000, f"{0:016x}\n".encode() * 2_000)
+BAD = Script("bad", b"kr 04\nkr 5\nkr 04\n", b"00\n", "bad line 2")
+FAULT = "input or output fault"
+
+
+class Runs:
+    """A folder with a script and the replies to it."""
+
+    def __init__(self, folder):
+        self.script, self.replies = folder / "script", folder / "replies"
+        self.taken = 0
+
+    def ended(self, script):
+        """The status of a run, what it prints and what it says."""
+        self.script.write_bytes(script)
+        with open(self.script, "rb", 0) as source, open(self.replies, "wb", 0) as output:
+            end = program.run(source.fileno(), output.fileno())
+            self.taken = os.lseek(source.fileno(), 0, os.SEEK_CUR)
+        return end.status, self.replies.read_bytes(), f"{end.said}\n".encode() if end.said else b""
+
+
+@pytest.fixture
+def runs(tmp_path):
+    return Runs(tmp_path)
+
+
+def test_kept_scripts(runs):
+    for test in at_least(169, [*KEPT, LONG, BAD]):
+        assert test.difference(runs.ended(test.script)) is None, test.place
+
+
+@pytest.mark.parametrize("size", [0, 6, LONGEST - 1, LONGEST, LONGEST + 1, LONGEST + 2, 2 * LONGEST])
+def test_no_byte_is_read_past_the_limit(runs, size):
+    status, *_ = runs.ended(b"kr 04\n" * (size // 6) + b"\n" * (size % 6))
+    assert (runs.taken, status) == (min(size, LONGEST + 1), 4 if size > LONGEST else 1 if size % 6 else 0)
+
+
+@pytest.mark.parametrize("most", [1, 7, 8_192])
+def test_pieces(runs, most):
+    """A read gives what is there, and a write takes what fits."""
+    read, write, written = os.read, os.write, []
+    with mock.patch("os.read", lambda file, count: read(file, min(count, most))), \
+            mock.patch("os.write", lambda file, data: written.append(len(data)) or write(file, data[:most])):
+        for test in LONG, BAD:
+            assert test.difference(runs.ended(test.script)) is None
+    assert max(written) == 8_192
+
+
+@pytest.mark.parametrize("test", [LONG, BAD], ids=lambda it: it.place)
+@pytest.mark.parametrize("count", [0, 1, 3, 9_000])
+def test_a_fault(runs, test, count):
+    """Of a read, after so many bytes, before which nothing is printed; or of a write, even if a line was bad."""
+    left, read, write = [count], os.read, os.write
+
+    def with_fault(call):
+        def called(file, what):
+            if not left[0]:
+                raise OSError("a fault")
+            done = call(file, min(what, left[0]) if isinstance(what, int) else what[:left[0]])
+            left[0] -= len(done) if isinstance(done, bytes) else done
+            return done
+        return called
+
+    count = min(count, len(test.script) - 1)
+    left[0] = count
+    with mock.patch("os.read", with_fault(read)):
+        assert test._replace(replies=b"", end=FAULT).difference(runs.ended(test.script)) is None
+    left[0] = min(count, len(test.replies) - 1)
+    expected = test._replace(replies=test.replies[:left[0]], end=FAULT)
+    with mock.patch("os.write", with_fault(write)):
+        assert expected.difference(runs.ended(test.script)) is None
+
+
+@pytest.mark.parametrize("name, replies", [("ss", b"00\n"), ("sc", b"")])
+def test_refused_memory(runs, name, replies):
+    """At an `ss` the replies to the lines before it are printed, and elsewhere none."""
+    refused = {name: board.LINES[name]._replace(reply=mock.Mock(side_effect=MemoryError))}
+    with mock.patch.dict(board.LINES, refused):
+        assert runs.ended(f"kr 04\n{name}\nkr 04\n".encode()) == (3, replies, b"out of memory\n")
