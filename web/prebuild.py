@@ -6,9 +6,9 @@
 
 Writes prebuilt/wasm32/superio.wasm, its lines in prebuilt/SHA256SUMS and prebuilt/SOURCES, and bindings/js/module.mjs,
 which has its bytes and the tables of the Python package. They are the same on every machine. It writes what these
-tables have into bindings/js/superio.d.ts: the fields of states, and why bytes are no saved state. Needs Debian 12's
-rustc, libstd-rust-dev-wasm32 and lld. Prints nothing if all is well. Otherwise it says why on standard error, and exits
-1.
+tables have into bindings/js/superio.d.ts: the names of registers, the fields of states, and why bytes are no saved
+state. Needs Debian 12's rustc, libstd-rust-dev-wasm32 and lld. Prints nothing if all is well. Otherwise it says why on
+standard error, and exits 1.
 """
 import base64
 import ctypes
@@ -18,6 +18,7 @@ import re
 import shutil
 import sys
 import tempfile
+import textwrap
 from pathlib import Path
 
 ROOT = Path(__file__).resolve().parent.parent
@@ -108,8 +109,15 @@ def embedded():
     return "\n".join([*lines, ""])
 
 
+def registers_by_type():
+    """The names of registers, by the names of their types."""
+    return {"ReadableRegister": [one.name for one in SERIAL.values() if "r" in one.access],
+            "WritableRegister": [one.name for one in SERIAL.values() if "w" in one.access],
+            "ClockRegister": [*CLOCK]}
+
+
 def declared():
-    """The text of superio.d.ts, with the fields of states and the reasons by the Python package."""
+    """The text of superio.d.ts, with the registers, the fields of states and the reasons by the Python package."""
     text = DECLARED.read_text(encoding="utf-8")
     for state in (SerialState, RtcState, ConsoleState):
         lines = []
@@ -118,6 +126,9 @@ def declared():
             is_big = kind == "int" and "int64" in default
             lines.append(f"  {camel(name)}: {'bigint' if is_big else TYPES[kind]};")
         text = re.sub(rf"(?<=interface {state.__name__} {{\n)[^}}]*", "\n".join([*lines, ""]), text)
+    for name, registers in registers_by_type().items():
+        union = textwrap.indent(textwrap.fill(" | ".join(f'"{it}"' for it in registers), 110), "  ")
+        text = re.sub(rf"(?<=export type {name} =)[^;]*", f"\n{union}", text)
     reasons = "".join(f'\n    | "{reason}"' for reason in SAVED_STATE_ERRORS)
     return re.sub(r"(?<=readonly reason:)[^;]*", reasons, text)
 

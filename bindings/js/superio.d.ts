@@ -7,6 +7,24 @@
  * RegisterError if it would reach another one.
  */
 
+/** The registers of a port that a read can reach. DLAB decides whether it does. */
+export type ReadableRegister =
+  "RBR" | "DLL" | "IER" | "DLM" | "IIR" | "LCR" | "MCR" | "LSR" | "MSR" | "SCR";
+/** The registers of a port that a write can reach. DLAB decides whether it does. */
+export type WritableRegister =
+  "THR" | "DLL" | "IER" | "DLM" | "FCR" | "LCR" | "MCR" | "LSR" | "MSR" | "SCR";
+/** The registers of the clock. A name may also begin with RTC. */
+export type ClockRegister =
+  "DR" | "MR" | "LR" | "CR" | "IMSC" | "RIS" | "MIS" | "ICR" | "ID0" | "ID1" | "ID2" | "ID3" | "ID4" | "ID5" |
+  "ID6" | "ID7";
+/** Where a guest reads a port: an offset, 0 to 255, or the name of a register, in upper or lower case. */
+export type ReadOffset = number | ReadableRegister | Lowercase<ReadableRegister>;
+/** Where a guest writes to a port: an offset, 0 to 255, or the name of a register, in upper or lower case. */
+export type WriteOffset = number | WritableRegister | Lowercase<WritableRegister>;
+/** Where a guest accesses the clock: an offset, 0 to 0xFFFF, or the name of a register, in upper or lower case. */
+export type ClockOffset =
+  number | ClockRegister | `RTC${ClockRegister}` | Lowercase<ClockRegister | `RTC${ClockRegister}`>;
+
 /** What a call of a console leaves to you. */
 export interface Work {
   /**
@@ -144,13 +162,13 @@ export class Console {
    * of IER enables RDA and not THRE.
    */
   constructor(isPolled?: boolean);
-  /** The guest reads at an offset, 0 to 255. */
-  read(offset: number | string): ConsoleRead;
+  /** The guest reads at an offset. */
+  read(offset: ReadOffset): ConsoleRead;
   /**
-   * The guest writes a value, 0 to 255, at an offset, 0 to 255. A byte that it sends waits for its reader, or is
-   * dropped and counted if 4,096 bytes wait. To lose none, hold the guest while `isFull` is true after this call.
+   * The guest writes a value, 0 to 255, at an offset. A byte that it sends waits for its reader, or is dropped and
+   * counted if 4,096 bytes wait. To lose none, hold the guest while `isFull` is true after this call.
    */
-  write(offset: number | string, value: number): Work;
+  write(offset: WriteOffset, value: number): Work;
   /** What your event loop waits for now. */
   wants(): Wants;
   /**
@@ -219,10 +237,10 @@ export class Console {
 export class Serial {
   /** A new port: divisor 12, 8 bits a character, OUT2 set, and nothing enabled, pending or held. */
   constructor();
-  /** The guest reads at an offset, 0 to 255. */
-  read(offset: number | string): ReadEffects;
-  /** The guest writes a value, 0 to 255, at an offset, 0 to 255. */
-  write(offset: number | string, value: number): WriteEffects;
+  /** The guest reads at an offset. */
+  read(offset: ReadOffset): ReadEffects;
+  /** The guest writes a value, 0 to 255, at an offset. */
+  write(offset: WriteOffset, value: number): WriteEffects;
   /** Bytes arrive for the guest. Keep those that are not accepted. */
   enqueue(bytes: Uint8Array): EnqueueEffects;
   /**
@@ -269,12 +287,12 @@ export class Rtc {
   /** A new clock: guest time is the host's, and no alarm is set. */
   constructor();
   /**
-   * The guest reads four bytes at an offset, 0 to 0xFFFF. `value` is their number, lowest byte first. If there is
-   * nothing to read at this offset, `invalidRead` is true and `value` is 0.
+   * The guest reads four bytes at an offset. `value` is their number, lowest byte first. If there is nothing to read at
+   * this offset, `invalidRead` is true and `value` is 0.
    */
-  read(offset: number | string, now: number | bigint): { value: number; invalidRead: boolean };
-  /** The guest writes a value of 32 bits at an offset, 0 to 0xFFFF. `invalidWrite`: this offset takes no write. */
-  write(offset: number | string, value: number, now: number | bigint): { invalidWrite: boolean };
+  read(offset: ClockOffset, now: number | bigint): { value: number; invalidRead: boolean };
+  /** The guest writes a value of 32 bits at an offset. `invalidWrite`: this offset takes no write. */
+  write(offset: ClockOffset, value: number, now: number | bigint): { invalidWrite: boolean };
   /** Whether the clock's interrupt line is up: bit 0 of `ris & imsc`. Set your line to it after each access. */
   interruptLine(): boolean;
   /**

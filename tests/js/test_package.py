@@ -9,34 +9,87 @@ import tarfile
 import pytest
 from console import random_runs
 from documents import Document
-from harness import ROOT, at_least, check
+from harness import ROOT, at_least, check, run
 from recorded import every_answer, recording_of, recordings
 from script_tests import board_scripts
 from seeds import seeds
 
 PACKAGE = ROOT / "bindings" / "js"
 LICENSES = "LICENSE", "LICENSES"
+VERSION = (ROOT / "VERSION").read_text("ascii").strip()
 REPLAY, SCRIPTS, CONSOLES = (PACKAGE / "tests" / f"{name}.mjs"
                              for name in ("replay_calls", "run_scripts", "replay_consoles"))
 RANDOM_SCRIPTS, RANDOM_CONSOLES = 2_000, 300
 RECORDED = {"every answer": recording_of(every_answer()), **recordings()}
 # The first program of a document, as a module that `require` serves has it.
 IMPORT = re.compile(r'^import (\{.*\}) from ("superio");', re.M)
-# What TypeScript takes for each kind of module. The last line has a wrong type, so its error shows that types are
-# found.
-TYPED = """import { Console, type ConsoleState, Rtc, SavedStateError, Serial, type Wants, type Work } from "superio";
-const port: Serial = new Serial();
-const due: number | null = new Rtc().alarmDue(5n);
+# What TypeScript takes for each kind of module, and lines of which it refuses each.
+TYPED = """import { Console, I8042, Rtc, SavedStateError, Serial, type ClockOffset, type ReadOffset } from "superio";
+import { type ConsoleState, type RtcState, type SerialState, type Wants, type Work, type WriteOffset } from "superio";
+const [port, clock, made, controller] = [new Serial(), new Rtc(), new Console(true), new I8042()];
+"""
+TAKEN = """const due: number | null = clock.alarmDue(5n) ?? clock.alarmDue(5);
 export const reason = (error: SavedStateError): string => error.reason;
 export const held: Uint8Array = port.state.inBuffer;
-const made: Console = new Console(true);
-export const work: Work = made.read("IER").work;
+export const work: Work[] = [made.read("IER").work, made.write("ier", 1), made.turn(), made.setPolled(false)];
 export const wants: Wants = made.wants();
 export const state: ConsoleState = made.clone().state;
-export const dropped: bigint = made.dropped();
+export const dropped: bigint = made.dropped() + state.dropped + clock.state.offset;
 made.consume(made.output().length);
-// @ts-expect-error
-export const wrong: string = port.read("IER").byte ?? due;
+port.read(5); port.read("LSR"); port.read("lsr"); port.read("RBR"); port.read("DLL"); port.write("THR", 0x21);
+port.write("FCR", 7); port.write("lcr", 0x83); made.read("IIR"); made.write("dlm", 0); made.write(0, 1);
+clock.read("DR", 5); clock.read("rtcdr", 5n); clock.read("ID7", 5); clock.write("RTCIMSC", 1, 5); clock.write(4, 1, 5n);
+export const places: [ReadOffset, WriteOffset, ClockOffset] = ["SCR", "scr", "RTCID0"];
+export const other: boolean = controller.write(4, 0xfe).resets || clock.read(0, 0).invalidRead;
+export const count: number = port.characterTimeout() + port.fifoCapacity() + port.enqueue(held).accepted + (due ?? 0);
+export const saved: SerialState = Serial.fromBytes(port.toBytes()).state;
+export const kept: RtcState = Rtc.fromState(clock.state).state;
+"""
+REFUSED = """export const byte: string = port.read("IER").byte;
+export const never: number = clock.alarmDue(5);
+export const always: null = clock.alarmDue(5);
+export const text: bigint | null = clock.alarmDue(5n);
+export const sum: number = made.dropped();
+export const offset: number = clock.state.offset;
+export const lr: bigint = clock.state.lr;
+port.read("IRR");
+port.read("THR");
+port.read("FCR");
+port.read("Lsr");
+port.read("");
+port.write("RBR", 0);
+port.write("IIR", 0);
+port.write("LSB", 0);
+made.read("XYZ");
+made.read("FCR");
+made.write("MR", 0);
+made.write("iir", 0);
+clock.read("LSR", 0);
+clock.read("XDR", 0);
+clock.write("RTC", 0, 0);
+clock.read("DR");
+clock.write("LR", 5n, 5);
+clock.write("LR", 5);
+clock.read("DR", "now");
+controller.read("DR");
+port.read(5n);
+port.write(7, "A");
+port.enqueue("A");
+port.enqueue([65]);
+made.receive("A");
+made.consume(1n);
+made.setPolled(1);
+made.wants().input = true;
+made.turn().byte;
+new Console(1);
+new Serial(1);
+Serial.fromBytes("53");
+Rtc.fromState(port.state);
+Serial.fromState({ ...port.state, scratch: 5n });
+Console.fromState({ ...made.state, dropped: 5 });
+Rtc.fromState({ lr: 5 });
+clock.state = clock.state;
+export const reason: "too long" = new SavedStateError("too short").reason;
 """
 
 
@@ -143,9 +196,21 @@ def test_program_over_the_package(user, form):
     check(["node", f"--input-type={form}", "--eval", text], printed, cwd=user)
 
 
+@pytest.mark.needs("npm")
+def test_the_manifest_can_be_required(user):
+    program = 'console.log(require("superio/package.json").version)'
+    check(["node", "--input-type=commonjs", "--eval", program], f"{VERSION}\n", cwd=user)
+
+
 @pytest.mark.needs("npm", "tsc")
 @pytest.mark.parametrize("ending", ["mts", "cts"])
 def test_types(user, ending):
-    (user / f"typed.{ending}").write_text(TYPED, "ascii")
-    check(["tsc", "--strict", "--noEmit", "--target", "es2022", "--module", "node16", "--moduleResolution", "node16",
-           f"typed.{ending}"], cwd=user)
+    """A file compiles, and another has an error in each line of its own."""
+    for name, lines in ("taken", TAKEN), ("refused", REFUSED):
+        (user / f"{name}.{ending}").write_text(TYPED + lines, "ascii")
+    ran = run(["tsc", *"--strict --noEmit --target es2022 --module node16 --moduleResolution node16".split(),
+               f"taken.{ending}", f"refused.{ending}"], cwd=user)
+    found = re.findall(r"^(\S+)\((\d+),\d+\): error", ran.stdout, re.M)
+    first = len(TYPED.splitlines()) + 1
+    expected = {(f"refused.{ending}", str(first + place)) for place in range(len(REFUSED.splitlines()))}
+    assert {*found} == expected, ran.stdout

@@ -378,8 +378,9 @@ test("package.json names the files that the package has, and those that a releas
   const isOwn = (name) => !["package.json", "tests"].includes(name);
   const there = readdirSync(new URL("..", import.meta.url)).filter(isOwn);
   assert.deepEqual(new Set(files), new Set([...there, "LICENSE", "LICENSES"]));
-  const named = [main, types, ...Object.values(exports).flatMap((one) => Object.values(one))];
+  const named = [main, types, ...Object.values(exports["."]).flatMap((one) => Object.values(one))];
   assert.deepEqual(named.filter((name) => !files.includes(name.slice(2))), []);
+  assert.deepEqual(createRequire(import.meta.url)("superio/package.json"), JSON.parse(read("package.json")));
 });
 
 test("require gives what import does", () => {

@@ -1,0 +1,169 @@
+// SPDX-License-Identifier: Apache-2.0 OR BSD-3-Clause
+/**
+ * Numbers at the edges of their types, and that superio.d.ts declares the types of what each call takes and gives.
+ */
+import assert from "node:assert/strict";
+import { readFileSync } from "node:fs";
+import test from "node:test";
+import { CLOCK, SERIAL } from "../registers.mjs";
+import * as superio from "../superio.mjs";
+
+const { Console, I8042, Rtc, Serial } = superio;
+
+const DAY = 24 * 60 * 60;
+const [MOST_16, MOST_31, MOST_32] = [16, 31, 32].map((bits) => 2 ** bits - 1);
+const [MOST_63, MOST_64] = [63n, 64n].map((bits) => 2n ** bits - 1n);
+// Seconds of 32 bits: the edges of a day, and of 16, 31 and 32 bits.
+const SECONDS = [0, 1, DAY - 1, DAY, DAY + 1, MOST_16, MOST_16 + 1, MOST_31 - 1, MOST_31, MOST_31 + 1, MOST_32 - DAY,
+  MOST_32 - 1, MOST_32];
+// Moments, of which the low 32 bits count, as numbers and as big integers.
+const MOMENTS = [...SECONDS, MOST_32 + 1, MOST_32 + 1 + DAY, Number.MAX_SAFE_INTEGER, ...SECONDS.map(BigInt),
+  2n ** 32n, 2n ** 53n, MOST_63, 2n ** 63n, MOST_64];
+const hostOf = (now) => Number(BigInt.asUintN(32, BigInt(now)));
+
+test("in how many seconds an alarm is due, at any moment after which the host's 32 bits last until then", () => {
+  let number = 0;
+  for (const now of MOMENTS) {
+    for (const due of SECONDS.slice(1).filter((it) => hostOf(now) + it <= MOST_32)) {
+      for (const guestTime of [0, MOST_32 - due]) {
+        const clock = new Rtc();
+        assert.equal(clock.alarmDue(now), null);
+        clock.write("LR", guestTime, now);
+        clock.write("MR", guestTime + due, now);
+        for (const passed of [0, 1, due - 1, due]) {
+          const later = typeof now === "bigint" ? now + BigInt(passed) : now + passed;
+          if (Number.isSafeInteger(later) || typeof later === "bigint") {
+            assert.equal(clock.alarmDue(later), due - passed, `${now}, ${due}, ${passed}`);
+            number += 1;
+          }
+        }
+      }
+    }
+  }
+  assert.ok(number > 1000, `${number}`);
+});
+
+test("an alarm over the end of the host's 32 bits", () => {
+  for (const [now, match, due] of [[MOST_32, 1, 2], [MOST_32, 2, 3], [1, MOST_32, null],
+    [MOST_31 + 1, MOST_31, MOST_31], [MOST_31 + 1, MOST_31 + 1, null]]) {
+    const clock = new Rtc();
+    clock.write("LR", 0, now);
+    clock.write("MR", match, now);
+    assert.equal(clock.alarmDue(now), due, `${now}, ${match}`);
+  }
+});
+
+test("a clock shows each value of 32 bits, and the low 32 bits of any moment", () => {
+  for (const now of MOMENTS) assert.deepEqual(new Rtc().read("DR", now), { value: hostOf(now), invalidRead: false });
+  for (const value of SECONDS) {
+    const clock = new Rtc();
+    clock.write("LR", value, 5);
+    clock.write("MR", value, 5);
+    assert.deepEqual(["LR", "MR", "DR"].map((name) => clock.read(name, 5).value), [value, value, value]);
+    const state = { lr: value, mr: MOST_32 - value, imsc: value, ris: MOST_32 - value, armed: true };
+    for (const offset of [-(2n ** 63n), -(2n ** 32n), -1n, 0n, 2n ** 31n, 2n ** 32n, MOST_63]) {
+      assert.deepEqual(Rtc.fromState({ ...state, offset }).state, { ...state, offset });
+    }
+  }
+});
+
+test("a console shows each number of bytes that were dropped", () => {
+  for (const dropped of [0n, 1n, 2n ** 31n, 2n ** 32n, 2n ** 53n, MOST_63, 2n ** 63n, MOST_64]) {
+    const made = Console.fromState({ ...new Console().state, dropped });
+    assert.deepEqual([made.dropped(), made.state.dropped], [dropped, dropped]);
+  }
+});
+
+// What superio.d.ts declares, by what calls take and give.
+
+const DECLARATIONS = readFileSync(new URL("../superio.d.ts", import.meta.url), "utf8").replace(/\/\*\*[^]*?\*\//g, "");
+const aliases = Object.fromEntries(Array.from(DECLARATIONS.matchAll(/^export type (\w+) =([^;]*);/gm),
+  ([, name, text]) => [name, text]));
+const objects = new Set(Array.from(DECLARATIONS.matchAll(/^export (?:class|interface) (\w+)/gm), ([, name]) => name));
+
+/** The kinds of values of a type, as `kindOf` names them. */
+function kindsOf(type) {
+  const parts = type.trim().startsWith("{") ? [type.trim()] : type.split("|").map((one) => one.trim()).filter(Boolean);
+  return [...new Set(parts.flatMap((one) => {
+    if (aliases[one]) return kindsOf(aliases[one]);
+    if (one.startsWith("{") || objects.has(one)) return ["object"];
+    if (/^["`]|^Lowercase<|\}`>?$/.test(one)) return ["string"];
+    return one === "void" ? ["undefined"] : [one];
+  }))].sort();
+}
+
+const kindOf = (value) => value === null ? "null" : value instanceof Uint8Array ? "Uint8Array" : typeof value;
+
+/** The declared members of a class: each with its parameters' types, where one may be left out, and its result's. */
+function declaredOf(name) {
+  const [, body] = new RegExp(`^export class ${name} \\{\\n(.*?)\\n\\}`, "ms").exec(DECLARATIONS);
+  const typesOf = (takes) => takes.split(", ").filter(Boolean).map((one) => {
+    const [, mark, type] = /^\w+(\??): (.*)$/.exec(one);
+    return [...kindsOf(type), ...mark ? ["undefined"] : []].sort();
+  });
+  const members = body.matchAll(/^  (?:static |readonly )?(\w+)(?:\((.*)\))?(?:: (.*))?;$/gm);
+  return Array.from(members, ([, member, takes = "", gives]) => ({ member, gives, takes: typesOf(takes) }));
+}
+
+const alarm = (due) => {
+  const clock = new Rtc();
+  clock.write("MR", 5 + due, 5);
+  return clock;
+};
+// Devices of each class, in which each member is seen to give all that it can, and arguments for the members.
+const MADE = {
+  Console: [[() => new Console()], { constructor: [true], read: [5], write: [7, 1], receive: [new Uint8Array(1)],
+    consume: [1], setPolled: [true], fromBytes: [new Console().toBytes()], fromState: [new Console().state] }],
+  Serial: [[() => new Serial()], { read: [5], write: [7, 1], enqueue: [new Uint8Array(1)],
+    fromBytes: [new Serial().toBytes()], fromState: [new Serial().state] }],
+  Rtc: [[() => new Rtc(), () => alarm(9), () => alarm(MOST_32 - 5)], { read: [4, 5], write: [8, 1, 5], alarmDue: [5],
+    fromBytes: [new Rtc().toBytes()], fromState: [new Rtc().state] }],
+  I8042: [[() => new I8042()], { read: [4], write: [4, 0xfe] }],
+};
+const SAMPLES = { number: 1, bigint: 1n, string: "MR", boolean: true, null: null, undefined, object: {},
+  Uint8Array: new Uint8Array(1) };
+
+/** Calls a member of a device, or makes one. */
+function call(device, member, values) {
+  if (member === "constructor") return new device.constructor(...values);
+  const owner = Object.hasOwn(device.constructor, member) ? device.constructor : device;
+  return typeof owner[member] === "function" ? owner[member](...values) : owner[member];
+}
+
+for (const [name, [makers, values]] of Object.entries(MADE)) {
+  test(`each member of ${name} gives values of the types that are declared, and of no other`, () => {
+    for (const { member, gives } of declaredOf(name).filter((one) => one.member !== "constructor")) {
+      const given = makers.map((made) => call(made(), member, values[member] ?? []));
+      assert.deepEqual([...new Set(given.map(kindOf))].sort(), kindsOf(gives), `${member}: ${gives}`);
+      const fields = /^\{ (.*) \}$/.exec(gives)?.[1].split("; ");
+      if (fields) assert.deepEqual(fields, Object.entries(given[0]).map(([field, it]) => `${field}: ${kindOf(it)}`));
+    }
+  });
+
+  test(`each parameter of ${name} takes values of the types that are declared, and of no other`, () => {
+    for (const { member, takes } of declaredOf(name)) {
+      for (const [place, types] of takes.entries()) {
+        const samples = { ...SAMPLES, string: name === "Rtc" ? "MR" : "SCR",
+          object: member === "fromState" ? values[member][0] : {} };
+        const taken = Object.keys(samples).filter((one) => {
+          try {
+            call(makers[0](), member, Object.assign([...values[member]], { [place]: samples[one] }));
+          } catch (error) {
+            return !(error instanceof TypeError);
+          }
+          return true;
+        });
+        assert.deepEqual(taken.sort(), types, `${member}, parameter ${place + 1}`);
+      }
+    }
+  });
+}
+
+test("the declared names of registers are those that an access can reach", () => {
+  const declared = (name) => Array.from(aliases[name].matchAll(/"(\w+)"/g), ([, one]) => one);
+  const reached = (letter) =>
+    Object.values(SERIAL).filter(({ access }) => access.includes(letter)).map(({ name }) => name);
+  assert.deepEqual(declared("ReadableRegister"), reached("r"));
+  assert.deepEqual(declared("WritableRegister"), reached("w"));
+  assert.deepEqual(declared("ClockRegister"), Object.keys(CLOCK));
+});
