@@ -467,6 +467,11 @@ async function toClipboard(text, what) {
   }
 }
 
+/** What a saved port has to be, and the replies that say that one is too short or too long. */
+const LEAST_SAVED = new Board().serial.toBytes().length;
+const SAVED_PORT = `A saved port is ${LEAST_SAVED} to ${LEAST_SAVED + 64} bytes, of two hexadecimal digits each.`;
+const OF_LENGTH = ["too short", "wrong length", "too many bytes"];
+
 const CLICKS = {
   play() {
     openBoot();
@@ -480,8 +485,9 @@ const CLICKS = {
   "as-host"() { takeOver(); show(); id("input").focus(); },
   save() { id("saved").value = perform("sb").reply; },
   load() {
-    const isGood = perform(`sl ${id("saved").value.replace(/\s+/g, "")}`);
-    if (!isGood) refuseField(id("saved"), "A saved port is 1 to 128 bytes, of two hexadecimal digits each.");
+    const call = perform(`sl ${id("saved").value.replace(/\s+/g, "")}`);
+    const reason = call ? `${call.reply}: ` : "";
+    if (!call || OF_LENGTH.includes(call.reply)) refuseField(id("saved"), `${reason}${SAVED_PORT}`);
   },
   serve() { serve(); show(); },
   "paste-many"() {

@@ -48,7 +48,30 @@ const STEPS = {
   fill: (id, ...words) => set(id, words.join(" "), "input"),
   enter: (id, ...words) => { STEPS.fill(id, ...words); by(id).form.requestSubmit(); },
   choose: (id, value) => set(id, value, "change"),
+  keys: (...keys) => keys.forEach((key) => STEPS.key(key)),
+  hash: async (hash) => {
+    by("said").textContent = "";
+    page.location.hash = hash;
+    await until(() => by("said").textContent);
+  },
+  // A picture of the playback at a speed, so many milliseconds after its start, and the number of calls is then seen.
+  picture: (speed, milliseconds) => {
+    let turn = null;
+    const told = page.performance.now();
+    page.requestAnimationFrame = (call) => { turn = call; };
+    page.performance.now = () => told;
+    by("speed").value = speed;
+    by("play").click();
+    turn(told + Number(milliseconds));
+    by("play").click();
+  },
   key: (key) => by("list").dispatchEvent(new KeyboardEvent("keydown", { key, cancelable: true })),
+  /** Runs a pasted script: lines, then others so many times, with a semicolon after each. */
+  script: (...words) => {
+    const [, first, times, others] = /^(.*) (\d+) times (.*)$/.exec(words.join(" "));
+    by("script").value = (first + others.repeat(times)).replaceAll(";", "\n");
+    by("run").click();
+  },
   line: (number) => by("list").children[number - 1].click(),
   copy: async () => {
     by("said").textContent = copied = "";
@@ -69,9 +92,10 @@ const STEPS = {
 /** What is seen. An access of the clock by hand has the host's time. */
 const SEEN = {
   lines: () => Array.from(by("list").children, ({ children: [, line, reply] }) =>
-    `${line.textContent}=${reply.textContent}`).join(" ").replace(/(c[rw]) (?!0{15}1)\w{16}/, "$1 NOW"),
+    `${line.textContent}=${reply.textContent}`).join(" ").replace(/(c[rw]) (?!0{15}1)\w{16}/g, "$1 NOW"),
   now: () => texts("#list .now").join(),
   values: () => texts("#registers .register:not([hidden]) code").join(" "),
+  notes: () => texts("#registers .register:not([hidden]) .bits .quiet").filter(Boolean).join(", "),
   names: () => texts("#registers .register:not([hidden]) b").join(" "),
   changed: () => texts("#registers .changed b").join(" "),
   flipped: () => texts("#registers .flipped").join(" "),
