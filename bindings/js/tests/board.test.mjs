@@ -65,7 +65,8 @@ test("dates, counts, bytes and lines as the page writes them", () => {
     assert.equal(told(callOf(new Board(), line)), `DR = 0x${hex(seconds, 8)}  ${date} UTC`);
   }
   for (const [count, text] of [[0, "0 bytes"], [1, "1 byte"], [2, "2 bytes"], [999, "999 bytes"],
-    [1_000, "1,000 bytes"], [65_536, "65,536 bytes"], [2 ** 31, "2,147,483,648 bytes"], [2 ** 32 - 1, "4,294,967,295 bytes"]]) {
+    [1_000, "1,000 bytes"], [65_536, "65,536 bytes"], [2 ** 31, "2,147,483,648 bytes"],
+    [2 ** 32 - 1, "4,294,967,295 bytes"]]) {
     assert.equal(plural(count, "byte"), text);
   }
   for (let byte = 0; byte < 256; byte += 1) {
@@ -73,7 +74,8 @@ test("dates, counts, bytes and lines as the page writes them", () => {
     assert.deepEqual(bytesOf(hexOf(Uint8Array.of(byte, 255 - byte))), Uint8Array.of(byte, 255 - byte));
   }
   for (const [value, digits, text] of [[0, 2, "00"], [255, 2, "ff"], [2 ** 31, 8, "80000000"],
-    [2 ** 32 - 1, 8, "ffffffff"], [2n ** 63n, 16, "8000000000000000"], [2n ** 64n - 1n, 16, "f".repeat(16)], [2 ** 53 - 1, 16, "001fffffffffffff"]]) {
+    [2 ** 32 - 1, 8, "ffffffff"], [2n ** 63n, 16, "8000000000000000"], [2n ** 64n - 1n, 16, "f".repeat(16)],
+    [2 ** 53 - 1, 16, "001fffffffffffff"]]) {
     assert.equal(hex(value, digits), text);
   }
   assert.deepEqual([short("a".repeat(24), 24), short("a".repeat(25), 24)], ["a".repeat(24), `${"a".repeat(22)}..`]);

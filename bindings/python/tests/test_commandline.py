@@ -112,6 +112,8 @@ SUPERIO = f"{sys.executable} -m superio"
 # Commands for bash, and the status, the output and a part of the errors.
 COMMANDS = [
     (f"yes 'kr 04' | {SUPERIO} --shell | head -n 1; exit ${{PIPESTATUS[1]}}", (128 + signal.SIGPIPE, "00\n", "")),
+    (f"yes st | head -n 20000 | {SUPERIO} | head -n 1; exit ${{PIPESTATUS[2]}}",
+     (128 + signal.SIGPIPE, "0000000000000000\n", "")),
     (f"{SUPERIO} view {BOOT} --table | head -n 1; exit ${{PIPESTATUS[0]}}", (128 + signal.SIGPIPE, "piece 1\n", "")),
     (f"echo 'kr 04' | {SUPERIO} --shell > /dev/full", (2, "", "No space left on device")),
     (f"printf 'kr 04\\nkr 4' | {SUPERIO} > /dev/full", (2, "", "input or output fault\n")),

@@ -205,7 +205,8 @@ class Traces(FolderTest):
 
     def test_numbers_in_a_table(self):
         (step,) = replay("trace", [b"sr 05  60\n"])
-        rows = table([step] * 100_001).splitlines()
+        with mock.patch("superio.view.changes", lambda _: []):  # which takes time
+            rows = table([step] * 100_001).splitlines()
         self.assertEqual((100_002, "piece 1"), (len(rows), rows[0]))
         self.assertEqual([*range(1, 100_002)], [int(row.split()[0]) for row in rows[1:]])
 
