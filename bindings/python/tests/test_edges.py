@@ -216,7 +216,9 @@ class Names(FolderTest):
         super().setUp()
         self.addCleanup(os.chdir, os.getcwd())
         os.chdir(self.folder)
-        for patched in (mock.patch.dict(os.environ, {"HOME": "/nowhere", "x": "y"}), mock.patch("os.fsync")):
+        # Whatever a name is taken for, nothing is written elsewhere: the home is no folder.
+        home = str(self.folder / "none" / "home")
+        for patched in (mock.patch.dict(os.environ, {"HOME": home, "x": "y"}), mock.patch("os.fsync")):
             patched.start()
             self.addCleanup(patched.stop)
 
