@@ -208,7 +208,8 @@ class Traces(FolderTest):
         with mock.patch("superio.view.changes", lambda _: []):  # which takes time
             rows = table([step] * 100_001).splitlines()
         self.assertEqual((100_002, "piece 1"), (len(rows), rows[0]))
-        self.assertEqual([*range(1, 100_002)], [int(row.split()[0]) for row in rows[1:]])
+        wrong = [(number, row) for number, row in enumerate(rows[1:], 1) if int(row.split()[0]) != number]
+        self.assertEqual([], wrong[:3])
 
 
 class Names(FolderTest):
