@@ -73,11 +73,13 @@ const STEPS = {
     by("run").click();
   },
   line: (number) => by("list").children[number - 1].click(),
-  copy: async () => {
+  copy: () => STEPS.through(async (text) => { copied = text; }, "copy"),
+  // A browser that gives no page its clipboard.
+  denied: (id) => STEPS.through(async () => { throw new Error("denied"); }, id),
+  through: async (writeText, id) => {
     by("said").textContent = copied = "";
-    const clipboard = { writeText: async (text) => { copied = text; } };
-    Object.defineProperty(page.navigator, "clipboard", { value: clipboard, configurable: true });
-    by("copy").click();
+    Object.defineProperty(page.navigator, "clipboard", { value: { writeText }, configurable: true });
+    by(id).click();
     await until(() => by("said").textContent);
   },
   wait: (start) => until(() => SEEN.lines().includes(`${start} `)),

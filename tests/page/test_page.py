@@ -21,7 +21,7 @@ from script_tests import board_scripts
 
 HERE = Path(__file__).parent
 MOST_BYTES, RANDOM_SCRIPTS = 72_000, 10_000
-LIMIT = 240   # seconds for all that is tried in the browser
+LIMIT = 600   # seconds for all that is tried in the browser, also where much else runs
 # Frames of files may be read, and elements have the names that a screen reader says. The super-user has no sandbox.
 BROWSER = ["chromium", "--headless", "--disable-gpu", "--no-first-run", "--hide-scrollbars", "--window-size=1300,900",
            "--force-prefers-reduced-motion", "--enable-logging=stderr", "--allow-file-access-from-files",
@@ -45,7 +45,7 @@ DRAWN = """<svg xmlns="http://www.w3.org/2000/svg" width="{0}" height="{1}" view
 </svg>
 """
 FEATURES = re.sub(r"^# .*\n", "", (HERE / "features.txt").read_text("utf-8"), flags=re.M).strip().split("\n\n")
-FEATURES = {feature.split("\n")[0]: feature for feature in at_least(51, FEATURES)}
+FEATURES = {feature.split("\n")[0]: feature for feature in at_least(53, FEATURES)}
 LOOKS = {f"{width} {scheme}": (width, scheme) for width in (1280, 400) for scheme in ("light", "dark")}
 PICTURES = {picture[0]: picture for picture in PICTURES}
 LEAST_CONTROLS = 75   # in each of LOOKS
