@@ -8,7 +8,8 @@
         .set LSR, COM1 + 5
         .set MASTER, 0x20; .set SLAVE, 0xA0     # the interrupt controllers
         .set CLOCK, 0xD000                      # the clock's segment
-        .set RTCDR, 0x000; .set RTCMR, 0x004; .set RTCIMSC, 0x010; .set RTCMIS, 0x018; .set RTCICR, 0x01C
+        .set RTCDR, 0x000; .set RTCMR, 0x004
+        .set RTCIMSC, 0x010; .set RTCRIS, 0x014; .set RTCMIS, 0x018; .set RTCICR, 0x01C
 
         .macro outb port, values:vararg
         mov $\port, %dx
@@ -64,10 +65,14 @@ reset:  outb 0x64, 0xFE
 
 await:  movb $1, awaits
         outb IER, 0x00
-        mov %fs:RTCDR, %eax
-        add $2, %eax
         movl $1, %fs:RTCIMSC
+later:  mov %fs:RTCDR, %eax
+        add $2, %eax
         mov %eax, %fs:RTCMR
+        cmp %eax, %fs:RTCDR                     # if the guest stood still for two seconds, the moment may have
+        js done                                 # passed before it was set: then there is no alarm
+        testb $1, %fs:RTCRIS
+        jz later
 done:   outb MASTER, 0x20                       # end of interrupt
         iret
 
