@@ -13,10 +13,11 @@ from collections import Counter
 from pathlib import Path
 
 import pytest
+import sums
 from harness import ROOT, check
 from hypothesis import HealthCheck, settings
 from seeds import VARIABLE, seed
-from tools import PLACES, TOOLS, is_there, missing
+from tools import TOOLS, advice, is_place
 
 LEFT_OUT = pytest.StashKey()   # of a test that --without leaves out
 
@@ -32,6 +33,8 @@ def pytest_addoption(parser):
                      help=f"leave out the tests that need one of these: {', '.join(TOOLS)}")
     parser.addoption("--write-pictures", action="store_true", help="write the pictures of the page anew")
     parser.addoption("--boot", action="store_true", help="boot Linux, also if it has passed with these sources")
+    parser.addoption("--sums", action="store_true", help="fail if fewer tests are tried than tests/sums.txt says")
+    parser.addoption("--write-sums", action="store_true", help="write tests/sums.txt, with --collect-only")
     parser.addoption("--program", type=Path, help="a program in place of crates/superio/out/superio")
 
 
@@ -41,6 +44,10 @@ def left_out(config):
 
 def needed(item):
     return {tool for mark in item.iter_markers("needs") for tool in mark.args}
+
+
+def places_of(item):
+    return sorted({it for mark in item.iter_markers("where") for it in mark.args})
 
 
 @pytest.hookimpl(optionalhook=True)
@@ -59,6 +66,32 @@ def pytest_configure(config):
         raise pytest.UsageError(f"--without: there is no tool {', '.join(sorted(unknown))}")
 
 
+def pytest_collection_modifyitems(items):
+    for item in items:   # which its report has, too
+        item.user_properties.append(("places", places_of(item)))
+
+
+def pytest_collection_finish(session):
+    if session.config.getoption("--write-sums"):
+        sums.write((item.nodeid, places_of(item)) for item in session.items)
+
+
+def faults_of_sums(config):
+    """What a run tried less, or left out more, than tests/sums.txt says."""
+    stats = config.pluginmanager.get_plugin("terminalreporter").stats
+    reports = {it.nodeid: it for kind in ("passed", "failed", "error", "skipped") for it in stats.get(kind, ())
+               if "::" in it.nodeid}
+    places = {name: dict(it.user_properties).get("places", ()) if it.skipped else () for name, it in reports.items()}
+    return list(sums.faults((name, [it for it in found if not is_place(it)]) for name, found in places.items()))
+
+
+@pytest.hookimpl(trylast=True)
+def pytest_sessionfinish(session):
+    config = session.config
+    if config.getoption("--sums") and not hasattr(config, "workerinput") and faults_of_sums(config):
+        session.exitstatus = pytest.ExitCode.TESTS_FAILED
+
+
 def skip(item, reason):
     """Leaves a test out, which no other way of skipping does."""
     item.stash[LEFT_OUT] = True
@@ -71,10 +104,10 @@ def pytest_runtest_setup(item):
         skip(item, f"--without names {', '.join(tools)}")
     for tool in sorted(needed(item)):
         is_given = tool == "kit" and item.config.getoption("--program")
-        for what, package in {} if is_given else missing(tool).items():
-            pytest.fail(f"{what} is missing: install {package}, or run with --without {tool}", pytrace=False)
-    if places := {it for mark in item.iter_markers("where") for it in mark.args if not is_there(PLACES[it])}:
-        skip(item, f"there is no {', '.join(sorted(places))}")
+        if lines := [] if is_given else advice(tool, f", or run with --without {tool}"):
+            pytest.fail("\n".join(lines), pytrace=False)
+    if places := [it for it in places_of(item) if not is_place(it)]:
+        skip(item, f"there is no {', '.join(places)}")
 
 
 @pytest.hookimpl(hookwrapper=True)
@@ -94,7 +127,9 @@ def pytest_make_collect_report(collector):
         report.outcome, report.longrepr = "failed", f"{collector.nodeid} skipped itself: {report.longrepr}"
 
 
-def pytest_terminal_summary(terminalreporter):
+def pytest_terminal_summary(terminalreporter, config):
+    for line in faults_of_sums(config) if config.getoption("--sums") else ():
+        terminalreporter.write_line(line)
     skipped = terminalreporter.stats.get("skipped", ())
     reasons = Counter(report.longrepr[2].removeprefix("Skipped: ") for report in skipped)
     for reason, number in sorted(reasons.items()):

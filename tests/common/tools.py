@@ -4,6 +4,7 @@ missing, but for the kit, which is no package; one of another architecture ends 
 import os
 import shutil
 import subprocess
+import sys
 from functools import lru_cache
 from glob import glob
 from pathlib import Path
@@ -29,8 +30,8 @@ TOOLS = {
               "/usr/share/cargo/registry/serde_json-1.*": "librust-serde-json-dev"},
     "coq": {"coqc": "coq"},
     "node": {"node": "nodejs"},
-    "npm": {"npm": "npm"},
-    "tsc": {"tsc": "node-typescript"},
+    "npm": {"npm": "npm", "node": "nodejs"},
+    "tsc": {"tsc": "node-typescript", "node": "nodejs"},
     "wasm": {"/usr/bin/rustc": "rustc", "/usr/lib/rustlib/wasm32-unknown-unknown": "libstd-rust-dev-wasm32",
              "wasm-ld": "lld"},
     "chromium": {"chromium": "chromium"},
@@ -55,36 +56,58 @@ TOOLS = {
 }
 
 
-def of_guests(line):
-    """A line of Python over the modules of tests/guests."""
+def of_tests(line):
+    """A line of Python over the modules here and in tests/guests."""
     return f"import sys; sys.path[:0] = ['{HERE}', '{HERE.parent}/guests']; {line}"
 
 
 # What no package of Debian 12 has: tests of it run where that is there. Those of tests/guests fetch it.
 PLACES = {"KVM": "import fcntl, os; fcntl.ioctl(fcntl.ioctl(os.open('/dev/kvm', os.O_RDWR), 0xAE01), 0xAE60)",
           "Deno": "deno",
-          **{f"version of {called} with sums in tests/guests": of_guests(f"import sources; assert sources.is_recorded('{name}')")
-             for called, name in [("Linux's source", "linux"), ("Linux 5.10", "linux-5.10"), ("Linux 6.12", "linux-6.12"),
-                                  ("Xen's source", "xen")]},
+          **{f"version of {called} with sums in tests/guests":
+             of_tests(f"import sources; assert sources.is_recorded('{name}')")
+             for called, name in [("Linux's source", "linux"), ("Linux 5.10", "linux-5.10"),
+                                  ("Linux 6.12", "linux-6.12"), ("Xen's source", "xen")]},
           "source of each driver that polls with sums in tests/guests":
-          of_guests("import polling_drivers; assert polling_drivers.are_recorded()"),
-          "CBMC 6": of_guests("import cbmc; assert cbmc.fetched()"),
+          of_tests("import polling_drivers; assert polling_drivers.are_recorded()"),
+          "CBMC 6": of_tests("import cbmc; assert cbmc.fetched()"),
           "Linux on x86-64": "/lib64/ld-linux-x86-64.so.2",
+          **{f"Rust for {target}": of_tests(f"import cargo; assert cargo.toolchain_for('{target}')")
+             for target in ("thumbv7m-none-eabi", "riscv32imac-unknown-none-elf", "x86_64-unknown-none")},
           "folder VM_SUPERIO of vm-superio 0.8.2": "$VM_SUPERIO",
           "variable RECHECK_PLANTS": "$RECHECK_PLANTS",
           # Those of docs/PERFORMANCE.md.
-          "rustc 1.95.0": "import os; assert ' 1.95.0 ' in os.popen('rustc --version').read()",
-          "gcc 12.2.0": "import os; assert os.popen('gcc -dumpfullversion').read() == '12.2.0\\n'"}
+          **{f"{name} {version}": f"import os; assert '{version}' in os.popen('{name} {option}').read().split()"
+             for name, version, option in [("rustc", "1.95.0", "--version"), ("gcc", "12.2.0", "-dumpfullversion")]}}
+# Runs the line of a place. What it asserts, and what the system refuses, is not there.
+PROBE = "try:\n    exec({!r})\nexcept (AssertionError, OSError):\n    raise SystemExit(3)"
 
 
 @lru_cache(maxsize=None)
 def is_there(what):
     """Whether a command, a file, a variable of the environment, or what a line of Python imports is there."""
     if what.startswith("import "):
-        return subprocess.run(["/usr/bin/python3", "-c", what], capture_output=True).returncode == 0
+        return has_modules("/usr/bin/python3", what)
     if what.startswith("$"):
         return what[1:] in os.environ
     return bool(glob(what)) if what.startswith("/") else shutil.which(what) is not None
+
+
+def has_modules(python, line):
+    """Whether a Python is there, and runs a line of imports."""
+    return shutil.which(python) is not None and not subprocess.run([python, "-c", line], capture_output=True).returncode
+
+
+@lru_cache(maxsize=None)
+def is_place(name):
+    """Whether a place is there. If its line fails in any other way than PROBE says, the line is wrong: no test may be
+    left out for that."""
+    if not PLACES[name].startswith("import "):
+        return is_there(PLACES[name])
+    ran = subprocess.run([sys.executable, "-c", PROBE.format(PLACES[name])], capture_output=True, text=True)
+    if ran.returncode not in (0, 3):
+        raise ValueError(f"PLACES of tools.py: {name}: {ran.stderr}")
+    return ran.returncode == 0
 
 
 def missing(tool):
@@ -92,5 +115,15 @@ def missing(tool):
     return {what: package for what, package in TOOLS[tool].items() if not is_there(what)}
 
 
+def advice(tool, more=""):
+    """What to do about all that is missing of a tool, a line for each."""
+    return [f"{what} is missing: install {package}{more}" for what, package in missing(tool).items()]
+
+
+def packages(tools):
+    """The packages of what is missing of some tools."""
+    return sorted({it for tool in tools if tool != "kit" for words in missing(tool).values() for it in words.split()})
+
+
 if __name__ == "__main__":
-    print(*sorted({it for tool in TOOLS if tool != "kit" for words in missing(tool).values() for it in words.split()}))
+    print(*packages(TOOLS))

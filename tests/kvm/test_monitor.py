@@ -17,7 +17,7 @@ from contextlib import suppress
 import pytest
 from harness import at_least, check, run
 from monitors import HERE, WRAPPED, build_monitor, rust_port
-from tools import PLACES, is_there
+from tools import is_place
 
 pytestmark = [pytest.mark.needs("cc", "make"), pytest.mark.where("Linux on x86-64")]
 
@@ -110,7 +110,7 @@ def test_guest(monitor, guest, tmp_path):
 def test_whether_kvm_is_there(monitor, guest):
     """The tests of KVM are left out only where the monitor, too, finds none."""
     ran = run([monitor / "monitor", guest], input=RESET)
-    assert (ran.returncode == 0) == is_there(PLACES["KVM"]), ran.stdout
+    assert (ran.returncode == 0) == is_place("KVM"), ran.stdout
 
 
 @pytest.mark.where("KVM")

@@ -12,6 +12,7 @@ import pytest
 from cargo import BINDINGS, DEVICES, ORIGINAL, Cargo, Comparison, add_crate, copied_crate, toolchain_for, toolchains
 from harness import ROOT, check
 from recorded import difference, random_recorded, recordings, rows_of
+from tools import PLACES
 
 pytestmark = pytest.mark.needs("cargo")
 
@@ -28,8 +29,8 @@ TARGETS = {
     "wasm32-unknown-unknown": ("wasm",),
 }
 # Those that no package of Debian 12 has are compiled for where a toolchain is there.
-FURTHER_TARGETS = [it for it in ("thumbv7m-none-eabi", "riscv32imac-unknown-none-elf", "x86_64-unknown-none")
-                   if toolchain_for(it)]
+FURTHER_TARGETS = [pytest.param(place.removeprefix("Rust for "), marks=pytest.mark.where(place))
+                   for place in PLACES if place.startswith("Rust for ")]
 RANDOM_RUNS = 25_000   # of 40 calls each
 
 

@@ -1,6 +1,6 @@
 # SPDX-License-Identifier: Apache-2.0 OR BSD-3-Clause
-"""Nothing passes for not having run: the rules of conftest.py, of at_least and of tools/check, with tests that break
-them."""
+"""Nothing passes for not having run: the rules of conftest.py, of sums.txt, of at_least and of tools/check, with tests
+that break them."""
 import re
 import shutil
 import sys
@@ -69,6 +69,38 @@ def test_what_workers_count(tmp_path):
     assert failed == {number for number, (_, end) in enumerate(BROKEN.values()) if "failed" in end or "error" in end}
     assert re.search(r"\d failed, 2 passed, 2 skipped, \d+ errors in .*\n$", said), said
     assert "NOT TRIED: 1 tests, since --without names node\n" in said
+
+
+# A test that runs, one that waits for a place, and one that --without names.
+THREE = RUN + """pass
+@pytest.mark.where('Deno')
+def test_deno(): pass
+@pytest.mark.needs('node')
+def test_node(): pass"""
+# What tests/sums.txt says, and what a run says to it.
+SUMS = {
+    "tests: 3\ntests, Deno: 1": None,
+    "tests: 2\ntests, Deno: 2\ntests, KVM: 1": None,
+    "tests: 4\ntests, Deno: 1": "tests: 3 tests, and tests/sums.txt says 4",
+    "tests: 3\ntests, KVM: 1":
+    "tests, Deno: 1 tests were left out, and tests/sums.txt says 0: tests/test_it.py::test_deno",
+    "tests: 3\ntests, Deno: 1\nother/tests: 1": "other/tests: 0 tests, and tests/sums.txt says 1",
+}
+
+
+@pytest.mark.parametrize("table, fault, workers", [(*it, 0) for it in SUMS.items()] + [(*[*SUMS.items()][3], 2)])
+def test_sums(table, fault, workers, tmp_path):
+    (tmp_path / "tests").mkdir()
+    (tmp_path / "tests/sums.txt").write_text(f"# A comment: 1\n{table}\n", "utf-8")
+    ran = run_pytest(tmp_path, THREE, "--without=node", "--sums", f"-n{workers}")
+    assert (ran.returncode != 0) == (fault is not None) and " 1 passed, 2 skipped in " in f" {ran.stdout}"
+    assert [it for it in ran.stdout.splitlines() if "tests/sums.txt says" in it] == [fault] * (fault is not None)
+
+
+def test_sums_are_written(tmp_path):
+    assert run_pytest(tmp_path, THREE, "--collect-only", "--write-sums").returncode == 0
+    text = (tmp_path / "tests/sums.txt").read_text("utf-8")
+    assert re.sub("^#.*\n", "", text, flags=re.M) == "tests: 3\ntests, Deno: 1\n"
 
 
 def test_a_missing_tool_names_its_package(tmp_path):

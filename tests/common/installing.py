@@ -1,0 +1,43 @@
+# SPDX-License-Identifier: Apache-2.0 OR BSD-3-Clause
+"""What tools/check and tools/recheck do first: on Debian 12 they install what they need, and each finds what was."""
+import os
+import subprocess
+import sys
+from pathlib import Path
+
+from tools import advice, is_there, packages
+
+ROOT = Path(__file__).resolve().parents[2]
+SYSTEM = Path("/etc/os-release")
+# What tools/install-packages writes for another user than root.
+ENVIRONMENT = ROOT / "out" / "packages" / "environment"
+
+
+def is_debian_12():
+    return SYSTEM.is_file() and {"ID=debian", 'VERSION_ID="12"'} <= {*SYSTEM.read_text(encoding="utf-8").splitlines()}
+
+
+def take_paths():
+    """Has this process, and what it starts, find what was installed for another user than root."""
+    if ENVIRONMENT.is_file():
+        words = ["bash", "-c", '. "$0" && env -0', ENVIRONMENT]
+        said = subprocess.run(words, stdout=subprocess.PIPE, check=True).stdout
+        os.environ.update(it.split("=", 1) for it in os.fsdecode(said).split("\0") if "=" in it)
+    is_there.cache_clear()
+
+
+def prepare(tools, may_install):
+    """Installs what is missing of some tools, and says so in a line. Ends this program if it cannot, or if this is
+    another system. What is missing still, or may not be installed, its user names."""
+    take_paths()
+    lacking = packages(tools)
+    if not lacking or not may_install:
+        return
+    if not is_debian_12():
+        sys.exit("\n".join([line for tool in tools if tool != "kit" for line in advice(tool)] + [
+            "Nothing is installed on another system than Debian 12: install these, or go on with --no-install"]))
+    print(f"Installs what this machine lacks of Debian 12: {' '.join(lacking)}", flush=True)
+    ran = subprocess.run([ROOT / "tools" / "install-packages", *lacking])
+    if ran.returncode:
+        sys.exit(f"tools/install-packages ended with status {ran.returncode}, so nothing was tried")
+    take_paths()

@@ -1,0 +1,243 @@
+# SPDX-License-Identifier: Apache-2.0 OR BSD-3-Clause
+"""tools/check, .ci/run, tools/recheck and tools/install-packages in a copy, with stand-ins for all that they start.
+They fail if a part fails, is missing or cannot be installed, and say so."""
+import os
+import re
+import shutil
+import sys
+
+import pytest
+from harness import ROOT, run
+
+COPIED = ["tools/check", "tools/recheck", "tools/install-packages", ".ci/run", "tests/common"]
+BASICS = ["bash", "cat", "cp", "dirname", "env", "mkdir", "rm", "sed", "sh", "touch", "uname"]
+# Each stand-in writes its name and its words into the file `log`. Those of the parts pass 3, 3 for each of two crates,
+# and 4 tests.
+STAND_INS = {
+    "rt": "echo 'test result: ok. 1 passed; 0 failed'; echo 'rt: ok; must-fail edits: 1 refused; all'; echo '2 passed'",
+    "cargo": "echo 'test result: ok. 3 passed; 0 failed; 0 ignored'",
+    "rustc": "", "cc": "", "gcc": "", "coqc": "", "id": "echo 0", "dpkg": "echo amd64",
+    # For root it installs what is named, by making the command that is missing. Without a time to wait for another
+    # apt-get it fails, since there is one.
+    "apt-get": """
+case "$*" in
+*DPkg::Lock::Timeout=[1-9][0-9][0-9]*) ;;
+*) echo "E: Could not get lock" >&2; exit 100 ;;
+esac
+case "$*" in
+*" install "*--simulate*) echo "Inst cargo (1)" ;;
+*" download "*) touch cargo.deb ;;
+*" install "*) cp "$AWAY"/* "$HERE" ;;
+esac""",
+    "dpkg-deb": 'mkdir -p "$3/usr/bin"; cp "$AWAY"/* "$3/usr/bin"',
+}
+PYTEST = """import sys
+if __name__ == "__main__":
+    open("{log}", "a").write("pytest\\n")
+    print("{said}")
+    sys.exit({status})
+"""
+RERUN = """import shutil, sys
+def main(said):
+    print(*sys.argv[1:], shutil.which("coqc"))
+    sys.exit({status})
+"""
+PASSED = "13 passed, 0 failed, 0 skipped"
+TABLE = '\nTOOLS = {tool: TOOLS[tool] for tool in ("kit", "pytest", "cargo", "coq")}\n'
+
+
+class Machine:
+    """A copy of the tools in which they need few others, on a machine that has these stand-ins alone."""
+
+    def __init__(self, folder):
+        self.top, self.bin, self.away = folder / "top", folder / "bin", folder / "away"
+        self.stubs, self.log, self.system = folder / "stubs", folder / "log", folder / "os-release"
+        for it in COPIED:
+            copy = shutil.copytree if (ROOT / it).is_dir() else shutil.copy
+            (self.top / it).parent.mkdir(parents=True, exist_ok=True)
+            copy(ROOT / it, self.top / it)
+        for it in ("bindings/rust", "bindings/superio", "crates/a/must-fail", "crates/a/src", "recheck"):
+            (self.top / it).mkdir(parents=True)
+        (self.top / "crates/a/must-fail/a.edit").touch()
+        (self.top / "crates/a/src/lib.rt").write_text("#[test]\n", "utf-8")
+        self.edit("tests/common/tools.py", "\n\n\ndef of_tests", f"\n{TABLE}\n\ndef of_tests")
+        self.edit("tests/common/installing.py", '"/etc/os-release"', f'"{self.system}"')
+        for it in (self.bin, self.away, self.stubs):
+            it.mkdir()
+        for it in BASICS:
+            (self.bin / it).symlink_to(shutil.which(it))
+        (self.bin / "rtlib.py").write_text("def crates_below(root):\n    return []\n", "utf-8")
+        self.stand_in("python3", f'exec {sys.executable} "$@"')
+        for name, script in STAND_INS.items():
+            self.stand_in(name, script)
+        for name in ("xdist", "hypothesis"):
+            (self.stubs / f"{name}.py").touch()
+        self.pytest("4 passed in 1s", 0)
+        self.recheck(0)
+        self.runs("Debian", "12")
+
+    def edit(self, name, old, new):
+        text = (self.top / name).read_text("utf-8")
+        assert text.count(old) == 1
+        (self.top / name).write_text(text.replace(old, new), "utf-8")
+
+    def stand_in(self, name, script):
+        path = self.bin / name
+        path.write_text(f'#!/bin/sh\necho "{name} $*" >> {self.log}\n{script}\n', "utf-8")
+        path.chmod(0o755)
+
+    def pytest(self, said, status):
+        (self.stubs / "pytest.py").write_text(PYTEST.format(log=self.log, said=said, status=status), "utf-8")
+
+    def recheck(self, status):
+        (self.top / "recheck/rerun.py").write_text(RERUN.format(status=status), "utf-8")
+
+    def runs(self, system, version):
+        self.system.write_text(f'ID={system.lower()}\nVERSION_ID="{version}"\n', "utf-8")
+
+    def lacks(self, *names):
+        """These are where apt-get gets them."""
+        for name in names:
+            shutil.move(self.bin / name, self.away / name)
+
+    def run(self, tool, *words):
+        """Its status, what it printed, and what it called, apart from Python."""
+        self.log.write_text("", "utf-8")
+        ran = run([self.top / tool, *words], env={
+            "PATH": str(self.bin), "PYTHONPATH": str(self.stubs), "TEST_SEED": "1", "HERE": str(self.bin),
+            "AWAY": str(self.away), "PYTHONDONTWRITEBYTECODE": "1", "HOME": os.devnull})
+        called = [line for line in self.log.read_text("utf-8").splitlines() if not line.startswith("python3 ")]
+        return ran.returncode, ran.stdout, called
+
+
+@pytest.fixture
+def machine(tmp_path):
+    return Machine(tmp_path)
+
+
+def installs(called):
+    return [it for it in called if it.startswith(("apt-get", "dpkg-deb"))]
+
+
+@pytest.mark.parametrize("tool", ["tools/check", ".ci/run"])
+def test_all_pass(tool, machine):
+    status, said, called = machine.run(tool)
+    assert (status, said.splitlines()[-1]) == (0, PASSED), said
+    assert [it.split()[0] for it in called] == ["rt", "cargo", "cargo", "pytest"]
+
+
+FAILING = {
+    "rt ci ends badly": lambda it: it.stand_in("rt", STAND_INS["rt"] + "; exit 1"),
+    "rt ci says so": lambda it: it.stand_in("rt", STAND_INS["rt"] + ", 1 failed"),
+    "rt ci tries no edit": lambda it: it.stand_in("rt", "echo 'test result: ok. 1 passed'; echo 2 passed"),
+    **{f"the tests of bindings/{crate} fail": lambda it, crate=crate: it.stand_in(
+        "cargo", f"{STAND_INS['cargo']}; case $PWD in */{crate}) exit 101; esac") for crate in ("superio", "rust")},
+    "cargo tests nothing": lambda it: it.stand_in("cargo", ""),
+    "pytest ends badly": lambda it: it.pytest("4 passed in 1s", 1),
+    "pytest says so": lambda it: it.pytest("1 failed, 4 passed in 1s", 0),
+    "pytest is killed": lambda it: it.pytest("4 passed in 1s", "__import__('os').kill(__import__('os').getpid(), 9)"),
+    "pytest runs nothing": lambda it: it.pytest("no tests ran in 1s", 0),
+}
+
+
+@pytest.mark.parametrize("tool, failing", [("tools/check", it) for it in FAILING] + [(".ci/run", "pytest ends badly")])
+def test_a_part_fails(tool, failing, machine):
+    FAILING[failing](machine)
+    status, said, called = machine.run(tool)
+    assert status == 1 and re.fullmatch(r"\d+ passed, [1-9] failed, 0 skipped", said.splitlines()[-1]), said
+    assert len(called) == 4, "the others are run"
+
+
+LACKING = {
+    "kit": ("rt", "rt is missing: install the Rattle kit, which is no package, or run with --without kit"),
+    "cargo": ("cargo", "cargo is missing: install cargo, or run with --without cargo"),
+}
+
+
+@pytest.mark.parametrize("tool", LACKING)
+def test_a_part_is_missing(tool, machine):
+    command, advice = LACKING[tool]
+    machine.lacks(command)
+    status, said, called = machine.run("tools/check", "--no-install")
+    assert status == 1 and advice in said.splitlines() and " 1 failed" in said.splitlines()[-1], said
+    assert not installs(called) and "pytest" in called
+    status, said, called = machine.run("tools/check", f"--without={tool}")
+    assert status == 0 and not installs(called), said
+    assert re.fullmatch(rf"NOT TRIED: .*, since --without names {tool}", said.splitlines()[-2])
+
+
+def test_pytest_is_missing(machine):
+    (machine.stubs / "xdist.py").write_text("raise ImportError\n", "utf-8")
+    status, said, called = machine.run("tools/check", "--no-install")
+    assert status == 1 and "install python3-pytest python3-pytest-xdist python3-hypothesis, or" in said
+    assert len(called) == 3
+
+
+@pytest.mark.parametrize("tool, command, package", [("tools/check", "cargo", "cargo"), (".ci/run", "coqc", "coq"),
+                                                    ("tools/recheck", "coqc", "coq")])
+def test_what_is_missing_is_installed(tool, command, package, machine):
+    machine.lacks(command)
+    status, said, called = machine.run(tool)
+    assert status == 0 and f"Installs what this machine lacks of Debian 12: {package}\n" in said, said
+    assert installs(called)[-1].endswith(f" install {package}")
+    assert installs(machine.run(tool)[2]) == [], "it is there"
+
+
+def test_recheck_needs_nothing_else(machine):
+    machine.lacks("rt", "cargo", "cc")
+    (machine.stubs / "pytest.py").unlink()
+    status, said, called = machine.run("tools/recheck", "--keep", "a")
+    assert (status, said, called) == (0, f"--keep a {machine.bin}/coqc\n", [])
+    machine.lacks("coqc")
+    assert machine.run("tools/recheck", "--no-install") == (0, "None\n", [])
+    machine.recheck(1)
+    assert machine.run("tools/recheck", "--no-install")[0] == 1
+
+
+@pytest.mark.parametrize("tool", ["tools/check", "tools/recheck"])
+def test_another_system(tool, machine):
+    """It names what is missing, and goes no further."""
+    machine.lacks("coqc")
+    for system in [("Debian", "13"), ("Ubuntu", "12")]:
+        machine.runs(*system)
+        status, said, called = machine.run(tool)
+        assert status == 1 and said.startswith("coqc is missing: install coq\n") and not called, said
+
+
+def test_another_user(machine):
+    """Packages are unpacked, and found there by themselves, also the next time."""
+    machine.lacks("cargo")
+    machine.stand_in("id", "[ $1 != -u ] && echo somebody || echo 1000")
+    for number in (1, 0):
+        status, said, called = machine.run("tools/check")
+        assert (status, said.splitlines()[-1]) == (0, PASSED), said
+        assert len([it for it in called if it.startswith("dpkg-deb")]) == number
+    assert not (machine.bin / "cargo").exists()
+
+
+# What of the installation fails, by whose words, for which user.
+STEPS = {"the lists of packages cannot be read": ("apt-get", "update", 0),
+         "a package cannot be installed": ("apt-get", "install", 0),
+         "another user's packages are unknown": ("apt-get", "--simulate", 1000),
+         "another user's packages cannot be got": ("apt-get", "download", 1000),
+         "another user's packages cannot be unpacked": ("dpkg-deb", "--extract", 1000),
+         "the table of tools cannot be read": ("python3", "tests/common/tools.py", 0)}
+
+
+@pytest.mark.parametrize("name", STEPS)
+def test_an_installation_fails(name, machine):
+    """It ends there, and nothing is tried after it."""
+    command, word, user = STEPS[name]
+    machine.stand_in("id", f"[ $1 != -u ] && echo somebody || echo {user}")
+    machine.lacks("cargo")
+    before = (machine.bin / command).read_text("utf-8").split("\n", 2)[2]
+    machine.stand_in(command, f'case " $* " in *" {word} "*) echo "E: no {word}" >&2; exit 100; esac\n{before}')
+    status, said, called = machine.run("tools/install-packages")
+    assert status != 0 and f"E: no {word}" in said
+    assert not called or f" {word}" in called[-1], "it went on"
+    assert ("the lists of packages cannot be read" in said) == (word == "update")
+    if command != "python3":
+        for tool in ("tools/check", ".ci/run"):
+            status, said, called = machine.run(tool)
+            assert status == 1 and "tools/install-packages ended with status" in said.splitlines()[-1], said
+            assert not {"rt ci", "pytest"} & {*called}

@@ -1,0 +1,159 @@
+# SPDX-License-Identifier: Apache-2.0 OR BSD-3-Clause
+"""Each place of tools.py is found where it is there, and not elsewhere: a wrong one would leave out all tests that need
+it, and nobody would see that."""
+import fcntl
+import os
+import platform
+import re
+import sys
+
+import cargo
+import pytest
+import tools
+from documents import documents
+from harness import ROOT, at_least, check
+
+sys.path.append(str(ROOT / "tests" / "guests"))
+import cbmc  # noqa: E402
+import sources  # noqa: E402
+
+LINES = {name: what for name, what in tools.PLACES.items() if what.startswith("import ")}
+# What the numbers of KVM's calls are, as its header has them.
+NUMBERS = """#include <linux/kvm.h>
+#include <stdio.h>
+int main(void) { printf("%u %u\\n", (unsigned)KVM_CREATE_VM, (unsigned)KVM_CREATE_IRQCHIP); }
+"""
+# What these print of their version, with the only option at which they do.
+COMPILERS = {"rustc": ("--version", "rustc {} (0123abcd 2026-01-01)"), "gcc": ("-dumpfullversion", "{}")}
+RECORDED = {path.name.removesuffix(".sha256").partition("-")[::2] for path in (ROOT / "tests/guests").glob("*.sha256")}
+
+
+@pytest.fixture(autouse=True)
+def fresh():
+    tools.is_there.cache_clear()
+    yield
+    tools.is_there.cache_clear()
+
+
+def holds(name):
+    """Whether the line of a place says, here in this process, that it is there."""
+    try:
+        exec(LINES[name], {})
+    except (AssertionError, OSError):
+        return False
+    return True
+
+
+def stand_in(folder, name, script):
+    (folder / name).write_text(f"#!/bin/sh\n{script}\n", "utf-8")
+    (folder / name).chmod(0o755)
+
+
+@pytest.mark.needs("cc")
+def test_kvm(tmp_path, monkeypatch):
+    """Its calls are those of the header, on the file that the monitor opens. Where one fails, it is not there."""
+    check(["cc", "-x", "c", "-", "-o", tmp_path / "numbers"], "", input=NUMBERS)
+    make_machine, make_controller = map(int, check([tmp_path / "numbers"]).split())
+    [opened] = re.findall(r'open\("([^"]+)", O_RDWR', (ROOT / "examples/kvm/machine.c").read_text("utf-8"))
+    calls = []
+    monkeypatch.setattr(os, "open", lambda *words: calls.append(words) or 10)
+    monkeypatch.setattr(fcntl, "ioctl", lambda *words: calls.append(words) or 10 + len(calls))
+    assert holds("KVM")
+    assert calls == [(opened, os.O_RDWR), (10, make_machine), (12, make_controller)]
+    for name in ("open", "ioctl"):
+        def refuse(*_):
+            raise OSError
+        monkeypatch.setattr(os if name == "open" else fcntl, name, refuse)
+        assert not holds("KVM")
+
+
+@pytest.mark.needs("cc")
+def test_system(tmp_path):
+    """A program that is compiled here names its loader: it is that file on x86-64 alone."""
+    check(["cc", "-x", "c", "-", "-o", tmp_path / "program"], "", input="int main(void) { return 0; }\n")
+    [loader] = re.findall(r"interpreter: (.+)\]", check(["readelf", "-lW", tmp_path / "program"]))
+    assert (loader == tools.PLACES["Linux on x86-64"]) == (platform.machine() == "x86_64")
+    assert tools.is_there(tools.PLACES["Linux on x86-64"]) == (loader == tools.PLACES["Linux on x86-64"])
+
+
+@pytest.mark.parametrize("name", [it for it in tools.PLACES if it.split()[0] in COMPILERS])
+def test_version(name, tmp_path, monkeypatch):
+    monkeypatch.setenv("PATH", f"{tmp_path}:/usr/bin:/bin")
+    program, version = name.split()
+    option, said = COMPILERS[program]
+    for it in (version, f"{version}0", version[:-2], f"1{version}"):
+        stand_in(tmp_path, program, f'[ "$*" = "{option}" ] && echo "{said.format(it)}"')
+        assert holds(name) == (it == version)
+    stand_in(tmp_path, program, "exit 127")
+    assert not holds(name)
+
+
+@pytest.mark.parametrize("name", at_least(1, [it for it in tools.PLACES if re.fullmatch(r"[a-z]+", tools.PLACES[it])]))
+def test_command(name, tmp_path, monkeypatch):
+    monkeypatch.setenv("PATH", str(tmp_path))
+    assert not tools.is_there(tools.PLACES[name])
+    tools.is_there.cache_clear()
+    stand_in(tmp_path, name.lower(), "")
+    assert tools.is_there(tools.PLACES[name])
+
+
+@pytest.mark.parametrize("name", at_least(2, [it for it in tools.PLACES if tools.PLACES[it].startswith("$")]))
+def test_variable(name, monkeypatch):
+    """Documents say how it is set."""
+    variable = tools.PLACES[name][1:]
+    assert variable in name.split() and any(f"{variable}=" in it.text for it in documents())
+    for is_set in (True, False):
+        monkeypatch.setenv(variable, "1") if is_set else monkeypatch.delenv(variable)
+        tools.is_there.cache_clear()
+        assert tools.is_there(tools.PLACES[name]) == is_set
+
+
+@pytest.mark.parametrize("name", at_least(5, [it for it in LINES if "sums in tests/guests" in it]))
+def test_source(name, monkeypatch):
+    """A version of it is there whose sums the repository has, or another one, or none."""
+    def version(source):
+        asked.append(source)
+        series = source.partition("-")[2] or ("6.1" if source == "linux" else "")
+        return min(of for package, of in RECORDED if package == source.partition("-")[0] and of.startswith(series))
+    asked = []
+    monkeypatch.setattr(sources, "version", version)
+    assert holds(name) and asked
+    if number := re.search(r"Linux (\S+)", name):
+        assert asked == [f"linux-{number[1]}"]
+    for other in ("0", None):
+        monkeypatch.setattr(sources, "version", lambda _, other=other: other)
+        assert not holds(name)
+
+
+def test_cbmc(tmp_path, monkeypatch):
+    monkeypatch.setattr(cbmc, "FOLDER", tmp_path / "none")
+    monkeypatch.setenv("PATH", str(tmp_path))
+    for version in ("6.4.0 (cbmc-6.4.0)", "5.95.1 (cbmc-5.95.1)"):
+        stand_in(tmp_path, "cbmc", f"echo '{version}'")
+        assert holds("CBMC 6") == version.startswith("6.")
+    (tmp_path / "cbmc").unlink()
+    assert not holds("CBMC 6")
+
+
+@pytest.mark.parametrize("name", at_least(3, [it for it in LINES if it.startswith("Rust for ")]))
+def test_target(name, monkeypatch):
+    monkeypatch.setattr(cargo, "toolchain_for", lambda target: "a toolchain" if name == f"Rust for {target}" else None)
+    assert holds(name)
+    monkeypatch.setattr(cargo, "toolchain_for", lambda _: None)
+    assert not holds(name)
+
+
+@pytest.mark.parametrize("line, is_there", [("import os", True), ("import os; assert False", False),
+                                            ("import os; os.open('/nothing', 0)", False)])
+def test_what_a_line_says(line, is_there, monkeypatch):
+    monkeypatch.setitem(tools.PLACES, "it", line)
+    assert tools.is_place.__wrapped__("it") == is_there
+
+
+@pytest.mark.parametrize("line", ["import os; os.nothing", "import nothing_like_it", "import os; unknown",
+                                  "import os; ("])
+def test_a_line_that_is_wrong(line, monkeypatch):
+    """It fails, so that no test is left out for it."""
+    monkeypatch.setitem(tools.PLACES, "it", line)
+    with pytest.raises(ValueError, match="PLACES of tools.py: it"):
+        tools.is_place.__wrapped__("it")
