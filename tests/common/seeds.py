@@ -11,10 +11,11 @@ VARIABLE = "TEST_SEED"
 
 
 def seed():
-    """The number, which is put into the environment. Without git, as in a release, it is 0."""
+    """The number, which is put into the environment. Without a commit, as in a release, it is 0."""
     if VARIABLE not in os.environ:
         try:
-            said = subprocess.run(["git", "rev-parse", "HEAD"], cwd=ROOT, capture_output=True, text=True).stdout
+            words = ["git", "rev-parse", "--verify", "--quiet", "HEAD"]
+            said = subprocess.run(words, cwd=ROOT, capture_output=True, text=True).stdout
         except OSError:
             said = ""
         os.environ[VARIABLE] = str(int(said[:8] or "0", 16))

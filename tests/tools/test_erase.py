@@ -30,7 +30,10 @@ def test_erase(source, expected, tmp_path):
     text = made.read_text(encoding="utf-8")
     assert text.split("\n", 3)[3] == expected
     assert erase("--check", *folders) == (0, "")
-    made.write_text(text + "\n", encoding="utf-8")
+    for other in (f"{text}\n", text[:-1], f"{text[:-2]} \n"):
+        made.write_text(other, encoding="utf-8")
+        assert erase("--check", *folders)[0] == 1
+    made.unlink()
     assert erase("--check", *folders)[0] == 1
     made.write_text(text, encoding="utf-8")
     made.with_name("other.rs").write_text(text, encoding="utf-8")

@@ -1,0 +1,274 @@
+# SPDX-License-Identifier: Apache-2.0 OR BSD-3-Clause
+"""What compares in tests sees what differs in the last place only: helpers, programs that replay calls, and tests of
+files that a command makes."""
+import json
+import re
+import shutil
+import subprocess
+import sys
+
+import counts
+import pytest
+import seeds
+import test_consoles
+import test_counts
+import test_files
+import test_header
+from builds import HOST, prebuilt
+from documents import BUILT
+from harness import ROOT, at_least, check
+from recorded import difference
+from script_tests import Script
+
+sys.path += [str(ROOT / "tests" / folder) for folder in ("js", "python", "rust")]
+import test_boards  # noqa: E402
+import test_crates  # noqa: E402
+import test_module  # noqa: E402
+
+
+def altered(it):
+    """Texts, bytes or lists that differ from this one in the last place: another one, one less, one more."""
+    if isinstance(it, list):
+        return [*([*it[:-1], last] for last in altered(it[-1])), it[:-1], [*it, it[-1]]]
+    if isinstance(it, bytes):
+        return [text.encode("latin-1") for text in altered(it.decode("latin-1"))]
+    return [it[:-1] + chr(ord(it[-1]) ^ 1), it[:-1], it + it[-1]] if it else ["0"]
+
+
+def refuses(compare, *words):
+    """Whether a comparison fails as one of a test does."""
+    try:
+        compare(*words)
+    except AssertionError:
+        return True
+    return False
+
+
+def test_altered():
+    assert altered("ab") == ["ac", "a", "abb"] and altered(b"") == [b"0"]
+    assert altered(["ab", "c"]) == [["ab", "b"], ["ab", ""], ["ab", "cc"], ["ab"], ["ab", "c", "c"]]
+
+
+# Helpers
+
+@pytest.mark.parametrize("end", ["exit 1", "exit 2", "exit 4", "exit 127", "exit 128", "exit 255", "kill -9 $$"])
+def test_check_of_a_status(end):
+    assert refuses(check, ["sh", "-c", f"echo a; {end}"])
+    assert refuses(check, ["sh", "-c", f"echo a; {end}"], "a\n")
+
+
+@pytest.mark.parametrize("text", ["", "a\n", "a\nb"])
+def test_check_of_what_is_printed(text):
+    assert check(["printf", "%s", text], text) == check(["printf", "%s", text]) == text
+    for it in altered(text):
+        assert refuses(check, ["printf", "%s", text], it), it
+
+
+@pytest.mark.parametrize("end", ["", "bad line 3"])
+def test_difference_of_a_script(end):
+    script = Script("a place", b"kr 04\n", b"00\n01\n", end)
+    status, replies, said = script.expected
+    assert script.difference(script.expected) is None
+    wrong = [(status ^ 1, replies, said), (-9, replies, said), None, *((status, replies, it) for it in altered(said))]
+    for got in [*wrong, *((status, it, said) for it in altered(replies))]:
+        assert script.difference(got), got
+
+
+def test_difference_of_calls():
+    rows, replies = [("sr 05", "60"), ("sw 00 41", "ok W41 F o")], ["60", "ok W41 F o"]
+    assert not difference(rows, replies)
+    for it in altered(replies):
+        assert difference(rows, it), it
+
+
+def test_difference_of_consoles():
+    rows = ["lr 05 = 60", "lw 01 01 = ok wake", "la = 40", "li = 00 0"]
+    assert not [*test_consoles.differences(rows)]
+    for place, row in enumerate(rows):
+        for it in altered(row):
+            assert [*test_consoles.differences([*rows[:place], it, *rows[place + 1:]])], it
+
+
+def test_replies_of_a_board():
+    [test] = [it for it in test_boards.KEPT if it.replies][:1]
+    test_boards.assert_replies(test)
+    for it in altered(test.replies):
+        assert refuses(test_boards.assert_replies, test._replace(replies=it)), it
+
+
+# Where random searches begin
+
+@pytest.mark.needs("git")
+def test_each_commit_has_a_seed(tmp_path, monkeypatch):
+    monkeypatch.setattr(seeds, "ROOT", tmp_path)
+    found, commit = [], ["-c", "user.name=a", "-c", "user.email=a@b", "commit", "--quiet", "--allow-empty", "--message"]
+    for words in (["init", "--quiet"], [*commit, "one"], [*commit, "two"]):
+        check(["git", *words], "", cwd=tmp_path)
+        monkeypatch.delenv(seeds.VARIABLE, raising=False)
+        found.append(seeds.seed())
+    assert found[0] == 0 and len({*found}) == 3
+    assert found[2] == int(check(["git", "rev-parse", "HEAD"], cwd=tmp_path)[:8], 16)
+
+
+def test_seeds_differ(monkeypatch):
+    made = []
+    for seed in ("7", "8"):
+        monkeypatch.setenv(seeds.VARIABLE, seed)
+        assert seeds.seed() == int(seed)
+        made += [*seeds.seeds("a", 3), *seeds.seeds("b", 3), seeds.random_source("a").random()]
+        assert seeds.seeds("a", 4)[:3] == seeds.seeds("a", 3)
+    assert len({*made}) == len(made) == 14
+
+
+# Programs that replay calls
+
+CALLS, CONSOLE_CALLS = ["sr 05", "sw 00 41 u", "sq 6869", "sr 00", "cr 3e8 0000"], ["lr 05", "lw 01 01", "la", "li"]
+
+
+@pytest.fixture(scope="module")
+def replay(tmp_path_factory):
+    program = tmp_path_factory.mktemp("replay") / "replay"
+    words = ["-std=c99", "-I", ROOT / "bindings/c", ROOT / "tests/c/replay.c", prebuilt(HOST)]
+    check(["cc", *words, "-o", program], "")
+    return [program]
+
+
+@pytest.mark.parametrize("program, calls", [
+    pytest.param("replay", CALLS + CONSOLE_CALLS, id="C", marks=pytest.mark.needs("cc")),
+    pytest.param("replay_calls", CALLS, id="JavaScript", marks=pytest.mark.needs("node")),
+    pytest.param("replay_consoles", CONSOLE_CALLS, id="JavaScript's consoles", marks=pytest.mark.needs("node"))])
+def test_replay(program, calls, request):
+    words = (request.getfixturevalue("replay") if program == "replay" else
+             ["node", ROOT / f"bindings/js/tests/{program}.mjs"])
+
+    def replayed(rows):
+        text = "\n".join(rows) if program == "replay_consoles" else "".join(f"{row}\n" for row in rows)
+        ran = subprocess.run([*map(str, words)], input=text, capture_output=True, text=True)
+        return ran.returncode, ran.stdout
+    said = replayed([f"{call} = ?" for call in calls])[1]
+    rows = [f"{call} = {got.rpartition(' = ')[2]}" for call, got in zip(calls, re.findall("^got: +(.*)$", said, re.M))]
+    assert replayed(at_least(len(calls), rows)) == (0, f"{len(rows)} calls did the same, 0 did not\n")
+    for wrong in zip(*map(altered, rows)):
+        status, said = replayed(wrong)
+        assert status == 1 and said.endswith(f"\n0 calls did the same, {len(rows)} did not\n"), said
+
+
+@pytest.mark.needs("node")
+def test_scripts_in_javascript():
+    words = ["node", str(ROOT / "bindings/js/tests/run_scripts.mjs")]
+    script = ["a place", "kr 04\nsr 05\nkr 5\n", True, ["00", "60"], "bad line 3"]
+    wrong = [[*script[:3], it, script[4]] for it in altered(script[3])]
+    wrong += [[*script[:4], it] for it in altered(script[4])]
+    for number, scripts in enumerate([[script, script], [script, *wrong]]):
+        ran = subprocess.run(words, input=json.dumps(scripts), capture_output=True, text=True)
+        said = f"{2 - number} scripts did the same, {number * len(wrong)} did not\n"
+        assert (ran.returncode, ran.stdout.endswith(said)) == (number, True), ran.stdout
+
+
+# Tests of what a command makes: each with what gives that, and its other arguments
+
+MADE = [(test_module, "embedded", "test_embedded"), (test_module, "declared", "test_declared"),
+        (test_module, "required", "test_required"), (test_files, "interface", "test_interface"),
+        (test_files, "debian_symbols", "test_interface"),
+        (test_header, "source_line", "test_prebuilt_is_of_the_sources")]
+
+
+@pytest.mark.parametrize("module, maker, test", MADE, ids=[test for *_, test in MADE])
+def test_what_is_made(module, maker, test, monkeypatch):
+    for it in altered(getattr(module, maker)()):
+        monkeypatch.setattr(module, maker, lambda it=it: it)
+        assert refuses(getattr(module, test))
+
+
+def test_bytes_of_the_module(tmp_path, monkeypatch):
+    module = (test_module.PREBUILT / test_module.MODULE).read_bytes()
+    for it in [module, *altered(module)]:
+        def build(place, it=it):
+            place.write_bytes(it)
+            return subprocess.CompletedProcess([], 0, "")
+        monkeypatch.setattr(test_module, "build", build)
+        assert refuses(test_module.test_build, tmp_path) == (it != module)
+    for name, line in test_module.listed().items():
+        assert all(refuses(test_module.test_digest, name, it) for it in altered(line))
+
+
+def test_sums_of_prebuilt(monkeypatch):
+    made = test_header.sums_of
+    monkeypatch.setattr(test_header, "sums_of", lambda *words: [*made(*words)[:-1], altered(made(*words)[-1])[0]])
+    assert refuses(test_header.test_prebuilt_sums)
+
+
+def test_erased(tmp_path, monkeypatch):
+    """The files of bindings/superio are compared with all of what tools/erase makes, in each of the folders."""
+    folders = ["crates/superio_core/src", "crates/superio_console/src", "bindings/superio/src"]
+    for it in ("tools", *folders):
+        shutil.copytree(ROOT / it, tmp_path / it, ignore=shutil.ignore_patterns(*BUILT))
+    check([sys.executable, tmp_path / "tools" / "erase"], "")
+    monkeypatch.setattr(test_crates, "ROOT", tmp_path)
+    test_crates.test_erased()
+    for it in (*folders[:2], "bindings/superio/src/devices", "bindings/superio/src/console"):
+        path = max(path for path in (tmp_path / it).rglob("*") if path.is_file())
+        before = path.read_bytes()
+        path.write_bytes(before + b"// more\n")
+        assert refuses(test_crates.test_erased), path
+        path.write_bytes(before)
+
+
+# Compilers' warnings, and counts
+
+# Of -Wall, of -Wextra, and of -pedantic.
+WARNED = ["static inline void f(void) { int a; }", "static inline void f(int a) {}", "struct empty {};"]
+
+
+@pytest.mark.needs("cc")
+@pytest.mark.parametrize("line", WARNED)
+def test_warnings_of_the_header(line, tmp_path, monkeypatch):
+    """A header at which a compiler warns is refused, and so is a warning in the place of another, or of none."""
+    [compiler] = test_header.COMPILERS["gcc"].values
+    header = (ROOT / "bindings/c/superio.h").read_text("ascii")
+    words = [tmp_path if it == ROOT / "bindings" / "c" else it for it in test_header.WARNINGS]
+    assert words.count(tmp_path) == 1
+    monkeypatch.setattr(test_header, "WARNINGS", words)
+    for more, is_warned in (("", False), (line, True)):
+        # Once, as the header may be read twice.
+        guarded = f"#ifndef MORE\n#define MORE\n{more}\n#endif\n" if more else ""
+        (tmp_path / "superio.h").write_text(header + guarded, "ascii")
+        assert refuses(test_header.test_header, compiler, tmp_path) == is_warned
+        assert refuses(test_header.test_mistake, compiler, ["(void)port;", "nothing"], tmp_path) == is_warned
+    assert refuses(test_header.test_mistake, compiler, ["(void)port;", "unused-result"], tmp_path)
+
+
+COUNTED = at_least(2, [row for row in test_counts.ROWS if {counts.THEIRS, counts.RUST} <= {*row.numbers}])[0]
+
+
+def test_counts_of_costs(monkeypatch):
+    """One instruction more is allowed, and two are not; nor are other replies, or another number of times."""
+    row, column = COUNTED, counts.RUST
+    lists, number = len(row.lists()), row.numbers[column]
+
+    def count(instructions, replies=(1, 2), asked=row.asks):
+        return {row.name: [counts.Counted(instructions, replies, asked)] * lists}
+    for more in range(-3, 4):
+        monkeypatch.setattr(test_counts, "counts_of", lambda _, more=more: count(number + more))
+        assert refuses(test_counts.test_count, row, column) == (abs(more) > 1)
+    for replies in ((1, 2), *map(tuple, [(1, 3), (1,), (1, 2, 2)])):
+        def counted(it, replies=replies):
+            return count(number, (1, 2) if it == counts.RUST else replies)
+        monkeypatch.setattr(test_counts, "counts_of", counted)
+        assert refuses(test_counts.test_replies_are_those_of_the_rust_crate, row, counts.THEIRS) == (replies != (1, 2))
+    for more in (-1, 0, 1):
+        monkeypatch.setattr(test_counts, "counts_of", lambda _, more=more: count(number, asked=row.asks + more))
+        asks = test_counts.test_asks_for_the_hosts_time_only_where_guest_time_matters
+        assert refuses(asks, row, column) == (more != 0)
+
+
+@pytest.mark.parametrize("row", at_least(2, [row for row in test_counts.ROWS if row.numbers.keys() & {
+    counts.RUST, counts.CONSOLE}][::9]), ids=lambda it: it.name)
+def test_what_is_bold(row):
+    """A number is bold from one instruction above its goal on, and not at it."""
+    host_time = counts.host_time_of(test_counts.ROWS)
+    for column in row.numbers:
+        if (goal := counts.goal(row, column, host_time)) is not None:
+            for more in (0, 1):
+                it = row._replace(numbers={**row.numbers, column: int(goal) + more})
+                assert counts.is_above_goal(it, column, host_time) == bool(more)
