@@ -160,5 +160,5 @@ def source_library(tmp_path_factory):
     import abi
     folder = tmp_path_factory.mktemp("from-source")
     check(["cargo", "rustc", "--crate-type", "cdylib", "--release", "--quiet", "--offline", "--manifest-path",
-           ROOT / "bindings/c/from-source/Cargo.toml", "--target-dir", folder], timeout=1200)
+           ROOT / "bindings/c/from-source/Cargo.toml", "--target-dir", folder])
     return abi.load(folder / "release" / "libsuperio_c.so")

@@ -17,7 +17,7 @@ from pathlib import Path
 import pytest
 from board import Board
 from builds import HOST, PROCESSORS, compilers_for, make_words, prebuilt
-from cargo import LIMIT, toolchain_for
+from cargo import toolchain_for
 from console import random_runs
 from harness import ROOT, at_least, check
 from libraries import STATIC
@@ -63,7 +63,7 @@ def from_source(tmp_path_factory):
         toolchain = toolchain_for(target)
         check([toolchain.cargo, "rustc", "--target", target, "--crate-type", "staticlib", "--release", "--quiet",
                "--offline", "--manifest-path", ROOT / "bindings" / "c" / "from-source" / "Cargo.toml"],
-              env=toolchain.environment(CARGO_TARGET_DIR=str(folder)), timeout=LIMIT)
+              env=toolchain.environment(CARGO_TARGET_DIR=str(folder)))
         return folder / target / "release" / STATIC
     return build
 

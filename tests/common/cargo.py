@@ -17,7 +17,6 @@ COMPARISON = ROOT / "tests" / "compare"
 ORIGINAL = Path(os.environ["VM_SUPERIO"]).resolve() if "VM_SUPERIO" in os.environ else None
 # Debian's compiler, beside which another may come first in PATH.
 DEBIAN_RUSTC = Path("/usr/bin/rustc")
-LIMIT = 1200   # seconds that one command may take
 # Most is built once, and nothing is debugged.
 SETTINGS = {"CARGO_INCREMENTAL": "0", "CARGO_PROFILE_DEV_DEBUG": "0", "CARGO_NET_OFFLINE": "true"}
 # A program over bindings/rust or, without the feature `further`, over a vm-superio, which it takes by the line of the
@@ -97,7 +96,7 @@ class Cargo:
 
     def run(self, *words, **environment):
         """Runs a command, and gives its status and all that it printed."""
-        return run([self.cargo, *words], timeout=LIMIT, cwd=self.folder, env={**self.environment, **environment})
+        return run([self.cargo, *words], cwd=self.folder, env={**self.environment, **environment})
 
     def check(self, *words, **environment):
         """Asserts that a command succeeds. Returns what it printed."""

@@ -12,7 +12,6 @@ from program import built_program
 pytestmark = pytest.mark.needs("kit", "valgrind")
 
 DOCUMENT = ROOT / "docs" / "PERFORMANCE.md"
-LIMIT = 600  # seconds
 TOOLS = {"instructions": (["--tool=callgrind", "--callgrind-out-file=/dev/null"], r"Collected : (\d+)"),
          "bytes": (["--tool=memcheck"], r"([\d,]+) bytes allocated")}
 
@@ -25,7 +24,7 @@ class Cost(NamedTuple):
 
 
 def cost(length, command, script=""):
-    said = {name: check(["valgrind", *words, *command], input=script, timeout=LIMIT) for name, (words, _) in TOOLS.items()}
+    said = {name: check(["valgrind", *words, *command], input=script) for name, (words, _) in TOOLS.items()}
     return Cost(length, *(int(re.search(pattern, said[name])[1].replace(",", "")) for name, (_, pattern) in TOOLS.items()))
 
 

@@ -2,6 +2,7 @@
 """What is compared with the models: the Python package's board over a C library, and the program."""
 import subprocess
 
+from harness import LIMIT
 from script import line_of
 
 import superio
@@ -20,5 +21,5 @@ class PythonBoard:
 
 def run(program, script, **options):
     """What the program prints for a script, a character for each byte, how it ends, and what it says."""
-    ran = subprocess.run([program], input=script.encode("latin-1"), capture_output=True, timeout=60, **options)
+    ran = subprocess.run([program], input=script.encode("latin-1"), capture_output=True, timeout=LIMIT, **options)
     return ran.stdout.decode("latin-1"), ran.returncode, ran.stderr.decode()

@@ -14,12 +14,11 @@ import subprocess
 import tempfile
 
 import pytest
-from harness import at_least, check
+from harness import LIMIT, at_least, check
 from script_tests import TESTS, Script, scripts_of
 
 pytestmark = pytest.mark.needs("kit")
 
-LIMIT = 60
 FORM = next(scripts_of(TESTS / "scripts.txt"))   # of every form of line
 LONGEST_BAD = Script("longest", b"kr 04\n" * 10_922 + b"kr 0", b"00\n" * 10_922, "bad line 10923")
 BAD_LATER = Script("bad later", b"kr 04\nkr 5\n", b"00\n", "bad line 2")

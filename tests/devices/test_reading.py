@@ -4,6 +4,7 @@ import os
 import subprocess
 
 import pytest
+from harness import LIMIT
 
 pytestmark = pytest.mark.needs("kit")
 
@@ -17,7 +18,7 @@ def taken(command, size, folder):
     path.write_bytes(b"kr 04\n" * (size // 6) + b"\n" * (size % 6))
     with open(path, "rb") as file:
         status = subprocess.run(command, stdin=file, stdout=subprocess.DEVNULL, stderr=subprocess.DEVNULL,
-                                timeout=60).returncode
+                                timeout=LIMIT).returncode
         return os.lseek(file.fileno(), 0, os.SEEK_CUR), status
 
 

@@ -10,13 +10,12 @@ import subprocess
 from itertools import count
 
 import pytest
-from harness import ROOT, at_least, check, run
+from harness import LIMIT, ROOT, at_least, check, run
 from program import built_tests
 from script_tests import of_block
 
 pytestmark = pytest.mark.needs("kit", "cc")
 
-LIMIT = 60
 # Loaded before the C library, it refuses the allocation whose number, from 1, the environment has, and says so.
 REFUSING = """
 #include <stdlib.h>

@@ -9,7 +9,7 @@ import subprocess
 
 import pytest
 from documents import documents
-from harness import ROOT, at_least
+from harness import LIMIT, ROOT, at_least
 from script_tests import FURTHER_TESTS, TESTS, of_documents, scripts_of
 
 CALL = re.compile(r"(?<![\w./])superio\b")   # of the program, in a command
@@ -29,7 +29,7 @@ def test_number_of_lines():
 @pytest.mark.needs("kit")
 @pytest.mark.parametrize("script", SCRIPTS, ids=lambda it: it.place)
 def test_program(program, script):
-    ran = subprocess.run([program], input=script.script, capture_output=True, timeout=60)
+    ran = subprocess.run([program], input=script.script, capture_output=True, timeout=LIMIT)
     difference = script.difference((ran.returncode, ran.stdout, ran.stderr))
     assert difference is None, difference
 
@@ -40,7 +40,7 @@ def test_command(program, place, command, printed, tmp_path):
     """A document shows a command that runs the program, and what it prints."""
     (tmp_path / "superio").symlink_to(program)
     ran = subprocess.run(["bash", "-c", command], stdin=subprocess.DEVNULL, stdout=subprocess.PIPE, text=True,
-                         stderr=subprocess.STDOUT, timeout=60,
+                         stderr=subprocess.STDOUT, timeout=LIMIT,
                          env={**os.environ, "PATH": f"{tmp_path}:{os.environ['PATH']}"})
     assert ran.stdout == printed
 
@@ -56,6 +56,6 @@ def test_wrong_program(words):
     """A program that prints nothing, or what it reads, is found wrong."""
     wrong = 0
     for script in KEPT[:60]:
-        ran = subprocess.run(words, input=script.script, capture_output=True, timeout=60)
+        ran = subprocess.run(words, input=script.script, capture_output=True, timeout=LIMIT)
         wrong += script.difference((ran.returncode, ran.stdout, ran.stderr)) is not None
     assert wrong > 50

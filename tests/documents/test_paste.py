@@ -66,7 +66,7 @@ def paste(folder, where, commands, typed, printed):
         commands = re.sub(form, shorter, commands, flags=re.M)
     environment = {"HOME": str(folder.parent), "PATH": ":".join([*kit, "/usr/bin", "/bin"]), "PIP_NO_INDEX": "1",
                    "CARGO_NET_OFFLINE": "true"}
-    ran = run(["/bin/bash", "-e", "-c", commands], cwd=folder, input=typed, timeout=1800, env=environment)
+    ran = run(["/bin/bash", "-e", "-c", commands], cwd=folder, input=typed, env=environment)
     assert ran.returncode == 0 and "Traceback" not in ran.stdout, f"{where}: status {ran.returncode}\n{ran.stdout}"
     assert printed in ran.stdout, f"{where} printed:\n{ran.stdout}"
 

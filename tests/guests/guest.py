@@ -96,7 +96,7 @@ class Driver(NamedTuple):
 def assertions(command):
     """What CBMC says, told these words: each assertion's text, and whether it holds."""
     said = run([*command, "--drop-unused-functions", "--slice-formula", "--object-bits", "12", "--no-standard-checks",
-                "--unwinding-assertions"], timeout=1800)
+                "--unwinding-assertions"])
     found = re.findall(r"^\[\S+\] line \d+ (.*): (SUCCESS|FAILURE)$", said.stdout, re.M)
     failed = ["FAILURE" for _, result in found if result == "FAILURE"]
     assert f"VERIFICATION {'FAILED' if failed else 'SUCCESSFUL'}\n" in said.stdout and found, said.stdout

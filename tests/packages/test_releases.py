@@ -13,7 +13,6 @@ from shared import HAS_FROM_SOURCE, assert_properties, finding
 
 pytestmark = pytest.mark.needs("git", "make", "npm", "pip")
 
-LIMIT = 900
 DATED = f"sed -i 's/^## {VERSION} - .*/## {VERSION} - 2026-01-01/' CHANGELOG.md"
 COMMIT = "git init -q && git add --all && git -c user.name=a -c user.email=a commit -q -m a && git tag v$(cat VERSION)"
 # Debian's Python, which its setuptools is for.
@@ -34,7 +33,7 @@ def releases(tmp_path_factory):
         tree = folder / f"the tree of {made}"
         copy_repository(tree)
         check(["sh", "-c", f"umask {mask} && {DATED} && {COMMIT} && {RELEASE}={folder / made}"], "", cwd=tree,
-              env=environment, timeout=LIMIT)
+              env=environment)
     return folder
 
 
@@ -89,7 +88,7 @@ def debian(releases):
 @pytest.fixture(scope="module")
 def packages(debian):
     """The packages that Debian's tools build. Gives their folder, and the one into which they are unpacked."""
-    check(["dpkg-buildpackage", "-us", "-uc", "-F"], cwd=debian, env=OF_DEBIAN, timeout=LIMIT)
+    check(["dpkg-buildpackage", "-us", "-uc", "-F"], cwd=debian, env=OF_DEBIAN)
     folder, root = debian.parent, debian.parent / "root"
     for package in folder.glob("*.deb"):
         check(["dpkg", "-x", package, root], env=OF_DEBIAN)
@@ -128,4 +127,4 @@ def test_tests_of_the_packages(packages, debian):
 @pytest.mark.parametrize("goal", ["all", "check-library", "install"])
 def test_without_prebuilt(debian, goal):
     """`make` builds the libraries too."""
-    check(["make", "-s", goal, f"DESTDIR={debian.parent / 'from source'}"], cwd=debian, env=OF_DEBIAN, timeout=LIMIT)
+    check(["make", "-s", goal, f"DESTDIR={debian.parent / 'from source'}"], cwd=debian, env=OF_DEBIAN)

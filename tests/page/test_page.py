@@ -16,12 +16,11 @@ from pathlib import Path
 import pytest
 from build import PAGE, sources, unpacked
 from documents import Document
-from harness import ROOT, at_least
+from harness import LIMIT, ROOT, at_least
 from script_tests import board_scripts
 
 HERE = Path(__file__).parent
 MOST_BYTES, RANDOM_SCRIPTS = 72_000, 10_000
-LIMIT = 600   # seconds for all that is tried in the browser, also where much else runs
 # Frames of files may be read, and elements have the names that a screen reader says. The super-user has no sandbox.
 BROWSER = ["chromium", "--headless", "--disable-gpu", "--no-first-run", "--hide-scrollbars", "--window-size=1300,900",
            "--force-prefers-reduced-motion", "--enable-logging=stderr", "--allow-file-access-from-files",

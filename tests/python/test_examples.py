@@ -8,11 +8,10 @@ import sys
 import time
 
 import pytest
-from harness import ROOT
+from harness import LIMIT, ROOT
 
 EXAMPLE = ROOT / "examples" / "python" / "pty_console.py"
 GREETING = b"Type, and Ctrl-D to switch off.\r\n"
-LIMIT = 60   # seconds
 
 
 class Console:
@@ -38,8 +37,13 @@ class Console:
 
 
 @pytest.fixture
-def program():
-    started = subprocess.Popen([sys.executable, EXAMPLE], stdout=subprocess.PIPE, text=True,
+def program(tmp_path):
+    """A copy of it, whose guest waits for its reader without a limit: after a second, which a busy machine may take, it
+    drops output."""
+    text = EXAMPLE.read_text(encoding="utf-8")
+    assert text.count("HELD_FOR = 1.0 ") == 1
+    (tmp_path / EXAMPLE.name).write_text(text.replace("HELD_FOR = 1.0 ", "HELD_FOR = None "), encoding="utf-8")
+    started = subprocess.Popen([sys.executable, tmp_path / EXAMPLE.name], stdout=subprocess.PIPE, text=True,
                                env={**os.environ, "PYTHONPATH": str(ROOT / "bindings" / "python")})
     with started:
         yield started

@@ -153,7 +153,7 @@ def test_installed_by_pip(archives, what, tmp_path):
     words = {"wheel": [wheel], "sources": [archives.sources], "folder": [archives.place],
              "editable folder": ["-e", archives.place]}[what]
     python = environment(tmp_path / "environment")
-    done = ended([*PIP, "--python", python, "install", *words], env=CLEAN, timeout=TIMEOUT * 5, cwd="/")
+    done = ended([*PIP, "--python", python, "install", *words], env=CLEAN, cwd="/")
     assert done[0] == 0, done
     said = ended([python, "-m", "superio", "--shell"], b"read LSR\n", cwd="/", env=CLEAN)
     assert said == (0, "LSR = 0x60  THRE TEMT\n", "")
@@ -165,7 +165,7 @@ def test_installed_by_pip(archives, what, tmp_path):
 def test_the_sources_have_tests_that_pass(archives):
     """With other random calls for each commit."""
     done = ended([sys.executable, "-m", "unittest", "discover", "tests"], cwd=archives.unpacked, env=CLEAN,
-                 timeout=TIMEOUT * 5)
+                 timeout=TIMEOUT)
     assert re.search(r"\nRan [3-9]\d tests in .*\n\nOK \(skipped=2\)\n$", done[2]), done
 
 

@@ -13,7 +13,7 @@ def checked(tmp_path_factory):
     """The folder with all files, after tools/recheck has passed as a new user runs it, and what it printed."""
     folder = tmp_path_factory.mktemp("recheck")
     environment = {"HOME": str(folder.parent), "PATH": "/usr/bin:/bin"}
-    return folder, check([ROOT / "tools/recheck", "--keep", folder], env=environment, timeout=1800)
+    return folder, check([ROOT / "tools/recheck", "--keep", folder], env=environment)
 
 
 @pytest.fixture

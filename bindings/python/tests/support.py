@@ -10,7 +10,7 @@ from pathlib import Path
 PACKAGE = Path(__file__).resolve().parent.parent
 # The sources of the package alone have what their tests read of the repository.
 ROOT = PACKAGE if (PACKAGE / "prebuilt").is_dir() else PACKAGE.parent.parent
-TIMEOUT = 60
+TIMEOUT = 1800   # seconds: more than any of these takes on a busy machine
 
 sys.path.insert(0, str(PACKAGE))
 ENVIRONMENT = {**os.environ, "PYTHONPATH": str(PACKAGE), "SUPERIO_HISTORY": "", "TERM": "xterm"}

@@ -64,10 +64,12 @@ fn a_clock_shows_the_hosts_time_until_another_is_set() {
     let shown = read_clock(&mut clock, 0);
     assert!((before..=seconds()).contains(&shown));
 
+    let before = seconds();
     clock.write(8, &1_000u32.to_le_bytes());
-    assert!((1_000..1_010).contains(&read_clock(&mut clock, 0)));
+    let shown = read_clock(&mut clock, 0);
     let mut restored = Rtc::from_state(&clock.state(), rtc_pl031::NoEvents);
-    assert!((1_000..1_010).contains(&read_clock(&mut restored, 0)));
+    let range = 1_000..=1_000 + seconds() - before;
+    assert!(range.contains(&shown) && range.contains(&read_clock(&mut restored, 0)));
 }
 
 #[test]
