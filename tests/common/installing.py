@@ -9,8 +9,8 @@ from tools import advice, is_there, packages
 
 ROOT = Path(__file__).resolve().parents[2]
 SYSTEM = Path("/etc/os-release")
-# What tools/install-packages writes for another user than root.
-ENVIRONMENT = ROOT / "out" / "packages" / "environment"
+# What tools/install-packages writes for another user than root: paths, and the names of what it has unpacked.
+ENVIRONMENT, UNPACKED = (ROOT / "out" / "packages" / name for name in ("environment", "unpacked"))
 
 
 def is_debian_12():
@@ -30,7 +30,8 @@ def prepare(tools, may_install):
     """Installs what is missing of some tools, and says so in a line. Ends this program if it cannot, or if this is
     another system. What is missing still, or may not be installed, its user names."""
     take_paths()
-    lacking = packages(tools)
+    unpacked = UNPACKED.read_text(encoding="utf-8").split() if UNPACKED.is_file() else ()
+    lacking = [it for it in packages(tools) if it not in unpacked]   # even if nothing finds it there
     if not lacking or not may_install:
         return
     if not is_debian_12():

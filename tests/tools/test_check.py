@@ -213,6 +213,9 @@ def test_another_user(machine):
         assert (status, said.splitlines()[-1]) == (0, PASSED), said
         assert len([it for it in called if it.startswith("dpkg-deb")]) == number
     assert not (machine.bin / "cargo").exists()
+    machine.lacks("coqc")
+    machine.stand_in("dpkg-deb", "")
+    assert [bool(installs(machine.run("tools/check")[2])) for _ in range(2)] == [True, False], "nobody finds it there"
 
 
 # What of the installation fails, by whose words, for which user.
