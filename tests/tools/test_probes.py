@@ -5,6 +5,7 @@ import fcntl
 import os
 import platform
 import re
+import shutil
 import sys
 
 import cargo
@@ -141,6 +142,22 @@ def test_target(name, monkeypatch):
     assert holds(name)
     monkeypatch.setattr(cargo, "toolchain_for", lambda _: None)
     assert not holds(name)
+
+
+def interpreter(command):
+    """What runs a command of this machine that is a script, if it is one."""
+    with open(shutil.which(command), "rb") as file:
+        words = file.readline().decode("latin-1").split()
+    if not words or not words[0].startswith("#!"):
+        return None
+    return words[1] if words[0].endswith("/env") else os.path.basename(words[0])
+
+
+@pytest.mark.parametrize("tool", tools.TOOLS)
+def test_what_runs_a_tool_is_needed_with_it(tool):
+    """So npm without Node names Node's package. Debian always has the other interpreters."""
+    there = [it for it in tools.TOOLS[tool] if it[0] != "/" and " " not in it and shutil.which(it)]
+    assert {interpreter(it) for it in there} <= {None, "sh", "bash", "perl", "python3", *tools.TOOLS[tool]}
 
 
 @pytest.mark.parametrize("line, is_there", [("import os", True), ("import os; assert False", False),
