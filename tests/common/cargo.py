@@ -119,6 +119,12 @@ def copied_crate(folder, toolchain=None, crate=BINDINGS):
     return Cargo(folder / crate.name, toolchain)
 
 
+def number_of_tests(crate):
+    """How many tests the sources of a crate have, beside those of its documentation."""
+    return sum(path.read_text(encoding="utf-8").count("#[test]") for path in crate.rglob("*.rs")
+               if "target" not in path.relative_to(crate).parts)
+
+
 class Comparison(Cargo):
     """A program of tests/compare, over bindings/rust or over a vm-superio, with some features of its own."""
 

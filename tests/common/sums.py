@@ -1,14 +1,18 @@
 # SPDX-License-Identifier: Apache-2.0 OR BSD-3-Clause
-"""tests/sums.txt: how many tests each folder has at least, and how many of them are left out where something is not
-there that no package has. A run with --sums fails if it tried fewer, or left out more."""
+"""tests/sums.txt: how many tests each folder and the sources of crates have at least, and how many of a folder are left
+out where something is not there that no package has. A run with --sums fails if it tried fewer, or left out more."""
 from collections import defaultdict
 
+import program
+from cargo import BINDINGS, DEVICES, number_of_tests
 from harness import ROOT
 
 TABLE = ROOT / "tests" / "sums.txt"
 COMMAND = "python3 -m pytest --collect-only --write-sums"
-HEAD = f"""# How many tests each folder has at least and, beside the name of a place of tests/common/tools.py, how many of these
-# may be left out where that is not there. This command writes the file: {COMMAND}
+HEAD = f"""\
+# How many tests there are at least: in each folder and, beside the name of a place of tests/common/tools.py, how many
+# of them may be left out where that is not there; and in the sources of crates, which Cargo and rt ci try.
+# This command writes the file: {COMMAND}
 """
 
 
@@ -23,17 +27,26 @@ def rows_of(tests):
     return rows
 
 
+def of_sources():
+    """What the sources have for Cargo and for rt, which have to try all of it."""
+    numbers = {"must-fail edits of crates": program.number_of_edits(), "tests of crates": program.number_of_tests(),
+               **{f"tests of {it.relative_to(ROOT)}": number_of_tests(it) for it in (DEVICES, BINDINGS)}}
+    return {row: number for row, number in numbers.items() if number}
+
+
 def write(tests):
-    TABLE.write_text(HEAD + "".join(f"{row}: {len(names)}\n" for row, names in sorted(rows_of(tests).items())), "utf-8")
+    numbers = {**{row: len(names) for row, names in rows_of(tests).items()}, **of_sources()}
+    TABLE.write_text(HEAD + "".join(f"{row}: {number}\n" for row, number in sorted(numbers.items())), "utf-8")
 
 
 def faults(tests):
     """What a run tried less, or left out more, than the table says."""
     lines = [line for line in TABLE.read_text(encoding="utf-8").splitlines() if not line.startswith("#")]
     least, found = {row: int(number) for row, number in (line.rsplit(": ", 1) for line in lines)}, rows_of(tests)
+    numbers = {**{row: len(names) for row, names in found.items()}, **of_sources()}
     for row, number in least.items():
-        if ", " not in row and len(found.get(row, ())) < number:
-            yield f"{row}: {len(found.get(row, ()))} tests, and tests/sums.txt says {number}"
+        if ", " not in row and numbers.get(row, 0) < number:
+            yield f"{row}: {numbers.get(row, 0)}, and tests/sums.txt says {number}"
     for row, names in found.items():
         if ", " in row and len(names) > least.get(row, 0):
             yield (f"{row}: {len(names)} tests were left out, and tests/sums.txt says {least.get(row, 0)}: "

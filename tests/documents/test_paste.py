@@ -61,6 +61,7 @@ def cases():
 
 def paste(folder, where, commands, typed, printed):
     """Pastes commands into a folder. They do what their document says, and nothing asks a network."""
+    assert "apt-get" not in commands, f"{where}: this needs a network, and fails while another apt-get runs"
     kit = [os.path.dirname(shutil.which("rt"))] if KIT.search(commands) else []
     for form, shorter in SHORTER:
         commands = re.sub(form, shorter, commands, flags=re.M)

@@ -9,7 +9,8 @@ import sys
 from pathlib import Path
 
 import pytest
-from cargo import BINDINGS, DEVICES, ORIGINAL, Cargo, Comparison, add_crate, copied_crate, toolchain_for, toolchains
+from cargo import (BINDINGS, DEVICES, ORIGINAL, Cargo, Comparison, add_crate, copied_crate, number_of_tests,
+                   toolchain_for, toolchains)
 from harness import ROOT, check
 from recorded import difference, random_recorded, recordings, rows_of
 from tools import PLACES
@@ -40,12 +41,6 @@ def oldest():
     return found
 
 
-def number_of_tests(crate):
-    """How many tests the sources of a crate have, beside those of its documentation."""
-    return sum(path.read_text(encoding="utf-8").count("#[test]") for path in crate.rglob("*.rs")
-               if "target" not in path.relative_to(crate).parts)
-
-
 def test_erased():
     """The devices are what tools/erase makes of the proved source."""
     check([sys.executable, ROOT / "tools" / "erase", "--check"])
@@ -72,7 +67,7 @@ def test_formatted(crate, tmp_path):
 def test_as_released(crate, tmp_path):
     """With other random numbers for each commit."""
     ran = copied_crate(tmp_path, crate=crate).test("--release", "--lib", "--tests")
-    assert ran == number_of_tests(crate) >= 14
+    assert ran == number_of_tests(crate)
 
 
 @pytest.mark.needs("debian-rust")

@@ -81,10 +81,11 @@ def test_node(): pass"""
 SUMS = {
     "tests: 3\ntests, Deno: 1": None,
     "tests: 2\ntests, Deno: 2\ntests, KVM: 1": None,
-    "tests: 4\ntests, Deno: 1": "tests: 3 tests, and tests/sums.txt says 4",
+    "tests: 4\ntests, Deno: 1": "tests: 3, and tests/sums.txt says 4",
     "tests: 3\ntests, KVM: 1":
     "tests, Deno: 1 tests were left out, and tests/sums.txt says 0: tests/test_it.py::test_deno",
-    "tests: 3\ntests, Deno: 1\nother/tests: 1": "other/tests: 0 tests, and tests/sums.txt says 1",
+    "tests: 3\ntests, Deno: 1\nother/tests: 1": "other/tests: 0, and tests/sums.txt says 1",
+    "tests: 3\ntests, Deno: 1\ntests of crates: 1": "tests of crates: 0, and tests/sums.txt says 1",
 }
 
 
