@@ -42,7 +42,7 @@ while read monitor; do
     echo "status $?"
 done
 """
-LIMIT = 300  # seconds that a guest may take
+LIMIT = 3600  # seconds that a guest may take, on a busy machine too
 
 
 def sum_of_sources():
@@ -188,7 +188,7 @@ def make_initramfs(folder, monitors):
 def host(folder):
     """A host for the monitors, as a context."""
     if not (IMAGES / "initramfs").exists():
-        check([ROOT / "examples" / "kvm" / "fetch", IMAGES], timeout=120)
+        check([ROOT / "examples" / "kvm" / "fetch", IMAGES])
     monitors = build_monitors(folder)
     machine = OwnHost(monitors) if own_processor_runs_guests() else HostInQemu(monitors, folder)
     try:

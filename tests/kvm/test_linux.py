@@ -15,6 +15,7 @@ import time
 
 import pytest
 from booting import Stalled, console, host, sum_of_sources
+from harness import LIMIT
 from monitors import HERE
 
 pytestmark = [pytest.mark.needs("cc", "make", "cargo", "qemu"), pytest.mark.where("Linux on x86-64")]
@@ -25,10 +26,10 @@ PASTED, MOVED, EXCHANGED = 4096, 65536, 16384
 BURST, BURSTS = 256 + 40, 20
 # Pieces of a paste: their sizes in turn.
 EVEN, ODD = [1000], [1, 7, 64, 65, 300, 1000, 255, 257]
-# The most seconds that a boot, a command, a paste and much output may take, and how long a stall is looked at.
-BOOT, COMMAND, PASTE, OUTPUT, STALL = 100, 30, 30, 200, 8
+# After how many seconds what does not come counts as what never comes, and how long a stall is looked at.
+PATIENCE, STALL = LIMIT, 8
 CLOCK = 0xD0000
-RTCDR, RTCMR, RTCLR, RTCIMSC, RTCMIS = (CLOCK + offset for offset in (0x000, 0x004, 0x008, 0x010, 0x018))
+RTCDR, RTCMR, RTCLR, RTCIMSC, RTCMIS, RTCICR = (CLOCK + it for it in (0x000, 0x004, 0x008, 0x010, 0x018, 0x01C))
 SET_TO = 0x10000000  # in 1978
 
 
@@ -44,14 +45,14 @@ def digest(content):
 def run(guest, command):
     """What a command of the guest prints."""
     guest.send(f"echo b''egin; {command}; echo e''nd\n")
-    guest.until(b"begin\r\n", COMMAND)
-    return guest.until(b"end\r\n", COMMAND).decode()
+    guest.until(b"begin\r\n", PATIENCE)
+    return guest.until(b"end\r\n", PATIENCE).decode()
 
 
 def begin_raw(guest, command):
     """Starts a command on a terminal that passes every byte as it is."""
     guest.send(f"stty raw -echo; echo r''eady; {command}; stty sane\n")
-    guest.until(b"ready\n", COMMAND)
+    guest.until(b"ready\n", PATIENCE)
 
 
 def check_paste(guest, sizes):
@@ -59,15 +60,15 @@ def check_paste(guest, sizes):
     content = printable(PASTED, str(sizes))
     begin_raw(guest, f"head -c {PASTED} | md5sum")
     guest.paste(content, sizes)
-    assert guest.until(b"  -\n", PASTE).decode() == digest(content)
+    assert guest.until(b"  -\n", PATIENCE).decode() == digest(content)
 
 
 def check_output(guest):
     """What the guest sends comes out as it is."""
     run(guest, f"dd if=/dev/urandom of=/sent bs={MOVED} count=1")
     begin_raw(guest, "cat /sent; md5sum < /sent")
-    content = guest.take(MOVED, OUTPUT)
-    assert guest.until(b"  -\n", COMMAND).decode() == digest(content)
+    content = guest.take(MOVED, PATIENCE)
+    assert guest.until(b"  -\n", PATIENCE).decode() == digest(content)
 
 
 def check_both(guest):
@@ -76,8 +77,8 @@ def check_both(guest):
     run(guest, f"dd if=/dev/urandom of=/sent bs={EXCHANGED} count=1")
     begin_raw(guest, f"(cat /sent & head -c {EXCHANGED} > /received; wait); cat /sent /received | md5sum")
     guest.paste(content, EVEN)
-    sent = guest.take(EXCHANGED, OUTPUT)
-    assert guest.until(b"  -\n", OUTPUT).decode() == digest(sent + content)
+    sent = guest.take(EXCHANGED, PATIENCE)
+    assert guest.until(b"  -\n", PATIENCE).decode() == digest(sent + content)
 
 
 def check_stall(guest):
@@ -92,18 +93,25 @@ def check_stall(guest):
             assert guest.until(b"  -\n", STALL).decode() == digest(content)
         except Stalled:
             guest.send(b"\n")
-            assert guest.until(b"  -\n", PASTE).decode() == digest(content)
+            assert guest.until(b"  -\n", PATIENCE).decode() == digest(content)
             return
     pytest.fail("no burst has stalled")
 
 
 def check_clock(guest):
     """The guest reads the time, sets it, and sees an alarm."""
-    assert abs(int(run(guest, f"devmem {RTCDR}"), 16) - time.time()) < 60
+    before = time.time()
+    assert before - 60 < int(run(guest, f"devmem {RTCDR}"), 16) < time.time() + 60
+    before = time.time()
     run(guest, f"devmem {RTCLR} 32 {SET_TO}")
-    assert 0 <= int(run(guest, f"devmem {RTCDR}"), 16) - SET_TO < COMMAND
-    alarm = f"devmem {RTCIMSC} 32 1; devmem {RTCMR} 32 $(($(devmem {RTCDR}) + 4)); devmem {RTCMIS}"
-    assert run(guest, alarm) == "0x00000000\r\n"
+    assert 0 <= int(run(guest, f"devmem {RTCDR}"), 16) - SET_TO <= time.time() - before + 1
+    run(guest, f"devmem {RTCIMSC} 32 1")
+    for seconds in (4, 40, 400):   # a busy machine may let the alarm pass before the guest looks
+        said = run(guest, f"devmem {RTCICR} 32 1; at=$(($(devmem {RTCDR}) + {seconds})); devmem {RTCMR} 32 $at; "
+                          f"seen=$(devmem {RTCMIS}); [ $(($(devmem {RTCDR}))) -ge $at ] || echo $seen")
+        if said:
+            break
+    assert said == "0x00000000\r\n"
     assert run(guest, f"while [ $(devmem {RTCMIS}) = 0x00000000 ]; do usleep 100000; done; devmem {RTCMIS}") \
         == "0x00000001\r\n"
 
@@ -111,12 +119,12 @@ def check_clock(guest):
 def end(guest):
     """The guest resets the machine, which ends the monitor."""
     guest.send("reboot -f\n")
-    guest.until(b": the guest reset the machine\n", COMMAND)
-    guest.until(b"status 0\n", COMMAND)
+    guest.until(b": the guest reset the machine\n", PATIENCE)
+    guest.until(b"status 0\n", PATIENCE)
 
 
 def check_guest(guest):
-    guest.until(b"/ # ", BOOT)
+    guest.until(b"/ # ", PATIENCE)
     assert run(guest, "uname -s") == "Linux\r\n"
     for sizes in (EVEN, ODD, EVEN):
         check_paste(guest, sizes)
