@@ -72,7 +72,7 @@ def pytest_collection_modifyitems(items):
 
 
 def pytest_collection_finish(session):
-    if session.config.getoption("--write-sums"):
+    if session.config.getoption("--write-sums") and not session.testsfailed:   # each file was read
         sums.write((item.nodeid, places_of(item)) for item in session.items)
 
 

@@ -6,7 +6,7 @@ import shutil
 import sys
 
 import pytest
-from harness import ROOT, run
+from harness import ROOT, check, run
 from parts import OF_CARGO, counted, of_gate
 from parts import run as run_part
 
@@ -99,7 +99,12 @@ def test_sums(table, fault, workers, tmp_path):
 
 
 def test_sums_are_written(tmp_path):
-    assert run_pytest(tmp_path, THREE, "--collect-only", "--write-sums").returncode == 0
+    """Unless a file cannot be read: its tests would be missing."""
+    write_test(tmp_path, "unknown", "test_bad.py")
+    assert run_pytest(tmp_path, THREE, "--collect-only", "--write-sums").returncode != 0
+    assert not (tmp_path / "tests/sums.txt").exists()
+    (tmp_path / "tests/test_bad.py").unlink()
+    check([sys.executable, "-m", "pytest", "--collect-only", "--write-sums", "tests"], cwd=tmp_path)
     text = (tmp_path / "tests/sums.txt").read_text("utf-8")
     assert re.sub("^#.*\n", "", text, flags=re.M) == "tests: 3\ntests, Deno: 1\n"
 
