@@ -18,6 +18,11 @@ static int64_t seconds(clockid_t which) {
     return time.tv_sec;
 }
 
+/* Since 1970. */
+static uint64_t moment(void) {
+    return (uint64_t)(seconds(CLOCK_BOOTTIME) + ahead);
+}
+
 /* After each access: the line is a level, which changes or stays, and the timer goes off when the alarm is due. */
 static void follow(uint64_t now) {
     uint64_t due = superio_rtc_alarm_due(&rtc, now);
@@ -36,7 +41,7 @@ static void follow(uint64_t now) {
 void clock_access(uint64_t address, bool is_write, uint8_t *bytes, unsigned count) {
     uint16_t offset = (uint16_t)(address - CLOCK_BASE), within = count == 4 ? 0 : offset % 4;
     bool is_clock = address >= CLOCK_BASE && address < CLOCK_BASE + SUPERIO_RTC_WINDOW && within + count <= 4;
-    uint64_t now = (uint64_t)(seconds(CLOCK_BOOTTIME) + ahead); /* since 1970 */
+    uint64_t now = moment();
     uint32_t value;
     if (is_clock && is_write && count == 4) {
         memcpy(&value, bytes, sizeof value);
@@ -56,6 +61,12 @@ void clock_turn(void) {
     uint64_t times;
     if (read(timer, &times, sizeof times) == (ssize_t)sizeof times)
         clock_access(CLOCK_BASE + RTCMIS, false, bytes, sizeof bytes);
+}
+
+/* The machine is reset, and the input of its interrupt controller is down. The clock itself goes on. */
+void clock_reset(void) {
+    was_up = false;
+    follow(moment());
 }
 
 /* Returns what is readable when the alarm is due. */

@@ -10,6 +10,8 @@ enum { CPUID_ENTRIES = 256, TSS_ADDRESS = 0xFFFBD000, PAGE = 4096 };
 int vm, vcpu;
 _Alignas(PAGE) uint8_t memory[MEMORY_SIZE];
 static struct kvm_run *run;
+static size_t run_size;
+static bool is_reset; /* by the guest, in this access */
 static int line; /* the serial port's interrupt. KVM makes one edge of each write to this eventfd */
 
 static void add_memory(uint32_t slot, uint64_t start, uint64_t end) {
@@ -50,9 +52,20 @@ void machine_create(void) {
     KVM(vm, KVM_IRQFD, &((struct kvm_irqfd){.fd = (uint32_t)line, .gsi = SERIAL_IRQ}));
     vcpu = KVM(vm, KVM_CREATE_VCPU, NULL);
     set_cpuid(kvm);
-    run = mmap(NULL, (size_t)KVM(kvm, KVM_GET_VCPU_MMAP_SIZE, NULL), PROT_READ | PROT_WRITE, MAP_SHARED, vcpu, 0);
+    run_size = (size_t)KVM(kvm, KVM_GET_VCPU_MMAP_SIZE, NULL);
+    run = mmap(NULL, run_size, PROT_READ | PROT_WRITE, MAP_SHARED, vcpu, 0);
     if (run == MAP_FAILED)
         err(1, "the vCPU's exits");
+    close(kvm);
+}
+
+/* Leaves nothing of the machine, and its memory full of zeros. */
+void machine_discard(void) {
+    munmap(run, run_size);
+    close(vcpu);
+    close(line);
+    close(vm);
+    must(madvise(memory, sizeof memory, MADV_DONTNEED), "the guest's memory");
 }
 
 /* Interrupts the guest for the serial port, by an edge. Returns false if that is refused. */
@@ -69,7 +82,7 @@ static void serve_port(uint16_t port, bool is_write, uint8_t *byte) {
     if (is_serial && is_write)
         serial_write(offset, *byte);
     else if (is_controller && is_write && superio_i8042_write(offset, *byte).resets)
-        monitor_end(0, "the guest reset the machine");
+        is_reset = true;
     else if (!is_write)
         *byte = is_serial ? serial_read(offset) : is_controller ? superio_i8042_read(offset) : 0xFF;
 }
@@ -86,7 +99,8 @@ static void serve(void) {
         clock_access(run->mmio.phys_addr, run->mmio.is_write, run->mmio.data, run->mmio.len);
         break;
     default:
-        warnx("KVM gives up, for reason %u, error %u", run->exit_reason, run->internal.suberror);
+        warnx("KVM gives up, for reason %u, error %u", run->exit_reason,
+              run->exit_reason == KVM_EXIT_INTERNAL_ERROR ? run->internal.suberror : 0);
         monitor_end(1, run->exit_reason == KVM_EXIT_SHUTDOWN ? "a triple fault" : "the guest cannot go on");
         break;
     }
@@ -101,6 +115,9 @@ void *machine_run(void *nothing) {
             serve();
         else if (error != EINTR)
             errx(1, "KVM_RUN: %s", strerror(error));
+        if (is_reset)
+            monitor_reset();
+        is_reset = false;
         goes_on = !monitor_is_ending();
         pthread_mutex_unlock(&lock);
     }

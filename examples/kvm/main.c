@@ -8,9 +8,10 @@
 #include <termios.h>
 
 static const char USAGE[] =
-    "usage: monitor [-e] IMAGE [INITRAMFS [WORDS]]\n"
+    "usage: monitor [-e] [-r] IMAGE [INITRAMFS [WORDS]]\n"
     "Boots IMAGE if it is a bzImage of Linux, with the command line WORDS. Starts any other at 0x7C00 in real mode.\n"
     "With -e the guest gets input before it has enabled its interrupt, as one that polls needs it.\n"
+    "With -r it starts again when it resets the machine, which otherwise ends the monitor.\n"
     "Ctrl-A x leaves. Ctrl-A before any other key stands for that key.\n";
 enum { CTRL_A = 0x01, PATIENCE = 1000, PAUSE = 5 /* milliseconds */, MOST_WRITES = 256 /* in a turn */ };
 
@@ -22,6 +23,8 @@ static int end_status;         /* and with which status */
 static pthread_cond_t has_room = PTHREAD_COND_INITIALIZER; /* the output */
 static bool is_stuck;          /* its reader has taken nothing for long */
 static uint64_t refused;       /* bytes of output, by a pipe that is closed or a disk that is full */
+static bool restarts;          /* the machine, when the guest resets it */
+static const char *image, *initramfs, *kernel_words = "console=ttyS0 reboot=k panic=1";
 
 /* The result of a call that has to succeed. */
 int must(int result, const char *what) {
@@ -66,6 +69,24 @@ void monitor_end(int status, const char *why) {
 
 bool monitor_is_ending(void) {
     return end_reason;
+}
+
+static void start_machine(void) {
+    machine_create();
+    boot(image, initramfs, kernel_words);
+}
+
+/* The guest resets the machine. A new one takes its place, since KVM resets none. What has power all the time, or is
+ * outside, goes on: the clock, and the reader of the output. */
+void monitor_reset(void) {
+    if (!restarts)
+        monitor_end(0, "the guest reset the machine");
+    if (end_reason)
+        return;
+    machine_discard();
+    start_machine();
+    serial_reset();
+    clock_reset();
 }
 
 /* Holds the guest until the reader of its output has taken some, for a second at most: the reader may be a guest that
@@ -119,15 +140,16 @@ static _Noreturn void finish(void) {
     _exit(end_status);
 }
 
-/* What was typed, and the console has not accepted. */
-static uint8_t typed[SUPERIO_SERIAL_FIFO_SIZE];
+/* What was typed, and the console has not accepted. It is read before the guest is ready, so that Ctrl-A x leaves one
+ * that never is. */
+static uint8_t typed[4096];
 static size_t kept;
 
-/* Reads what was typed, at most so many bytes. Returns whether more may come. */
-static bool read_input(size_t room) {
+/* Reads what was typed, as far as there is room for it. Returns whether more may come. */
+static bool read_input(void) {
     static bool is_after_ctrl_a;
     uint8_t bytes[sizeof typed];
-    ssize_t count = read(STDIN_FILENO, bytes, room);
+    ssize_t count = read(STDIN_FILENO, bytes, sizeof typed - kept);
     if (count <= 0)
         return count < 0 && (errno == EAGAIN || errno == EINTR);
     for (ssize_t i = 0; i < count; i++) {
@@ -159,13 +181,13 @@ static superio_console_wanted turn(void) {
     return wanted;
 }
 
-/* The event loop. Input that the console does not want waits in the terminal. */
+/* The event loop. */
 static _Noreturn void run(int alarm) {
     struct pollfd files[] = {{.events = POLLIN}, {.events = POLLOUT}, {.fd = wakes, .events = POLLIN},
                              {.fd = alarm, .events = POLLIN}};
     for (bool is_open = true;;) {
         superio_console_wanted wanted = turn();
-        files[0].fd = is_open && kept == 0 && wanted.input > 0 ? STDIN_FILENO : -1;
+        files[0].fd = is_open && kept < sizeof typed ? STDIN_FILENO : -1;
         files[1].fd = wanted.output ? STDOUT_FILENO : -1;
         if (poll(files, 4, wanted.turn ? PAUSE : -1) <= 0)
             continue;
@@ -173,23 +195,31 @@ static _Noreturn void run(int alarm) {
         if (files[2].revents)
             eventfd_read(wakes, &times);
         if (files[0].revents)
-            is_open = read_input(wanted.input);
+            is_open = read_input();
         for (int i = 0; files[1].revents && i < MOST_WRITES && write_output(0); i++) {}
     }
 }
 
 int main(int count, char **words) {
-    bool is_early = count > 1 && strcmp(words[1], "-e") == 0;
-    char **given = words + 1 + is_early;
-    count -= 1 + is_early;
-    if (count < 1 || count > 3 || *given[0] == '-') {
+    bool is_early = false, is_wrong = false;
+    opterr = 0;
+    for (int option; (option = getopt(count, words, "+er")) != -1;) {
+        is_early |= option == 'e';
+        restarts |= option == 'r';
+        is_wrong |= option == '?';
+    }
+    count -= optind;
+    if (is_wrong || count < 1 || count > 3) {
         fputs(USAGE, stderr);
         return 2;
     }
     if (!SUPERIO_ABI_MATCHES())
         errx(1, "the library has another interface than the header");
-    machine_create();
-    boot(given[0], given[1], count > 2 ? given[2] : "console=ttyS0 reboot=k panic=1");
+    image = words[optind];
+    initramfs = words[optind + 1];
+    if (count > 2)
+        kernel_words = words[optind + 2];
+    start_machine();
     serial_open(is_early);
     wakes = must(eventfd(0, EFD_NONBLOCK | EFD_CLOEXEC), "the event loop");
     int alarm = clock_open();

@@ -31,18 +31,21 @@ extern pthread_mutex_t lock;
 int must(int result, const char *what);
 void monitor_end(int status, const char *why);
 bool monitor_is_ending(void);
+void monitor_reset(void);
 bool monitor_hold(void);
 void monitor_wake(void);
 /* machine.c */
 extern int vm, vcpu;
 extern uint8_t memory[MEMORY_SIZE];
 void machine_create(void);
+void machine_discard(void);
 void *machine_run(void *nothing);
 bool machine_interrupt(void);
 /* boot.c */
 void boot(const char *image, const char *initramfs, const char *words);
 /* serial.c */
 void serial_open(bool is_polled);
+void serial_reset(void);
 uint8_t serial_read(uint8_t offset);
 void serial_write(uint8_t offset, uint8_t value);
 size_t serial_receive(const uint8_t *bytes, size_t count);
@@ -52,6 +55,7 @@ uint64_t serial_dropped(void);
 superio_console_wanted serial_turn(void);
 /* clock.c */
 int clock_open(void);
+void clock_reset(void);
 void clock_access(uint64_t address, bool is_write, uint8_t *bytes, unsigned count);
 void clock_turn(void);
 

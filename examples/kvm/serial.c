@@ -55,3 +55,8 @@ superio_console_wanted serial_turn(void) {
 void serial_open(bool is_polled) {
     superio_console_new(&console, is_polled);
 }
+
+void serial_reset(void) {
+    if (carry_out(superio_console_reset(&console)))
+        monitor_wake();
+}

@@ -39,6 +39,9 @@ static bool hangs;             /* the reader of the terminal takes nothing */
 static bool is_told = true;    /* a guest that waits for room, since some was made */
 static int timer;              /* of CLOCK_BOOTTIME */
 static int64_t due;            /* in nanoseconds, or 0 */
+static int made, closed;       /* machines, and what they have of KVM: two parts each */
+static bool is_mapped;         /* what the vCPU shows of its exits */
+static uint64_t lost;          /* bytes of output, beside those that the console has dropped */
 static int64_t now[CLOCKS] = {
     [CLOCK_REALTIME] = 1700000000 * SECOND, [CLOCK_MONOTONIC] = 777 * SECOND, [CLOCK_BOOTTIME] = 5000 * SECOND};
 
@@ -56,6 +59,8 @@ void __real_serial_consume(size_t count);
 uint64_t __real_serial_dropped(void);
 superio_console_wanted __real_serial_turn(void);
 ssize_t __real_write(int fd, const void *bytes, size_t count);
+int __real_close(int fd);
+int __real_munmap(void *start, size_t size);
 
 static void fail(const char *what) {
     SEE("  %s\n", what);
@@ -169,7 +174,7 @@ void __wrap_serial_consume(size_t count) {
 
 uint64_t __wrap_serial_dropped(void) {
     need_lock(true);
-    return __real_serial_dropped();
+    return lost + __real_serial_dropped();
 }
 
 superio_console_wanted __wrap_serial_turn(void) {
@@ -218,6 +223,14 @@ static void end_run(uint32_t reason) {
         machine_run(NULL);
 }
 
+/* The vCPU gives up. An error is of KVM's own reason alone: for any other the memory has something else there. */
+static void give_up(const char *given) {
+    unsigned long reason = 0, suberror = 0;
+    sscanf(given, "%lu %lu", &reason, &suberror);
+    exits->internal.suberror = (uint32_t)suberror;
+    end_run((uint32_t)reason);
+}
+
 /* Reads hexadecimal digits, and returns how many bytes they are. */
 static uint32_t bytes_of(const char *text, uint8_t *bytes) {
     uint32_t count = 0;
@@ -251,6 +264,14 @@ static void serve_access(bool is_port, bool is_write) {
         SEE(i == 0 ? "  %02x" : "%02x", data[i]);
 }
 
+/* The guest stores bytes to memory that it has. */
+static void store_bytes(const char *given) {
+    unsigned long long place;
+    int end = 0;
+    sscanf(given, "%llx %n", &place, &end);
+    bytes_of(given + end, memory + place);
+}
+
 /* The next line of the script. At its end the host ends too. */
 static void serve_line(void) {
     static uint8_t bytes[MOST];
@@ -263,7 +284,7 @@ static void serve_line(void) {
     switch (*line) {
     case 'i': case 'o': serve_access(true, *line == 'o'); break;
     case 'l': case 's': serve_access(false, *line == 's'); break;
-    case 'q': end_run((uint32_t)number); break;
+    case 'q': give_up(given); break;
     case 't': __real_write(keys, bytes, bytes_of(given + 1, bytes)); break;
     case 'c': close(keys); break;
     case 'k': raise((int)number); break;
@@ -272,6 +293,8 @@ static void serve_line(void) {
     case 'r': input_error = number; break;
     case 'h': hangs = true; break;
     case 'g': hangs = false; break;
+    case 'm': store_bytes(given); break;
+    case 'd': lost += strtoull(given, NULL, 10); break;
     case 'b': now[CLOCK_REALTIME] -= number * SECOND; break;
     case 'w': now[CLOCK_MONOTONIC] += number * 1000000; /* fallthrough */
     case 'n':
@@ -373,6 +396,10 @@ static void take_interrupt(const struct kvm_irqfd *given) {
 /* KVM, whose parts are all standard input, but for the vCPU. */
 int __wrap_ioctl(int fd, unsigned long request, void *argument) {
     switch (request) {
+    case KVM_CREATE_VM:
+        if (closed != 2 * made++ || is_mapped)
+            fail("a machine beside another one");
+        break;
     case KVM_SET_TSS_ADDR: dprintf(parts, "tss %lx\n", (unsigned long)argument); break;
     case KVM_CREATE_IRQCHIP: dprintf(parts, "interrupt controllers\n"); break;
     case KVM_CREATE_PIT2: dprintf(parts, "timer, flags %x\n", ((struct kvm_pit_config *)argument)->flags); break;
@@ -384,6 +411,7 @@ int __wrap_ioctl(int fd, unsigned long request, void *argument) {
         fd = memfd_create("exits", 0);
         must(ftruncate(fd, MOST), "exits");
         exits = mmap(NULL, MOST, PROT_READ | PROT_WRITE, MAP_SHARED, fd, 0);
+        is_mapped = true;
         return fd;
     case KVM_GET_VCPU_MMAP_SIZE: return fails("mmap") ? 0 : MOST;
     case KVM_GET_SUPPORTED_CPUID: get_cpuid(argument); break;
@@ -411,6 +439,17 @@ int __wrap_ioctl(int fd, unsigned long request, void *argument) {
 int __wrap_open(const char *path, int flags) {
     errno = EACCES;
     return strcmp(path, "/dev/kvm") == 0 && flags == (O_RDWR | O_CLOEXEC) && !fails("open") ? STDIN_FILENO : -1;
+}
+
+/* KVM's parts stay open, since they are standard input. */
+int __wrap_close(int fd) {
+    closed += fd == STDIN_FILENO;
+    return fd == STDIN_FILENO ? 0 : __real_close(fd);
+}
+
+int __wrap_munmap(void *start, size_t size) {
+    is_mapped = false;
+    return size == MOST ? __real_munmap(start, size) : -1;
 }
 
 uint32_t __wrap_superio_abi(void) {

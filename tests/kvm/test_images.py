@@ -234,6 +234,22 @@ def test_machine(monitor):
     assert lines == parts + functions
 
 
+@pytest.mark.parametrize("name", ["flat", "kernel"])
+def test_a_reset_begins_again(monitor, name):
+    """The machine has the same parts after it, and the guest begins in the same state, whatever it left in memory."""
+    (monitor / "flat").write_bytes(b"\xF4" * 700)
+    (monitor / "kernel").write_bytes(Image(4, 0x20F, KERNEL_64, 1 << 20, 1 << 20, 5000).content())
+    (monitor / "initramfs").write_bytes(b"i" * 3000)
+    words = [name, "initramfs", "some words"]
+    assert booted(monitor, *words)[0] == 0
+    state, parts = ((monitor / file).read_bytes() for file in ("state", "machine"))
+    written = [0, 0x500, 0x7C00, 0x9000, 0x10000, 0x20000, 0xCFFF0, 1 << 20, (1 << 20) + 0x200, (1 << 21) - 16]
+    script = "".join(f"memory {place:x} {'a5' * 16}\n" for place in written) + "out 64 1 fe\n"
+    ran = run(["./monitor", "-r", *words], cwd=monitor, input=script)
+    assert ran.returncode == 0 and "anitizer" not in ran.stdout, ran.stdout
+    assert (monitor / "state").read_bytes() == state and (monitor / "machine").read_bytes() == 2 * parts
+
+
 # Calls that may fail, and what the monitor says of them.
 FAILURES = {
     "library": "the library has another interface than the header", "open": "/dev/kvm: Permission denied",

@@ -3,14 +3,17 @@
 
 Over host.c, a host that is a script in place of KVM, it does what scripts.txt says, by the C library and by the Rust
 crate's `Serial`, and sanitizers find nothing. Under KVM guest.S echoes a paste of 100,000 bytes by interrupts, although
-it takes at most 256 bytes for an interrupt; sleeps until an alarm; echoes what came meanwhile; and resets the machine.
+it takes at most 256 bytes for an interrupt; sleeps until an alarm; echoes what came meanwhile; and resets the machine,
+which ends the monitor, or with -r starts it again.
 Two monitors whose guests echo each other go on after the socket between them was full in both directions.
 """
 import difflib
 import random
 import re
+import signal
 import socket
 import subprocess
+import threading
 import time
 from contextlib import suppress
 
@@ -36,12 +39,14 @@ int pthread_cond_clockwait(pthread_cond_t *condition, pthread_mutex_t *mutex, cl
 }
 """
 TEXT = re.sub("^#.*\n", "", (HERE / "scripts.txt").read_text(encoding="ascii"), flags=re.M)
-SCRIPTS = at_least(11, re.split("\n\n+", TEXT.strip("\n")))
+# What is seen when the guest starts.
+STARTS = "monitor image  edges of irq 4  at 7c00  raw  starts f4"
+SCRIPTS = at_least(20, re.split("\n\n+", TEXT.strip("\n")))
 
 
 def test_number_of_lines():
-    assert sum(script.count("\n") for script in SCRIPTS) > 240
-    assert len(WRAPPED) >= 11
+    assert sum(script.count("\n") for script in SCRIPTS) > 300
+    assert len(WRAPPED) >= 21
 
 
 @pytest.fixture(scope="module", params=["C", pytest.param("Rust", marks=pytest.mark.needs("cargo"))])
@@ -75,16 +80,39 @@ def shortened(text):
     return re.sub(r"(?<= )(\w\w)\1{7,}(?!\S)", lambda it: f"{it[1]}*{len(it[0]) // 2}", text)
 
 
-@pytest.mark.parametrize("script", SCRIPTS, ids=lambda it: it.splitlines()[0].strip()[:40])
-def test_script(over_host, script):
-    """The monitor does what stands behind the lines of a script."""
+def check_script(folder, script):
+    """The monitor of a folder does what stands behind the lines of a script."""
     full = re.sub(r"(\w\w)\*(\d+)", lambda it: it[1] * int(it[2]), script)
     command, *lines = (line.partition("  ")[0] for line in full.splitlines())
     given = "".join(f"{line}\n" for line in lines[:-1])   # the last one is the status
-    ran = run([f"./{command.split()[0]}", *command.split()[1:]], cwd=over_host, input=given)
+    ran = run([f"./{command.split()[0]}", *command.split()[1:]], cwd=folder, input=given)
     said = re.sub("monitor: |usage: ", r"\n\g<0>", ran.stdout).rstrip("\n")
     seen = shortened(f"{command}{said}\nstatus {ran.returncode}")
     assert seen == script, "\n".join(difflib.ndiff(script.splitlines(), seen.splitlines()))
+
+
+@pytest.mark.parametrize("script", SCRIPTS, ids=lambda it: it.splitlines()[0].strip()[:40])
+def test_script(over_host, script):
+    check_script(over_host, script)
+
+
+@pytest.mark.parametrize("name", "HUP INT QUIT ABRT BUS SEGV TERM".split())
+def test_signal(over_host, name):
+    """A signal that usually ends a program ends the monitor, which restores the terminal."""
+    number = signal.Signals[f"SIG{name}"].value
+    check_script(over_host, f"{STARTS}\nkill {number}  restored\nstatus {-number}")
+
+
+@pytest.mark.parametrize("name", "PIPE CHLD CONT URG WINCH".split())
+def test_signal_without_effect(over_host, name):
+    check_script(over_host, f"{STARTS}\nkill {signal.Signals['SIG' + name].value}\nin 3fd 1  60\nstatus 0")
+
+
+def test_resets_leave_nothing(over_host):
+    """Each gives back the files of the machine before."""
+    resets = "out 64 1 fe\n" * 40
+    ran = run(["sh", "-c", "ulimit -n 30; exec ./monitor -r image"], cwd=over_host, input=resets)
+    assert ran.returncode == 0 and ran.stdout.count("edges of irq 4  at 7c00") == 41, ran.stdout[-300:]
 
 
 def test_builds(monitor, guest):
@@ -111,6 +139,27 @@ def test_whether_kvm_is_there(monitor, guest):
     """The tests of KVM are left out only where the monitor, too, finds none."""
     ran = run([monitor / "monitor", guest], input=RESET)
     assert (ran.returncode == 0) == is_place("KVM"), ran.stdout
+
+
+@pytest.mark.where("KVM")
+def test_guest_resets(monitor, guest):
+    """With -r a guest that resets the machine starts again, and the user leaves."""
+    process = subprocess.Popen([monitor / "monitor", "-r", guest], stdin=subprocess.PIPE, stdout=subprocess.PIPE,
+                               stderr=subprocess.STDOUT, bufsize=0)
+    limit = threading.Timer(PATIENCE, process.kill)
+    limit.start()
+    try:
+        for text in b"first", b"second", b"third":
+            assert process.stdout.readline() == b"ready\r\n"
+            process.stdin.write(text + b"\n")
+            assert process.stdout.readline() == text + b"\n"
+            process.stdin.write(RESET.encode())
+        assert process.stdout.readline() == b"ready\r\n"
+        process.stdin.write(b"\x01x")
+        assert (process.stdout.read(), process.wait()) == (b"monitor: left by Ctrl-A x\n", 0)
+    finally:
+        limit.cancel()
+        process.kill()
 
 
 @pytest.mark.where("KVM")

@@ -3,6 +3,7 @@
 //! who takes the bare port. The monitor around them, in C, is the same. It calls each with its lock held.
 use std::collections::VecDeque;
 use std::io::{self, Write};
+use std::mem::take;
 use std::slice;
 use std::sync::Mutex;
 
@@ -72,6 +73,7 @@ pub struct Wanted {
 
 struct Port {
     serial: Serial<Line, NoEvents, Output>,
+    is_polled: bool,
     takes_input: bool,
     is_refused: bool,
 }
@@ -132,7 +134,17 @@ impl Port {
 #[no_mangle]
 pub extern "C" fn serial_open(is_polled: bool) {
     let serial = Serial::new(Line, Output::default());
-    *PORT.lock().unwrap() = Some(Port { serial, takes_input: is_polled, is_refused: false });
+    *PORT.lock().unwrap() = Some(Port { serial, is_polled, takes_input: is_polled, is_refused: false });
+}
+
+/// The output that waits stays.
+#[no_mangle]
+pub extern "C" fn serial_reset() {
+    access(|port| {
+        port.serial = Serial::new(Line, take(port.serial.writer_mut()));
+        port.takes_input = port.is_polled;
+        port.is_refused = false;
+    });
 }
 
 #[no_mangle]
