@@ -3,12 +3,13 @@
 # The C library. Plain `make` installs nothing: it says what there is, and what comes next.
 #
 #     make check-library
-#     make install PREFIX=/usr DESTDIR=tree LIBDIR=lib64
+#     make install PREFIX=/usr DESTDIR=tree LIBDIR=lib64 DOCDIR=share/doc/name
 #     make uninstall, with the same variables
 #
 # TARGET=aarch64-linux takes the libraries of another processor, and LIBRARIES=FOLDER those of a folder.
 PREFIX = /usr/local
 LIBDIR = lib
+DOCDIR = share/doc/superio
 TARGET = $(shell uname -m)-linux
 # The folder of a static and a shared library: that of TARGET. If prebuilt has none for this machine and TARGET is not
 # given, it is the one in which Cargo builds them.
@@ -19,6 +20,9 @@ CARGO = cargo
 to = $(DESTDIR)$(PREFIX)
 lib = $(to)/$(LIBDIR)
 licenses = $(to)/share/licenses/superio
+docs = $(to)/$(DOCDIR)
+# The pages and the program that the header names.
+named = $(sort $(shell grep -oE '[A-Za-z/-]+\.(md|c)\b' bindings/c/superio.h))
 version = $(shell cat VERSION)
 soname = libsuperio.so.$(shell sed -n 's/^.define SUPERIO_ABI //p' bindings/c/superio.h)
 # From the folder of the files for pkg-config to PREFIX, so that the tree may be moved.
@@ -69,13 +73,16 @@ install:
 	    > "$(lib)/pkgconfig/superio-static.pc"
 	chmod 644 "$(lib)/pkgconfig/superio.pc" "$(lib)/pkgconfig/superio-static.pc"
 	install -m 644 LICENSE LICENSES/* "$(licenses)"
+	for name in $(named); do install -D -m 644 $$name "$(docs)/$$name"; done
 
-# Removes what install wrote, and the folders of licenses and of pkg-config if nothing else is in them.
+# Removes what install wrote, and its folders of licenses, pages and files for pkg-config if nothing else is in them.
 uninstall:
 	rm -f "$(to)/include/superio.h" "$(lib)/libsuperio.a" "$(lib)/$(soname)" "$(lib)/libsuperio.so" \
 	    "$(lib)/pkgconfig/superio.pc" "$(lib)/pkgconfig/superio-static.pc"
 	for name in $(notdir $(wildcard LICENSE LICENSES/*)); do rm -f "$(licenses)/$$name"; done
-	for folder in "$(licenses)" "$(to)/share/licenses" "$(lib)/pkgconfig"; do
+	for name in $(named); do rm -f "$(docs)/$$name"; done
+	for folder in "$(licenses)" "$(to)/share/licenses" "$(lib)/pkgconfig" "$(docs)/docs" "$(docs)/examples/c" \
+	    "$(docs)/examples" "$(docs)" "$$(dirname "$(docs)")"; do
 	    [ ! -d "$$folder" ] || rmdir --ignore-fail-on-non-empty "$$folder"
 	done
 
@@ -94,7 +101,8 @@ installcheck:
 	trap 'rm -rf "$$place"' EXIT
 	for package in superio superio-static; do
 	    $(CC) examples/c/machine.c $$(pkg-config --cflags --libs $$package) -o "$$place/machine"
-	    "$$place/machine" | cmp - examples/c/expected
+	    "$$place/machine" > "$$place/printed"
+	    cmp "$$place/printed" examples/c/expected
 	done
 
 # Tests that a program which depends on vm-superio 0.8 takes an installed crate by one line.
@@ -115,7 +123,8 @@ installcheck-rust:
 		vm-superio = { path = "$(CRATE)" }
 	END
 	cargo run --quiet --offline --config 'source.crates-io.replace-with = "none"' \
-	    --config 'source.none.directory = "registry"' | grep 'lr: 0'
+	    --config 'source.none.directory = "registry"' > printed
+	echo 'RtcState { lr: 0, offset: 0, mr: 0, imsc: 0, ris: 0 }' | cmp - printed
 
 # Makes a release of the commit HEAD, from what git has, in the folder DIST: docs/RELEASE.md says what it has. The same
 # commit and the same versions of the tools give the same bytes, in any folder, at any time, for any user.

@@ -20,6 +20,8 @@ CONDITIONS = [
     (r"field (\w+)\.(\w+) \w+ at (\d+) size (\d+)", r"offsetof(\1, \2) == \3 && sizeof(((\1 *)0)->\2) == \4"),
     (r"struct (\w+) size (\d+)", r"sizeof(\1) == \2"),
 ]
+# What the header itself includes.
+STANDARD = "#include <stdbool.h>\n#include <stddef.h>\n#include <stdint.h>\n"
 # The names that the header uses for itself.
 HIDDEN = ["HAS_ATTRIBUTE", "MUST_USE", "NONNULL", "ACCESS", "COUNTED", "AT_LEAST"]
 CALLER = """#include <superio.h>
@@ -75,6 +77,43 @@ def test_header(compiler, tmp_path):
         f"typedef char said_{number}[{condition} ? 1 : -1];\n" for number, condition in enumerate(said)), "ascii")
     for words in {compiler, compiler.replace("c99", "c11")}:
         check([*words.split(), *WARNINGS, "-Werror", "-fsyntax-only", source], "")
+
+
+@pytest.mark.parametrize("compiler", COMPILERS.values())
+def test_header_changes_nothing_else(compiler, tmp_path):
+    """Beside its own constants and two names it leaves no macro, and none of the standard headers' is gone or another.
+    What it turns on for itself in the compiler is off again: warnings, packing, and the linkage of C."""
+    def macros(name, text):
+        (tmp_path / name).write_text(text, "ascii")
+        said = check([*compiler.split(), "-I", ROOT / "bindings/c", "-dM", "-E", tmp_path / name])
+        return dict(re.findall(r"^#define (\w+(?:\([^)]*\))?) ?(.*)$", said, re.M))
+
+    alone = macros("alone.c", STANDARD)
+    after = macros("after.c", f"{STANDARD}#include <superio.h>\n")
+    assert alone.items() <= after.items()
+    assert after.keys() - alone.keys() - read_header().constants.keys() == {"SUPERIO_H", "SUPERIO_ABI_MATCHES()"}
+    said = check([*compiler.split(), "-I", ROOT / "bindings/c", "-E", tmp_path / "after.c"])
+    opened = []
+    for kind, word in re.findall(r"^#pragma +(\w+(?: +\w+)?)\b.*?\b(push|pop|ignored|warning|error)\b", said, re.M):
+        assert word != "pop" or opened.pop() == kind
+        opened += [kind] if word == "push" else []
+        assert opened or word == "pop", f"{kind} {word} for the rest of the file"
+    assert not opened
+
+
+@pytest.mark.parametrize("compiler", [COMPILERS["g++"], COMPILERS["clang++"]])
+def test_functions_after_the_header_are_of_cplusplus(compiler, tmp_path):
+    (tmp_path / "own.c").write_text("#include <superio.h>\nint own(int number);\nint own(double number);\n", "ascii")
+    check([*compiler.split(), *WARNINGS, "-Werror", "-fsyntax-only", tmp_path / "own.c"], "")
+
+
+@pytest.mark.needs("clang")
+def test_warnings_after_the_header(tmp_path):
+    """What the header does not want to hear of itself is said of what comes after it."""
+    own = 'void own(int count) __attribute__((diagnose_if(count > 0, "many", "warning")));'
+    (tmp_path / "own.c").write_text(f"#include <superio.h>\n{own}\n", "ascii")
+    said = run(["clang", *WARNINGS, "-Wgcc-compat", "-fsyntax-only", tmp_path / "own.c"]).stdout
+    assert "own.c:2" in said and "[-Wgcc-compat]" in said and "superio.h" not in said, said
 
 
 @pytest.mark.parametrize("compiler", [COMPILERS["gcc"], COMPILERS["clang"]])

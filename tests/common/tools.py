@@ -41,6 +41,7 @@ TOOLS = {
     "reuse": {"reuse": "reuse"},
     "pkg-config": {"pkg-config": "pkg-config"},
     "cmake": {"cmake": "cmake"},
+    "meson": {"meson": "meson", "ninja": "ninja-build"},
     "debian-rust": {"/usr/bin/cargo": "cargo", "/usr/bin/rustc": "rustc"},
     "debian": {"dpkg-buildpackage": "dpkg-dev", "dh": "debhelper", "lintian": "lintian", "mk-origtargz": "devscripts"},
     # Other processors: a compiler and its C library, an emulator, and the library of Debian's Rust.

@@ -1,24 +1,29 @@
 # SPDX-License-Identifier: Apache-2.0 OR BSD-3-Clause
 """The Makefile at the top, and the libraries that it installs.
 
-Plain `make` installs nothing, `make uninstall` removes what `make install` writes, and libraries that are not there are
-refused before anything is written. `make installcheck`, and a project of CMake, find what `make install` installs.
+Plain `make` installs nothing, `make install` writes the same files for every user, `make uninstall` removes them, and
+libraries that are not there are refused before anything is written. `make installcheck`, and the projects of docs/C.md
+for CMake and Meson, find what `make install` installs. Each goal that checks fails if what it checks is wrong, at the
+last place too.
 """
+import platform
+import re
+import shutil
+
 import pytest
-from harness import ROOT, check, run
+from documents import Document
+from harness import ROOT, at_least, check, run
 from header import read_header
 from libraries import PREBUILT, SHARED, STATIC, TARGETS
-from shared import HAS_FROM_SOURCE, assert_properties, finding, symbols
+from shared import FLAGS, HAS_FROM_SOURCE, assert_properties, assert_same, finding, found_in, installation, symbols
 
 pytestmark = pytest.mark.needs("make")
 
-CMAKE = """cmake_minimum_required(VERSION 3.16)
-project(user C)
-find_package(PkgConfig REQUIRED)
-pkg_check_modules(superio REQUIRED IMPORTED_TARGET superio)
-add_executable(program {program})
-target_link_libraries(program PkgConfig::superio)
-"""
+# The commands that build the project of a build system, by the file that docs/C.md shows.
+PROJECTS = {"cmake": ("CMakeLists.txt", ["cmake -B build", "cmake --build build"]),
+            "meson": ("meson.build", ["meson setup build", "meson compile -C build"])}
+LIBRARIES = PREBUILT / f"{platform.machine()}-linux"
+EXPECTED = (ROOT / "examples/c/expected").read_text(encoding="utf-8")
 
 
 def listing(folder):
@@ -51,8 +56,31 @@ def test_missing_libraries_are_refused(goal, where, tmp_path):
     assert not tree.exists()
 
 
+@pytest.mark.parametrize("target", sorted(TARGETS))
+@pytest.mark.parametrize("mask, words, where", [
+    ("022", "PREFIX=/usr", ["lib"]), ("077", "PREFIX=/opt/x LIBDIR=lib64", ["lib64"]),
+    ("000", "PREFIX=/usr LIBDIR=lib/fancy DOCDIR=share/doc/other", ["lib/fancy", "share/doc/other"])])
+def test_install(mask, words, where, target, tmp_path):
+    """The same files, with the same modes, whatever a user's files have."""
+    install = f"umask {mask} && make -s install DESTDIR='{tmp_path}/a tree' TARGET={target} {words}"
+    check(["sh", "-c", install], "", cwd=ROOT)
+    prefix = re.search("PREFIX=/(\\S+)", words)[1]
+    assert_same(found_in(tmp_path / "a tree" / prefix), installation(PREBUILT / target, *where))
+
+
+def test_install_again(tmp_path):
+    """Over an installation of which nothing fits."""
+    for name in installation(LIBRARIES):
+        (tmp_path / name).parent.mkdir(parents=True, exist_ok=True)
+        (tmp_path / name).write_bytes(b"old")
+        (tmp_path / name).chmod(0o600)
+    check(["make", "-s", "install", f"DESTDIR={tmp_path}", "PREFIX="], "", cwd=ROOT)
+    assert_same(found_in(tmp_path), installation(LIBRARIES))
+
+
 @pytest.mark.parametrize("others", [["include/other.h", "lib/libother.a", "lib/pkgconfig/other.pc",
-                                     "share/licenses/other/LICENSE"], []], ids=["beside others", "alone"])
+                                     "share/licenses/other/LICENSE", "share/doc/superio/docs/other"], []],
+                         ids=["beside others", "alone"])
 def test_uninstall(others, tmp_path):
     """It removes what install wrote, and leaves what others have there."""
     for name in others:
@@ -79,10 +107,66 @@ def test_pkg_config(installed):
     check(["make", "-s", "installcheck"], "", cwd=ROOT, env=installed)
 
 
-@pytest.mark.needs("cc", "pkg-config", "cmake")
-def test_cmake(installed, tmp_path):
-    (tmp_path / "CMakeLists.txt").write_text(CMAKE.format(program=ROOT / "examples/c/machine.c"), encoding="utf-8")
-    check(["cmake", "-S", tmp_path, "-B", tmp_path / "made"], env=installed)
-    check(["cmake", "--build", tmp_path / "made"], env=installed)
-    expected = (ROOT / "examples/c/expected").read_text(encoding="utf-8")
-    check([tmp_path / "made" / "program"], expected, env=installed)
+@pytest.mark.needs("pkg-config")
+@pytest.mark.parametrize("name", FLAGS)
+def test_version(installed, name):
+    check(["pkg-config", "--modversion", name], f"{(ROOT / 'VERSION').read_text('ascii')}", env=installed)
+
+
+@pytest.mark.needs("cc", "pkg-config")
+@pytest.mark.parametrize("build", [pytest.param(name, marks=pytest.mark.needs(name)) for name in PROJECTS])
+def test_project(installed, build, tmp_path):
+    """The lines of docs/C.md build a program."""
+    name, commands = PROJECTS[build]
+    page = Document("docs/C.md")
+    [lines] = [block.lines for block in page.blocks if block.language == build]
+    assert f"`{' && '.join(commands)}`" in page.prose and f"`{name}`" in page.prose
+    (tmp_path / name).write_text("\n".join([*lines, ""]), encoding="utf-8")
+    shutil.copy(ROOT / "examples/c/monitor.c", tmp_path)
+    for command in commands:
+        check(command.split(), cwd=tmp_path, env=installed)
+    check([tmp_path / "build" / "monitor"], "3000 bytes came back, 3000 of them in order\n", env=installed)
+
+
+# What a program may print in place of the text that it should, each with its status.
+WRONG = at_least(5, [(EXPECTED[:-1], 0), (EXPECTED[:-2] + "2\n", 0), (EXPECTED + "\n", 0), ("", 0), (EXPECTED, 3)])
+
+
+@pytest.mark.needs("pkg-config")
+@pytest.mark.parametrize("flag", FLAGS.values())
+@pytest.mark.parametrize("printed, status", [*WRONG, (EXPECTED, 0)], ids=lambda it: str(it)[-8:])
+def test_installcheck_fails(installed, flag, printed, status, tmp_path):
+    """If the machine over one of the libraries does something else. This compiler makes a machine that does, and a good
+    one over the other library."""
+    (tmp_path / "printed").write_text(printed, encoding="utf-8")
+    good = ROOT / "examples/c/expected"
+    (tmp_path / "cc").write_text(f"""#!/bin/sh -e
+while [ "$1" != -o ]; do [ "$1" != {flag} ] || wrong=1; shift; done
+echo '#!/bin/sh' > "$2"
+if [ "$wrong" ]; then echo 'cat {tmp_path}/printed; exit {status}' >> "$2"; else echo 'cat {good}' >> "$2"; fi
+chmod +x "$2"
+""", encoding="ascii")
+    (tmp_path / "cc").chmod(0o755)
+    ran = run(["make", "-s", "installcheck", f"CC={tmp_path / 'cc'}"], cwd=ROOT, env=installed)
+    assert (ran.returncode == 0) == ((printed, status) == (EXPECTED, 0)), ran.stdout
+
+
+@pytest.mark.parametrize("goal, program", [("check", "tools/check"), ("from-source", "cargo")])
+def test_words_of_a_command(goal, program, tmp_path):
+    """The goals that only run a program pass on what they are given, and its failure."""
+    (tmp_path / "tools").mkdir()
+    called = tmp_path / program
+    called.write_text("#!/bin/sh\necho $# \"$@\"; exit 3\n", encoding="ascii")
+    called.chmod(0o755)
+    ran = run(["make", "-s", "-C", tmp_path, "-f", ROOT / "Makefile", goal, f"CARGO={called}",
+               "OPTIONS=--without kit,node"])
+    wanted = {"check": "2 --without kit,node\n", "from-source": "5 build --release --offline --manifest-path "
+                                                             "bindings/c/from-source/Cargo.toml\n"}[goal]
+    assert ran.stdout.startswith(wanted) and ran.returncode == 2, ran.stdout
+
+
+def test_goals():
+    """docs/RELEASE.md has each goal, and no other."""
+    [phony] = re.findall(r"^\.PHONY: (.*)$", (ROOT / "Makefile").read_text(encoding="utf-8"), re.M)
+    table = re.findall(r"^\| `([a-z-]+)`(?:, the default)? \|", Document("docs/RELEASE.md").text, re.M)
+    assert sorted(table) == sorted(phony.split())

@@ -1,15 +1,18 @@
 # SPDX-License-Identifier: Apache-2.0 OR BSD-3-Clause
-"""Releases by `make dist`, and the packages that Debian's tools build of one."""
+"""Releases by `make dist`, and the packages that Debian's tools build of one: what is in them, the same in any folder,
+and the goals of `make` that Debian's tests are."""
+import gzip
 import os
+import re
 import shutil
 import tarfile
 
 import pytest
 from documents import copy_repository
-from harness import check, run
-from interface import VERSION
-from libraries import SHARED
-from shared import HAS_FROM_SOURCE, assert_properties, finding
+from harness import ROOT, at_least, check, run
+from interface import ABI, VERSION
+from libraries import PREBUILT, SHARED, TARGETS
+from shared import HAS_FROM_SOURCE, assert_properties, assert_same, crate_files, finding, found_in, installation
 
 pytestmark = pytest.mark.needs("git", "make", "npm", "pip")
 
@@ -19,6 +22,12 @@ COMMIT = "git init -q && git add --all && git -c user.name=a -c user.email=a com
 PYTHON = "/usr/bin/python3"
 RELEASE = f"make -s dist PYTHON={PYTHON} DIST"
 # What every program of a build of Debian's finds first, whatever else is installed.
+MOMENT = 1700000000
+# The files of a release: archives in our own form, and what the tools of Python and npm make.
+ARCHIVES = [f"fimolavand-{VERSION}", f"superio-{VERSION}-rust", *(f"superio-{VERSION}-{target}" for target in TARGETS)]
+WHEEL = "superio-{0}-py3-none-manylinux_2_17_{1}.manylinux2014_{1}.musllinux_1_1_{1}.whl"
+FILES = [*(f"{name}.tar.gz" for name in ARCHIVES), f"superio-{VERSION}.tar.gz", f"superio-{VERSION}.tgz",
+         f"superio-{VERSION}.html", *(WHEEL.format(VERSION, target.partition("-")[0]) for target in TARGETS)]
 OF_DEBIAN = {**os.environ, "PATH": "/usr/sbin:/usr/bin:/sbin:/bin"}
 
 
@@ -27,7 +36,7 @@ def releases(tmp_path_factory):
     """Two releases, in other folders, at other times, for other users. Gives the folder with the trees and the
     releases."""
     folder = tmp_path_factory.mktemp("releases")
-    own = {**os.environ, "GIT_COMMITTER_DATE": "1700000000 +0000"}
+    own = {**os.environ, "GIT_COMMITTER_DATE": f"{MOMENT} +0000"}
     other = {**own, "TZ": "Asia/Tokyo", "LC_ALL": "C", "USER": "other", "HOME": str(folder)}
     for made, mask, environment in ("one", "022", own), ("two", "077", other):
         tree = folder / f"the tree of {made}"
@@ -42,7 +51,52 @@ def test_the_same_bytes(releases):
 
 
 def test_sums(releases):
+    """Of every file."""
     check(["sha256sum", "--check", "--strict", "--quiet", "SHA256SUMS"], "", cwd=releases / "one")
+    named = [line.partition("  ")[2] for line in (releases / "one" / "SHA256SUMS").read_text("ascii").splitlines()]
+    assert sorted(named) == sorted(FILES) == sorted({*os.listdir(releases / "one")} - {"SHA256SUMS"})
+
+
+@pytest.mark.parametrize("name", at_least(4, ARCHIVES))
+def test_archive(releases, name):
+    """It has one folder, of its own name. All in it is of root and of one moment, and may be read by everybody."""
+    with tarfile.open(releases / "one" / f"{name}.tar.gz") as archive:
+        members = archive.getmembers()
+    assert {(it.uid, it.gid, it.uname, it.gname, it.mtime) for it in members} == {(0, 0, "root", "root", MOMENT)}
+    assert {it.name.partition("/")[0] for it in members} == {name}
+    modes = {0o755: {"d", "x"}, 0o644: {"f"}, 0o777: {"l"}}
+    kinds = {(it.mode, "d" if it.isdir() else "l" if it.issym() else "x" if it.mode & 0o100 else "f") for it in members}
+    assert all(kind in modes.get(mode, ()) for mode, kind in kinds), kinds
+
+
+def unpacked(releases, name, folder):
+    check(["tar", "-xpf", releases / "one" / f"{name}.tar.gz", "-C", folder])
+    return found_in(folder / name)
+
+
+def test_archive_of_the_sources(releases, tmp_path):
+    """It has what the commit has."""
+    names = check(["git", "ls-files"], cwd=releases / "the tree of one").splitlines()
+    found = unpacked(releases, ARCHIVES[0], tmp_path)
+    assert sorted(found) == sorted(names)
+    for name in names:
+        path = releases / "the tree of one" / name
+        assert found[name] == os.readlink(path) if path.is_symlink() else found[name][1] == path.read_bytes(), name
+
+
+@pytest.mark.parametrize("target", TARGETS)
+def test_archive_of_the_library(releases, target, tmp_path):
+    """As `make install` installs it."""
+    assert_same(unpacked(releases, f"superio-{VERSION}-{target}", tmp_path), installation(PREBUILT / target))
+
+
+def test_archive_of_the_crates(releases, tmp_path):
+    assert_same(unpacked(releases, f"superio-{VERSION}-rust", tmp_path), crate_files())
+
+
+def test_page(releases):
+    page = releases / "one" / f"superio-{VERSION}.html"
+    assert page.read_bytes() == (ROOT / "docs/try.html").read_bytes()
 
 
 UNDATED = DATED.replace("2026-01-01", "unreleased")
@@ -86,9 +140,19 @@ def debian(releases):
 
 
 @pytest.fixture(scope="module")
-def packages(debian):
+def builds(debian):
+    """Two builds of the packages, the second in another folder, for another user, without tests. Gives what each said,
+    by its folder."""
+    other, folder = debian.parent / "a" / "longer" / "path", debian.parent
+    shutil.copytree(debian, other, symlinks=True)
+    strange = {**OF_DEBIAN, "TZ": "Asia/Tokyo", "LC_ALL": "C", "USER": "other", "DEB_BUILD_OPTIONS": "nocheck"}
+    return {folder: check(["dpkg-buildpackage", "-us", "-uc", "-F"], cwd=debian, env=OF_DEBIAN),
+            other.parent: check(["sh", "-c", "umask 077 && dpkg-buildpackage -us -uc -b"], cwd=other, env=strange)}
+
+
+@pytest.fixture(scope="module")
+def packages(builds, debian):
     """The packages that Debian's tools build. Gives their folder, and the one into which they are unpacked."""
-    check(["dpkg-buildpackage", "-us", "-uc", "-F"], cwd=debian, env=OF_DEBIAN)
     folder, root = debian.parent, debian.parent / "root"
     for package in folder.glob("*.deb"):
         check(["dpkg", "-x", package, root], env=OF_DEBIAN)
@@ -102,6 +166,63 @@ needs_debian = pytest.mark.needs("debian", "debian-rust")
 def test_no_libraries_in_the_sources(debian):
     assert not (debian / "prebuilt").exists()
     check(["dpkg-checkbuilddeps"], cwd=debian, env=OF_DEBIAN)
+
+
+@needs_debian
+def test_the_same_packages(builds):
+    """The same bytes in any folder, for any user."""
+    one, other = ({path.name: path.read_bytes() for path in folder.glob("*.deb")} for folder in builds)
+    assert len(one) == 4
+    assert_same(other, one)
+
+
+@needs_debian
+def test_a_build_tests_the_library(builds):
+    """Unless it is told not to."""
+    said = [re.findall(r"^\d+ calls did the same, 0 did not$", it, re.M) for it in builds.values()]
+    assert [*map(len, said)] == [1, 0]
+
+
+def of_debian():
+    """What each package has below /usr, in the form of an installation. Debian's rules compress long texts, take the
+    right to run a library, and have licenses elsewhere. The libraries are from source, so their bytes are others."""
+    machine = check(["dpkg-architecture", "-qDEB_HOST_MULTIARCH"]).strip()
+    libdir, docdir = f"lib/{machine}", "share/doc/libsuperio-dev"
+    files = installation(PREBUILT / "x86_64-linux", libdir, docdir)
+    files = {name: it for name, it in files.items() if not name.startswith("share/licenses/")}
+    files[f"{libdir}/libsuperio.a"] = files[f"{libdir}/{SHARED}"] = 0o644, None
+    made = {f"libsuperio{ABI}": {f"{libdir}/{SHARED}": files.pop(f"{libdir}/{SHARED}")}, "libsuperio-dev": files,
+            "libsuperio-rust-dev": {f"share/superio/{name}": it for name, it in crate_files().items()
+                                    if "/LICENSE-" not in name}}
+    for package, has in made.items():
+        has.update({f"share/doc/{package}/{name}": (0o644, None)
+                    for name in ("changelog", "changelog.Debian", "copyright")})
+    return made
+
+
+def content_of(path):
+    """The bytes of a file, which may be compressed."""
+    if path.is_symlink():
+        return None
+    return gzip.decompress(path.read_bytes()) if path.suffix == ".gz" else path.read_bytes()
+
+
+@needs_debian
+@pytest.mark.parametrize("package", [f"libsuperio{ABI}", "libsuperio-dev", "libsuperio-rust-dev"])
+def test_files_of_the_packages(packages, package):
+    """Each is of root."""
+    [path] = packages[0].glob(f"{package}_*.deb")
+    rows = re.findall(r"^(\S+) (\S+) .*? (\./.*?)(?: -> (.*))?$", check(["dpkg-deb", "--contents", path]), re.M)
+    assert {owner for _, owner, *_ in rows} == {"root/root"}
+    assert {mode for mode, _, name, _ in rows if name.endswith("/")} == {"drwxr-xr-x"}
+    found, wanted = {}, of_debian()[package]
+    for mode, _, name, link in rows:
+        place = name[len("./usr/"):].removesuffix(".gz")
+        if not name.endswith("/"):
+            found[place] = link or ({"-rw-r--r--": 0o644}.get(mode, mode), content_of(packages[1] / name))
+        if wanted.get(place, ())[1:] == (None,):
+            found[place] = found[place][0], None
+    assert_same(found, wanted)
 
 
 @needs_debian
@@ -128,3 +249,20 @@ def test_tests_of_the_packages(packages, debian):
 def test_without_prebuilt(debian, goal):
     """`make` builds the libraries too."""
     check(["make", "-s", goal, f"DESTDIR={debian.parent / 'from source'}"], cwd=debian, env=OF_DEBIAN)
+
+
+# What a program over the crate prints, and what it may print in place of that, each with its status.
+STATE = "RtcState { lr: 0, offset: 0, mr: 0, imsc: 0, ris: 0 }\n"
+
+
+@pytest.mark.parametrize("printed, status", at_least(5, [
+    (STATE, 0), (STATE, 1), ("", 0), (STATE.replace(" }", "1 }"), 0), (STATE.replace("lr: 0", "lr: 01"), 0),
+    (STATE + STATE, 0)]), ids=lambda it: str(it)[-12:])
+def test_installcheck_of_the_crate_fails(printed, status, tmp_path):
+    """If the crate does something else. This cargo runs such a program."""
+    (tmp_path / "printed").write_text(printed, encoding="ascii")
+    (tmp_path / "cargo").write_text(f"#!/bin/sh\ncat {tmp_path}/printed\nexit {status}\n", encoding="ascii")
+    (tmp_path / "cargo").chmod(0o755)
+    ran = run(["make", "-s", "installcheck-rust"], cwd=ROOT,
+              env={**os.environ, "PATH": f"{tmp_path}:{os.environ['PATH']}"})
+    assert (ran.returncode == 0) == ((printed, status) == (STATE, 0)), ran.stdout

@@ -16,6 +16,9 @@ pytestmark = pytest.mark.needs("cargo", "git")
 # The folders of the crates that are packed, each after those on which it depends.
 PACKAGES = ["bindings/superio", "bindings/rust", "bindings/c/from-source"]
 LICENSES = {"LICENSE-APACHE": "Apache-2.0.txt", "LICENSE-BSD": "BSD-3-Clause.txt"}
+# What Cargo writes into a package, or beside it. The manifest of the folder is in the package under another name.
+WRITTEN = {".cargo_vcs_info.json", "Cargo.lock", ".cargo-checksum.json", "Cargo.toml"}
+MANIFEST = "Cargo.toml.orig"
 # What a folder of packages has in each of them, as a registry.
 CHECKSUMS, NO_CHECKSUMS = ".cargo-checksum.json", '{"files": {}}'
 COMMIT = "git init -q && git add --all && git -c user.name=a -c user.email=a commit -q -m a"
@@ -43,10 +46,11 @@ def packed(tmp_path_factory):
     return made
 
 
-def sources_of(folder):
-    """The Rust sources of a crate, by their paths in it."""
-    return {path.relative_to(folder).as_posix() for path in folder.rglob("*.rs")
-            if "target" not in path.relative_to(folder).parts}
+def files_of(folder):
+    """The files of a crate, by their paths in it, without what Cargo writes itself."""
+    paths = (path.relative_to(folder) for path in folder.rglob("*") if path.is_file())
+    return {path.as_posix(): (folder / path).read_bytes() for path in paths
+            if path.parts[0] != "target" and path.name not in WRITTEN}
 
 
 @pytest.mark.parametrize("crate", PACKAGES)
@@ -65,9 +69,12 @@ def test_what_a_registry_asks_for(packed, crate):
 
 @pytest.mark.parametrize("crate", PACKAGES)
 def test_files(packed, crate):
-    """All sources, and the licenses."""
+    """All of the folder, sources and header among them, and no other. The licenses are those of the repository."""
     cargo, _, package = packed[crate]
-    assert not sources_of(cargo.folder) - sources_of(package)
+    found, wanted = files_of(package), files_of(cargo.folder)
+    assert found.pop(MANIFEST) == (cargo.folder / "Cargo.toml").read_bytes()
+    assert found.keys() == wanted.keys() and not [name for name in wanted if found[name] != wanted[name]]
+    assert "README.md" in found and any(name.startswith("src/") for name in found)
     for place, text in LICENSES.items():
         assert (package / place).read_bytes() == (ROOT / "LICENSES" / text).read_bytes()
 

@@ -5,7 +5,9 @@
  * A 16550 serial port, a PL031 real-time clock, and an i8042 controller that
  * resets the machine. What a call does to a device is proved, for every
  * argument and whatever its struct holds. README.md names the builds that this
- * covers.
+ * covers. The pages and the program that are named here are in the repository,
+ * and an installed header has them in share/doc/superio or, in Debian's package,
+ * in share/doc/libsuperio-dev. docs/USING.md is the one to begin with.
  *
  * A device is a struct of plain fields that you keep. A call takes it by
  * pointer, changes it, and returns what is left for you to do. There are no
@@ -69,6 +71,11 @@
  *         set_line(work.is_up);
  *     was_up = work.is_up;
  *     return work.wakes;
+ *
+ * A line that takes levels is down at first: superio_console_new returns no
+ * work. Every other call that may change the level returns its work, except
+ * superio_console_load: make a turn after that. At any moment the level is
+ * superio_serial_interrupt_line(&console.port).
  *
  * With such a loop no byte waits for ever, neither one that the console has
  * accepted nor one that the guest has to send, for a driver that meets the
@@ -299,7 +306,8 @@ typedef struct superio_serial {
 
 /*
  * What a read did. Use the two events to count, to log, or to offer more
- * input. If both are true, `in_buffer_empty` comes first.
+ * input. If both are true, `in_buffer_empty` comes first. A read of the data
+ * register (RBR) while no byte is held shows 0, and reports both.
  */
 typedef struct superio_serial_read_effects {
     uint8_t byte;         /* what the guest reads */
@@ -509,7 +517,8 @@ typedef struct superio_console_receive_effects {
 } superio_console_receive_effects;
 
 /*
- * Makes a console of a fresh port, without output that waits.
+ * Makes a console of a fresh port, without output that waits. If your interrupt
+ * controller takes levels, set the line: it is down now.
  *
  * A driver tests the port before it uses it, and throws away some or all of
  * what it finds in the FIFO. So input waits until the guest is ready: until a

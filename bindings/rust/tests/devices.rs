@@ -173,3 +173,13 @@ fn what_threads_may_do_with_its_objects_they_may_do_with_a_device() {
     goes_to_another_thread::<(SerialState, RtcState, RtcSnapshot, AlarmIsSet, SavedStateError)>();
     is_sent_and_shared::<Error<&'static str>>(); // an `io::Error` in it may not be used after a panic
 }
+
+#[test]
+fn each_error_is_one_of_std() {
+    // So that `?` takes it into any box of errors.
+    fn is_error<E: StdError + Send + Sync + 'static>() {}
+    is_error::<SavedStateError>();
+    is_error::<vm_superio::sansio::saved::SavedStateError>();
+    is_error::<AlarmIsSet>();
+    is_error::<Error<io::Error>>();
+}

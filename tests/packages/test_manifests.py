@@ -1,0 +1,145 @@
+# SPDX-License-Identifier: Apache-2.0 OR BSD-3-Clause
+"""The manifests by which others' tools take a package, each field of them: those of Cargo, and those of Debian.
+
+One table has what each field is. Versions, licenses and the oldest Rust stand once, above it.
+"""
+import re
+import tomllib
+
+import pytest
+from documents import BUILT
+from harness import ROOT, at_least, run
+from interface import ABI, VERSION
+from test_files import LICENSE
+
+LICENSES = LICENSE.partition(": ")[2]
+RUST = "1.63"       # the oldest, which Debian 12 has
+REPLACED = "0.8.2"  # the version of vm-superio in whose place the crate of that name is
+# Where users read which Rust they need.
+PAGES = ["README.md", "docs/RUST.md", "docs/USING.md",
+         *(f"bindings/{crate}/README.md" for crate in ("superio", "rust", "c/from-source"))]
+
+OF_ALL = {"edition": "2021", "rust-version": RUST}
+PUBLISHED = {**OF_ALL, "license": LICENSES, "readme": "README.md"}
+DEVICES = {"version": VERSION}
+ABORTS = {"panic": "abort"}
+CRATES = {
+    "bindings/superio": {
+        "package": {
+            **PUBLISHED, "name": "superio", "version": VERSION,
+            "description": "Proved devices without I/O for virtual machine monitors, such as a 16550 serial port",
+            "keywords": ["16550", "pl031", "serial", "emulation", "vmm"], "categories": ["emulators", "no-std"],
+            "include": ["/src", "/tests", "/examples", "/README.md", "/LICENSE-*"]},
+        "features": {"std": []}},
+    "bindings/rust": {
+        "package": {
+            **PUBLISHED, "name": "vm-superio", "version": REPLACED, "publish": False,
+            "description": f"Proved devices with the interface of vm-superio {REPLACED}, such as a 16550 serial port",
+            "keywords": ["virtualization", "vmm", "serial", "16550", "emulation"],
+            "categories": ["emulators", "virtualization"], "include": ["/src", "/tests", "/README.md", "/LICENSE-*"]},
+        "lib": {"name": "vm_superio"},
+        "features": {"serde": ["dep:serde"]},
+        "dependencies": {"serde": {"version": "1", "features": ["derive"], "optional": True},
+                         "superio": {**DEVICES, "path": "../superio", "features": ["std"]}}},
+    "bindings/c/from-source": {
+        "package": {
+            **PUBLISHED, "name": "superio-c", "version": VERSION,
+            "description": "The C library of the proved devices: the functions of superio.h, over the crate superio",
+            "keywords": ["16550", "pl031", "serial", "emulation", "vmm"], "categories": ["emulators", "no-std"],
+            "include": ["/src", "/build.rs", "/superio.h", "/README.md", "/LICENSE-*"]},
+        "lib": {"name": "superio_c", "crate-type": ["staticlib", "cdylib"], "test": False},
+        "dependencies": {"superio": {**DEVICES, "path": "../../superio"}},
+        "profile": {"dev": ABORTS, "release": {**ABORTS, "lto": True, "codegen-units": 1, "opt-level": 2}},
+        "workspace": {}},
+    "examples/rust": {
+        "package": {**OF_ALL, "name": "echo", "version": "0.1.0", "publish": False},
+        "bin": [{"name": "echo", "path": "../../bindings/superio/examples/echo.rs"}],
+        "dependencies": {"superio": {"path": "../../bindings/superio"}},
+        "workspace": {}},
+    "tests/kvm/serial": {
+        "package": {**OF_ALL, "name": "kvm-serial", "version": "0.1.0", "publish": False},
+        "lib": {"name": "kvm_serial", "crate-type": ["staticlib"]},
+        "dependencies": {"vm-superio": {"path": "../../../bindings/rust"}},
+        "profile": {"release": ABORTS},
+        "workspace": {}},
+}
+
+# Of Debian: of a description the first line, which lists of packages show.
+EMULATED = "emulated legacy devices for a virtual machine monitor"
+SOURCE = {
+    "Source": "superio", "Section": "libs", "Priority": "optional",
+    "Maintainer": "Fimolavand authors <authors@fimolavand.invalid>",
+    "Build-Depends": f"debhelper-compat (= 13), cargo, rustc (>= {RUST})", "Standards-Version": "4.6.2",
+    "Rules-Requires-Root": "no"}
+PACKAGES = [
+    {"Package": f"libsuperio{ABI}", "Architecture": "linux-any", "Multi-Arch": "same",
+     "Depends": "${misc:Depends}, ${shlibs:Depends}", "Description": EMULATED},
+    {"Package": "libsuperio-dev", "Section": "libdevel", "Architecture": "linux-any", "Multi-Arch": "same",
+     "Depends": f"libsuperio{ABI} (= ${{binary:Version}}), ${{misc:Depends}}", "Suggests": "pkgconf | pkg-config",
+     "Description": f"{EMULATED} - headers"},
+    {"Package": "libsuperio-rust-dev", "Section": "libdevel", "Architecture": "all", "Multi-Arch": "foreign",
+     "Depends": "${misc:Depends}", "Suggests": "cargo", "Description": f"{EMULATED} - Rust"}]
+TESTS = [
+    {"Test-Command": "make -s installcheck", "Depends": "gcc, libc6-dev, libsuperio-dev, make, pkg-config",
+     "Restrictions": "allow-stderr"},
+    {"Test-Command": "make -s installcheck-rust", "Depends": "cargo, libsuperio-rust-dev, make, rustc",
+     "Restrictions": "allow-stderr"}]
+COPYRIGHT = [
+    {"Format": "https://www.debian.org/doc/packaging-manuals/copyright-format/1.0/", "Upstream-Name": "superio",
+     "Files-Excluded": "prebuilt"},
+    {"Files": "*", "Copyright": "2026 the Fimolavand authors", "License": LICENSES.replace("OR", "or")},
+    *({"License": name} for name in LICENSES.split(" OR "))]
+CHANGE = f"superio ({VERSION}+ds-1) unstable; urgency=medium"
+
+
+def text_of(name):
+    return (ROOT / name).read_text(encoding="utf-8")
+
+
+def paragraphs(name):
+    """The paragraphs of a file of Debian's, each with the first line of its fields."""
+    return [dict(re.findall(r"^([\w-]+): *(.*)$", text, re.M)) for text in text_of(name).strip().split("\n\n")]
+
+
+def test_each_crate_is_listed():
+    paths = (path.parent.relative_to(ROOT) for path in ROOT.rglob("Cargo.toml"))
+    assert sorted(CRATES) == sorted(path.as_posix() for path in paths if not BUILT & {*path.parts})
+
+
+@pytest.mark.parametrize("crate", at_least(5, CRATES))
+def test_cargo(crate):
+    assert tomllib.loads(text_of(f"{crate}/Cargo.toml")) == CRATES[crate]
+
+
+@pytest.mark.parametrize("page", PAGES)
+def test_oldest_rust(page):
+    assert {*re.findall(r"Rust (1\.\d+)\b", text_of(page))} == {RUST}
+
+
+def test_control():
+    source, *packages = paragraphs("debian/control")
+    assert source == SOURCE and packages == PACKAGES
+
+
+def test_tests():
+    assert paragraphs("debian/tests/control") == TESTS
+
+
+def test_copyright():
+    shown = [{key: value for key, value in it.items() if key != "Comment"} for it in paragraphs("debian/copyright")]
+    assert shown == COPYRIGHT
+
+
+def test_changelog():
+    first, *_, last = text_of("debian/changelog").rstrip("\n").splitlines()
+    assert first == CHANGE and last.startswith(f" -- {SOURCE['Maintainer']}  ")
+    assert (text_of("debian/source/format"), text_of("debian/watch")[:10]) == ("3.0 (quilt)\n", "version=4\n")
+
+
+@pytest.mark.needs("debian")
+@pytest.mark.parametrize("options, tests", [("", True), ("parallel=2", True), ("nocheck", False),
+                                            ("parallel=2 nocheck noopt", False)])
+def test_rules_test_unless_told_not_to(options, tests):
+    """The build of the packages tests the library."""
+    ran = run(["make", "-n", "-f", "debian/rules", "override_dh_auto_test", f"DEB_BUILD_OPTIONS={options}"], cwd=ROOT)
+    assert ran.returncode == 0 and ("debian/build/calls\n" in ran.stdout) == tests, ran.stdout
