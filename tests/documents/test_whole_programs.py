@@ -73,6 +73,40 @@ def test_bare_port(line, tmp_path):
     check(["./port"], "all came back\n", cwd=tmp_path)
 
 
+# Around the lines of README.md with the one call: a guest that leaves a byte, and so is interrupted a second time.
+ONE_CALL = """
+struct Line(std::cell::Cell<u32>);
+impl vm_superio::Trigger for Line {{
+    type E = std::convert::Infallible;
+    fn trigger(&self) -> Result<(), Self::E> {{
+        self.0.set(self.0.get() + 1);
+        Ok(())
+    }}
+}}
+fn main() {{
+    let mut port = vm_superio::Serial::new(Line(Default::default()), std::io::sink());
+    let mut is_refused = false;
+    port.write(1, 0x01).unwrap();
+    port.enqueue_raw_bytes(b"hi").unwrap();
+    for offset in [2, 0, 2] {{
+        {}
+    }}
+    println!("{{}} interrupts, {{is_refused}}", port.interrupt_evt().0.get());
+}}
+"""
+
+
+@pytest.mark.needs("cargo")
+def test_one_call(tmp_path):
+    """The lines of README.md compile as they stand there, and interrupt the guest again."""
+    (tmp_path / "src").mkdir()
+    (tmp_path / "src" / "main.rs").write_text(ONE_CALL.format(code("README.md", "rust", "CharacterTimeout")), "utf-8")
+    manifest = PACKAGE + code("README.md", "toml", "patch").replace("CLONE", str(ROOT))
+    (tmp_path / "Cargo.toml").write_text(manifest, encoding="utf-8")
+    said = check(["cargo", "run", "--quiet", "--offline"], cwd=tmp_path)
+    assert said.splitlines()[-1] == "2 interrupts, false", said
+
+
 @pytest.mark.needs("cargo")
 @pytest.mark.parametrize("document, of, typed, printed", [
     ("README.md", "Console", "", HI), ("README.md", "Trigger", "", "!"), ("docs/RUST.md", "Cell", "", "h"), ("docs/RUST.md", "from_snapshot", "", "h"),

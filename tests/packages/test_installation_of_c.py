@@ -120,7 +120,7 @@ def test_project(installed, build, tmp_path):
     name, commands = PROJECTS[build]
     page = Document("docs/C.md")
     [lines] = [block.lines for block in page.blocks if block.language == build]
-    assert f"`{' && '.join(commands)}`" in page.prose and f"`{name}`" in page.prose
+    assert f"`{' && '.join(commands)}`" in page.prose and f"the file {name}" in page.prose
     (tmp_path / name).write_text("\n".join([*lines, ""]), encoding="utf-8")
     shutil.copy(ROOT / "examples/c/monitor.c", tmp_path)
     for command in commands:
