@@ -11,7 +11,7 @@
 #include <superio.h>
 
 static jmp_buf ended;
-static char said[4096];                  /* what the machine prints for a line */
+static char said[1 << 16];               /* what the machine prints for a line */
 static unsigned long long first, second; /* the numbers of the line */
 
 /* These take the place of what the machine calls. The line `move` says which load gives which status. */
@@ -30,6 +30,12 @@ static struct machine machine;
 static void read_port(uint16_t port) {
     uint8_t byte = port_read(&machine, port); /* which may print */
     printf("%02x\n", byte);
+}
+
+/* The guest sends so many times the same byte. */
+static void send_bytes(void) {
+    for (unsigned long long i = 0; i < first; i++)
+        port_write(&machine, COM1, (uint8_t)second);
 }
 
 static void run_guest(void) {
@@ -58,6 +64,7 @@ static void obey(const char *word) {
     else if (IS("in")) read_port((uint16_t)first);
     else if (IS("store")) memory_write(&machine, 0x09011000 + first, (uint32_t)second);
     else if (IS("handler")) run_guest();
+    else if (IS("send")) send_bytes();
     else if (IS("turn")) make_turn((size_t)first, (int)second);
     else if (IS("down")) machine.line_is_down = true;
     else if (IS("up")) machine.line_is_down = false;
@@ -96,7 +103,7 @@ static void follow(const char *line, char *joined) {
 
 #undef printf
 int main(void) {
-    char line[1024], joined[2 * sizeof said];
+    static char line[1024], joined[2 * sizeof said];
     (void)demo_main;
     while (fgets(line, sizeof line, stdin)) {
         char *behind = strstr(line, "  ");
