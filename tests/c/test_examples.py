@@ -10,7 +10,7 @@ from libraries import PREBUILT, STATIC
 
 pytestmark = pytest.mark.needs("cc")
 
-# In place of a call by which a guest reads: one of the reads of RBR, of whichever thread, shows another byte.
+# In place of a call by which a guest reads: one of the reads of RBR, of whichever thread, shows another bit.
 SPOILT = """#include <stdlib.h>
 #include <superio.h>
 superio_{0}_read_effects __real_superio_{0}_read(superio_{0} *device, uint8_t offset);
@@ -18,8 +18,9 @@ superio_{0}_read_effects __wrap_superio_{0}_read(superio_{0} *device, uint8_t of
 superio_{0}_read_effects __wrap_superio_{0}_read(superio_{0} *device, uint8_t offset) {{
     static int reads;
     superio_{0}_read_effects done = __real_superio_{0}_read(device, offset);
-    if (offset == 0 && __atomic_add_fetch(&reads, 1, __ATOMIC_SEQ_CST) == atoi(getenv("PLACE")))
-        done.byte ^= 1;
+    int place = atoi(getenv("PLACE"));
+    if (offset == 0 && __atomic_add_fetch(&reads, 1, __ATOMIC_SEQ_CST) == place)
+        done.byte ^= 1 << place % 8;
     return done;
 }}
 """

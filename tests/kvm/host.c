@@ -41,6 +41,7 @@ static int timer;              /* of CLOCK_BOOTTIME */
 static int64_t due;            /* in nanoseconds, or 0 */
 static int made, closed;       /* machines, and what they have of KVM: two parts each */
 static bool is_mapped;         /* what the vCPU shows of its exits */
+static int alarms;             /* since the last line */
 static uint64_t lost;          /* bytes of output, beside those that the console has dropped */
 static int64_t now[CLOCKS] = {
     [CLOCK_REALTIME] = 1700000000 * SECOND, [CLOCK_MONOTONIC] = 777 * SECOND, [CLOCK_BOOTTIME] = 5000 * SECOND};
@@ -131,6 +132,8 @@ static bool goes_off(void) {
         return false;
     due = 0;
     SEE("  timer");
+    if (++alarms > 9)
+        fail("an alarm that goes off again and again");
     return __real_eventfd_write(timer, 1) == 0;
 }
 
@@ -279,6 +282,7 @@ static void serve_line(void) {
         _exit(0);
     line[strcspn(line, "\n")] = 0;
     SEE("\n%s", line);
+    alarms = 0;
     const char *given = line + strcspn(line, " ");
     long number = strtol(given, NULL, 10);
     switch (*line) {
