@@ -31,6 +31,12 @@ FILES = [*(f"{name}.tar.gz" for name in ARCHIVES), f"superio-{VERSION}.tar.gz", 
 OF_DEBIAN = {**os.environ, "PATH": "/usr/sbin:/usr/bin:/sbin:/bin"}
 
 
+def another_user():
+    """The words before a command that runs it as a user with another number, if this one is root and may do so."""
+    words = ["unshare", "--user", "--map-user=1000", "--map-group=1000"]
+    return words if os.geteuid() == 0 and run([*words, "true"]).returncode == 0 else []
+
+
 @pytest.fixture(scope="module")
 def releases(tmp_path_factory):
     """Two releases, in other folders, at other times, for other users. Gives the folder with the trees and the
@@ -38,10 +44,10 @@ def releases(tmp_path_factory):
     folder = tmp_path_factory.mktemp("releases")
     own = {**os.environ, "GIT_COMMITTER_DATE": f"{MOMENT} +0000"}
     other = {**own, "TZ": "Asia/Tokyo", "LC_ALL": "C", "USER": "other", "HOME": str(folder)}
-    for made, mask, environment in ("one", "022", own), ("two", "077", other):
+    for made, user, mask, environment in ("one", [], "022", own), ("two", another_user(), "077", other):
         tree = folder / f"the tree of {made}"
         copy_repository(tree)
-        check(["sh", "-c", f"umask {mask} && {DATED} && {COMMIT} && {RELEASE}={folder / made}"], "", cwd=tree,
+        check([*user, "sh", "-c", f"umask {mask} && {DATED} && {COMMIT} && {RELEASE}={folder / made}"], "", cwd=tree,
               env=environment)
     return folder
 
@@ -60,7 +66,7 @@ def test_sums(releases):
 @pytest.mark.parametrize("name", at_least(4, ARCHIVES))
 def test_archive(releases, name):
     """It has one folder, of its own name. All in it is of root and of one moment, and may be read by everybody."""
-    with tarfile.open(releases / "one" / f"{name}.tar.gz") as archive:
+    with tarfile.open(releases / "two" / f"{name}.tar.gz") as archive:
         members = archive.getmembers()
     assert {(it.uid, it.gid, it.uname, it.gname, it.mtime) for it in members} == {(0, 0, "root", "root", MOMENT)}
     assert {it.name.partition("/")[0] for it in members} == {name}
