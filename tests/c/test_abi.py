@@ -178,6 +178,38 @@ def test_same_again(library, made):
     assert not different
 
 
+def level(library, console):
+    """Of the port's interrupt line, of a console by its bytes."""
+    port = STRUCTS["superio_console"].from_buffer_copy(console).port
+    return library.superio_serial_interrupt_line(ctypes.byref(port))
+
+
+def test_levels(library, made):
+    """As superio.h says of a line: the work of a call has the level that the port has then. Without work the level stays,
+    except for a load, and for a new console, whose line is down."""
+    kind, levels = STRUCTS["superio_console_work"], set()
+    for function, arguments, result, left, _ in made:
+        if not function.name.startswith("superio_console_"):
+            continue
+        fields = getattr(function.result, "_fields_", ())
+        work = result if function.result is kind else result[-1] if (fields or [("", None)])[-1][1] is kind else None
+        before, after = level(library, places(arguments)[0].content_before()), level(library, left[0])
+        if work is None and not function.name.endswith(("_new", "_load")):
+            assert after == before, function.name
+        elif work is not None:
+            assert after == work[1], function.name
+        if function.name.endswith("_new"):
+            assert not after
+        levels.add((function.name, after))
+    assert len(levels) > 25
+
+
+def test_a_read_of_nothing(library):
+    """As superio.h says: RBR shows 0 while no byte is held, and the read reports both events."""
+    port = library.superio_serial_new()
+    assert value_of(library.superio_serial_read(ctypes.byref(port), 0)) == [0, True, True]
+
+
 @pytest.mark.needs("cc")
 def test_no_writable_section(library):
     """The library has no section that can be written, but for what the linker's own files add to a shared one."""
