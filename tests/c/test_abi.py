@@ -185,8 +185,8 @@ def level(library, console):
 
 
 def test_levels(library, made):
-    """As superio.h says of a line: the work of a call has the level that the port has then. Without work the level stays,
-    except for a load, and for a new console, whose line is down."""
+    """As superio.h says of a line: the work of a call has the level that the port has then. A call without work leaves
+    the level, except for a load, and for a new console, whose line is down."""
     kind, levels = STRUCTS["superio_console_work"], set()
     for function, arguments, result, left, _ in made:
         if not function.name.startswith("superio_console_"):
