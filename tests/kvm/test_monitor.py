@@ -110,9 +110,9 @@ def test_signal_without_effect(over_host, name):
 
 def test_resets_leave_nothing(over_host):
     """Each gives back the files of the machine before."""
-    resets = "out 64 1 fe\n" * 40
-    ran = run(["sh", "-c", "ulimit -n 30; exec ./monitor -r image"], cwd=over_host, input=resets)
-    assert ran.returncode == 0 and ran.stdout.count("edges of irq 4  at 7c00") == 41, ran.stdout[-300:]
+    resets = "out 64 1 fe\n" * 16
+    ran = run(["sh", "-c", "ulimit -n 20; exec ./monitor -r image"], cwd=over_host, input=resets)
+    assert ran.returncode == 0 and ran.stdout.count("edges of irq 4  at 7c00") == 17, ran.stdout[-300:]
 
 
 def test_builds(monitor, guest):
