@@ -96,6 +96,11 @@ def test_script(over_host, script):
     check_script(over_host, script)
 
 
+# For what has nothing to do with the port.
+with_c = pytest.mark.parametrize("over_host", ["C"], indirect=True)
+
+
+@with_c
 @pytest.mark.parametrize("name", "HUP INT QUIT ABRT BUS SEGV TERM".split())
 def test_signal(over_host, name):
     """A signal that usually ends a program ends the monitor, which restores the terminal."""
@@ -103,11 +108,13 @@ def test_signal(over_host, name):
     check_script(over_host, f"{STARTS}\nkill {number}  restored\nstatus {-number}")
 
 
+@with_c
 @pytest.mark.parametrize("name", "PIPE CHLD CONT URG WINCH".split())
 def test_signal_without_effect(over_host, name):
     check_script(over_host, f"{STARTS}\nkill {signal.Signals['SIG' + name].value}\nin 3fd 1  60\nstatus 0")
 
 
+@with_c
 def test_resets_leave_nothing(over_host):
     """Each gives back the files of the machine before."""
     resets = "out 64 1 fe\n" * 16
