@@ -23,7 +23,7 @@ LISTS = [
     ("as a macro", r"\b(?!(?:else|if|in|match|return|while)\b)(\w+)![(\[{]", "matches prove vec write"),
     ("as an attribute", r"#!?\[(\w+)", "derive derive_where inline must_use repr tactic unsafe"),
     ("as an impl", r"\bimpl\b[^{;]*?(\w+)(?:<[^{;]*>)? ?\bfor ",
-     "Default Display Error From Model StdError Write"),
+     "Debug Default Display Eq Error From Model PartialEq StdError Write"),
     ("in code", r"(?<!')\bstatic\b|\bunsafe\b(?!\(no_mangle\))|\bextern\b(?! fn)|\*(?:const|mut)\b|&raw\b|\bfor<|"
      r"\buse[*{]|::\*|\b(?:std|core|alloc) as\b|"
      r"\b(?:dyn|macro_rules|Clone|Copy|ToOwned|Iterator|Any|size_of|align_of)\b|"

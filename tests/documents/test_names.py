@@ -119,7 +119,7 @@ for it in CLAIMS:
     list(document_results(Document(it), CITED))
 # The calls of a console, which docs/USING.md tells of.
 CONSOLE = {it.name for it in SOURCES.functions if it.is_public and it.path[-2] == "Console"
-           and it.path[0] == "superio_console"}
+           and it.path[0] == "superio_console" and " for " not in it.header}
 PIECES = [code for it in DOCUMENTS for line in it.prose.splitlines() for code in CODE.findall(line)]
 
 
