@@ -31,7 +31,7 @@ class Output:
         self.out: list[str] = []
 
     def name_of(self, entity: Entity | Word) -> str:
-        if not entity.coq and not isinstance(entity, Word):
+        if not isinstance(entity, Word) and not entity.coq:
             self.put(entity)
         return entity.coq
 

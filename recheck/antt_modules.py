@@ -257,7 +257,7 @@ class Modules:
         data = Data(name=name, module=module, coq=name, parameters=[], is_of_rust=True)
         module.names[name] = data
         for variant, held in item.variants:
-            type_ = Pi(Binder(("_",), seen(held)), Name(name)) if held else Name(name)
+            type_: Term = Pi(Binder(("_",), seen(held)), Name(name)) if held else Name(name)
             coq = f"{name}_{variant}"
             self.taken.add(coq)
             data.variants[variant] = Variant(name=variant, module=module, coq=coq, type=type_, parent=data)

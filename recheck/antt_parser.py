@@ -134,7 +134,8 @@ class Parser:
         if operator not in ("→", "×") or precedence > OPERATORS[operator][0]:
             self.refuse("a binder")
         self.at += 1
-        return (Pi if operator == "→" else Sigma)(binder, self.term(OPERATORS[operator][0]))
+        body = self.term(OPERATORS[operator][0])
+        return Pi(binder, body) if operator == "→" else Sigma(binder, body)
 
     def is_at_binder(self) -> bool:
         start = self.at

@@ -1,13 +1,11 @@
 # SPDX-License-Identifier: Apache-2.0 OR BSD-3-Clause
-"""What stands around the text that is translated: that Cargo compiles it and nothing else. And c_header.py."""
+"""What stands around the text that is translated: that Cargo compiles it and nothing else."""
 import tomllib
 from pathlib import Path
 from typing import Any
 
-from c_header import check_header
-from rust_tree import Parser, Refused
-
-__all__ = ["BUILD_SCRIPT", "check_header", "check_manifests"]
+from parse_items import Parser
+from rust_tokens import Refused
 
 # What the manifest of each crate may say, by the names on the way to it: a dict is read on, and ANY is any value.
 ANY = None
@@ -27,6 +25,8 @@ MANIFESTS: dict[str, Any] = {
         "profile": {"dev": {"panic": "abort"},
                     "release": {"panic": "abort", "lto": True, "codegen-units": 1, "opt-level": 2}}},
 }
+# What Cargo and rustup read in a folder, for all that is built below it.
+SETTINGS = ("Cargo.toml", ".cargo", "rust-toolchain", "rust-toolchain.toml")
 # The one build script, which only names the shared library.
 BUILD_SCRIPT = "bindings/c/from-source/build.rs"
 
@@ -36,12 +36,15 @@ def check_manifests(root: Path, build_script: Any) -> None:
     for folder, expected in MANIFESTS.items():
         with (root / folder / "Cargo.toml").open("rb") as file:
             compare(f"{folder}/Cargo.toml", tomllib.load(file), expected)
-        for extra in ("build.rs", ".cargo", "src/main.rs", "src/bin"):
+        for extra in ("build.rs", "src/main.rs", "src/bin"):
             if (root / folder / extra).exists() and f"{folder}/{extra}" != BUILD_SCRIPT:
                 raise Refused(f"{folder}/{extra}")
-    for folder in (root, root / "bindings", root / "bindings/c"):
-        if (folder / ".cargo").exists() or (folder / "Cargo.toml").exists():
-            raise Refused(f"{folder} has settings of Cargo")
+        for setting in SETTINGS[1:]:
+            if (root / folder / setting).exists():
+                raise Refused(f"{folder}/{setting}")
+    for above in (root, root / "bindings", root / "bindings/c"):
+        if any((above / setting).exists() for setting in SETTINGS):
+            raise Refused(f"{above} has settings of Cargo")
     Parser((root / BUILD_SCRIPT).read_text(), BUILD_SCRIPT, build_script).file_items()
 
 

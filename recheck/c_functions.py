@@ -1,9 +1,11 @@
 # SPDX-License-Identifier: Apache-2.0 OR BSD-3-Clause
 """The C functions that Cargo builds, as one more file of the crate that they use, without what is `unsafe` in them."""
 import re
+from typing import Iterable
 
-from rust_tree import Parser, Refused
-from rust_types import MORE
+from parse_items import Parser
+from rust_crate import MORE
+from rust_tokens import Refused
 
 # What is translated in place of a text. A pointer to a struct is the struct; one to bytes, with their count, is the bytes;
 # one to write bytes at is the memory from there on. The crate superio has the items of its devices.
@@ -36,7 +38,7 @@ STANDS_FOR = {
 EXPORTED = re.compile(r'^#\[no_mangle\]\npub (?:unsafe )?extern "C" fn (\w+)', re.M)
 
 
-def safe_part(text, left_out=()):
+def safe_part(text: str, left_out: Iterable[list[str]] = ()) -> str:
     """What is translated of lib.rs. The lines keep their numbers. What else is `unsafe`, or exported in another way, stays,
     and the parser refuses it."""
     if re.search(r"^\s*pub(?: const)? fn", text, re.M):
@@ -48,9 +50,9 @@ def safe_part(text, left_out=()):
     return EXPORTED.sub(r"\npub fn \1", text)
 
 
-def without(text, left_out):
+def without(text: str, left_out: Iterable[list[str]]) -> str:
     """The text without these items, of which each has lines of its own."""
-    parser, left_out, lines = Parser(text, MORE), list(left_out), text.split("\n")
+    parser, left, lines = Parser(text, MORE), list(left_out), text.split("\n")
     while parser.next == "#" and parser.peek(1) == "!":
         parser.at += 2
         while not parser.has("]"):
@@ -58,12 +60,12 @@ def without(text, left_out):
     while parser.next:
         words, end = parser.item_ahead()
         found = [token.line for token in parser.tokens[parser.at:end]]
-        if words in left_out:
-            left_out.remove(words)
+        if words in left:
+            left.remove(words)
             if found[0] <= parser.tokens[parser.at - 1].line or found[-1] == parser.tokens[end].line:
                 raise Refused(f"{MORE}:{found[0]}: two items in a line")
             lines[found[0] - 1:found[-1]] = [""] * (found[-1] - found[0] + 1)
         parser.at = end
-    if left_out:
-        raise Refused(f"{MORE}: it has not what is left out: {' '.join(left_out[0])}")
+    if left:
+        raise Refused(f"{MORE}: it has not what is left out: {' '.join(left[0])}")
     return "\n".join(lines)

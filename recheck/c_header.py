@@ -5,7 +5,8 @@ from collections.abc import Iterable, Iterator
 from pathlib import Path
 from typing import Any, TypeVar
 
-from rust_tree import Refused, source
+from rust_tokens import Refused, source
+from rust_tree import List
 
 T = TypeVar("T")
 Member = tuple[str, str, int]                        # its name, its type, and how many, or 0 if it is no array
@@ -34,14 +35,23 @@ NUMBERS = {"SUPERIO_ABI": "ABI", "SUPERIO_SERIAL_FIFO_SIZE": "FIFO_SIZE", "SUPER
            "SUPERIO_CONSOLE_OUTPUT_SIZE": "OUTPUT_SIZE", "SUPERIO_CONSOLE_SAVED_MAX": "CONSOLE_SAVED_MAX",
            "SUPERIO_RTC_SAVED_SIZE": "SAVED_SIZE"}
 STRUCT = re.compile(r"typedef struct (\w+) \{(.*?)\} \1;", re.S)
-PROTOTYPE = re.compile(r"^([a-z]\w+)\s+(superio_\w+)\(((?:[^()]|\([^()]*\))*)\)", re.M)
+PROTOTYPE = re.compile(r"^([a-z]\w+)\s+(superio_\w+)\(((?:[^()]|\([^()]*\))*)\)"
+                       r"(?:\s+SUPERIO_[A-Z_]+(?:\([^()]*\))?)*;", re.M)
+ENUM = re.compile(r"enum superio_saved_state_error \{(?:\s*SUPERIO_LOAD_\w+ = \d+,?)*\s*\};")
+SIZE = re.compile(r"typedef char superio_\w+\s*\[sizeof\([^;]*\];")   # which has no value if a struct has another size
+DEFINED = re.compile(r"^ *#(?:.*\\\n)*.*", re.M)   # a line for the preprocessor
+# What may begin with `_`, and attributes that change no call.
+WORDS = {"__attribute__", "__has_attribute", "__cplusplus", "__clang__", "__VA_ARGS__"}
+ATTRIBUTES = {"warn_unused_result", "nonnull", "access", "diagnose_if"}
 
 
 def check_header(root: Path, crate: Any) -> None:
     """That the structs and functions of the C crate are those of the header: names, types, and the order of fields and
     of parameters."""
     text = header(root)
-    numbers = dict(re.findall(r"^#define (SUPERIO_\w+) (\d+)$", text, re.M))
+    numbers = once(re.findall(r"^#define (SUPERIO_\w+) (\d+)$", text, re.M))
+    for name in numbers.keys() & set(re.findall(r"^#undef (\w+)", text, re.M)):
+        raise Refused(f"{HEADER}: {name} is undefined")
     same(once((name, fields_of(body, numbers)) for name, body in STRUCT.findall(text)),
          {STRUCTS[name]: [*fields(crate, name)] for name in STRUCTS})
     for name, constant in NUMBERS.items():
@@ -62,6 +72,13 @@ def header(root: Path) -> str:
     for line in re.findall(r"^ *#.*", text, re.M):
         if not DIRECTIVE.match(line):
             raise Refused(f"{HEADER}: {line}")
+    for word in {*re.findall(r"\b_\w+", text)} - WORDS | {*re.findall(r"__attribute__\(\((\w+)", text)} - ATTRIBUTES:
+        raise Refused(f"{HEADER}: {word}")
+    rest = re.sub(r'^extern "C" \{$|^\}$', "", DEFINED.sub("", text), flags=re.M)
+    for known in (STRUCT, ENUM, SIZE, PROTOTYPE):
+        rest = known.sub("", rest)
+    if rest.strip():
+        raise Refused(f"{HEADER}: {' '.join(rest.split())[:60]}")
     return text
 
 
@@ -97,7 +114,8 @@ def once(pairs: Iterable[tuple[str, T]]) -> dict[str, T]:
 
 
 def fields_of(body: str, numbers: dict[str, str]) -> list[Member]:
-    found = []
+    """The fields of a struct of C; what is none is one too."""
+    found = [(rest, "", 0) for rest in re.sub(r"(\w+) (\w+)(\[(\w+)\])?;", "", body).split()]
     for type_, name, _, count in re.findall(r"(\w+) (\w+)(\[(\w+)\])?;", body):
         found.append((name, type_, int(numbers.get(count, count or 0))))
     return found
@@ -109,7 +127,7 @@ def fields(crate: Any, name: str) -> Iterator[Member]:
     if item.kind != "struct" or "repr(C)" not in item.derived:
         raise Refused(f"{name} has not the layout of C")
     for field, type_ in item.fields:
-        if isinstance(type_, tuple) and type_[0] == "list":
+        if isinstance(type_, List):
             yield field, TYPES[type_[1]], crate.number(type_.length)
         elif type_ in TYPES:
             yield field, TYPES[type_], 0

@@ -1,6 +1,6 @@
 // SPDX-License-Identifier: Apache-2.0 OR BSD-3-Clause
-// The items that tools/recheck does not translate, word by word, without their comments. It refuses any other item that it
-// cannot translate, and a crate that has not these.
+// The items and methods that tools/recheck does not translate, word by word, without their comments. It refuses any other that
+// it cannot translate, and a crate that has not these.
 
 //: bindings/superio/src/lib.rs
 #[cfg(feature = "std")]
@@ -168,6 +168,10 @@ mod tests {
 }
 
 //: bindings/rust/src/serial.rs
+pub fn writer_mut(&mut self) -> &mut W {
+    &mut self.out
+}
+
 impl<T: Trigger + fmt::Debug, EV: SerialEvents + fmt::Debug, W: Write + fmt::Debug> fmt::Debug for Serial<T, EV, W> {
     fn fmt(&self, f: &mut fmt::Formatter) -> fmt::Result {
         let state = self.state();

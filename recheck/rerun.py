@@ -16,9 +16,12 @@ import rust2coq
 import rust_tree
 import shell2coq
 import statements
-from around import BUILD_SCRIPT, check_header, check_manifests
+from around import BUILD_SCRIPT, check_manifests
 from c_functions import safe_part
+from c_header import check_header
 from coq import Failed, check, coqc, rests_on
+from left_out_items import left_out_items
+from rust_tokens import source
 
 HERE = Path(__file__).resolve().parents[1]
 
@@ -54,16 +57,17 @@ CRATES = {"core": "bindings/superio/src", "c": "bindings/c/from-source/src", "sh
 
 def left_out() -> tuple[dict[str, dict[Path, Any]], Any]:
     """What is not translated of the files of each crate."""
-    listed = rust_tree.left_out((HERE / "recheck/left-out.rs").read_text())
+    listed = left_out_items((HERE / "recheck/left-out.rs").read_text())
     found = {name: {Path(path).relative_to(folder): listed.pop(path) for path in [*listed] if path.startswith(f"{folder}/")}
              for name, folder in CRATES.items()}
     return found, listed.pop(BUILD_SCRIPT)
 
 
 def translated(root: Path, around: bool = True) -> tuple[dict[str, str], list[str]]:
-    """The generated files, and the Coq names of the public functions. `around` is whether manifests and the header count."""
+    """The generated files, with all functions, and the Coq names of the public ones. `around` is whether manifests and
+    the header count."""
     left, build_script = left_out()
-    c_functions = safe_part(rust_tree.source(root / CRATES["c"] / "lib.rs"), left["c"][Path("lib.rs")])
+    c_functions = safe_part(source(root / CRATES["c"] / "lib.rs"), left["c"][Path("lib.rs")])
     if [*(root / CRATES["c"]).iterdir()] != [root / CRATES["c"] / "lib.rs"]:
         raise rust2coq.Refused(f"{CRATES['c']}: more than lib.rs")
     crate = rust2coq.Crate(root / CRATES["core"], c_functions, left["core"])
@@ -71,11 +75,11 @@ def translated(root: Path, around: bool = True) -> tuple[dict[str, str], list[st
         check_manifests(root, build_script)
         check_header(root, crate)
     functions = sorted(name for name, item in crate.functions.items() if item.public)
-    types, code = rust2coq.translate(crate, functions)
+    types, code = rust2coq.translate(crate, [*functions, *crate.functions])
     shell = shell2coq.ShellCrate(root / CRATES["shell"], crate, left["shell"])
     public = shell.public()
     files = {"Types": types, "Code": code, "Definitions": antt2coq.translate(root / "crates", crate, LAWS + WORDS),
-             "ShellCode": shell2coq.translate(shell, public, code)}
+             "ShellCode": shell2coq.translate(shell, [*public, *shell.translated()], code)}
     return files, [rust2coq.coq_name(name) for name in functions] + [shell2coq.coq_name(name) for name in public]
 
 

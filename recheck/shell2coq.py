@@ -6,116 +6,98 @@ function becomes one of the same name, with `vm_` before it, which gives what it
 what follows its answer, and at the end its result and the new values of its `&mut` parameters (Acts.v). A call of a
 function without I/O is one of the function that rust2coq.py made.
 """
-from rust2coq import Writer, indented
-from rust_tree import Refused
-from rust_types import actual
-from shell_tree import OBJECTS, OPAQUE
-from shell_types import WRITE, ShellChecker, ShellCrate
+from typing import Callable, Iterable, NoReturn
 
-__all__ = ["ShellCrate", "translate"]
+import rust2coq
+from check_shell import CopyUpTo, Each, MapErr, Matched, OkOr, Same, ShellChecker, Tries
+from coq_types import Env, indented
+from coq_values import Then
+from rust_expressions import Ask, Call, For, Let, Match, Method, Replace, Span, While
+from rust_items import Enum, Function, Struct
+from rust_tokens import Refused
+from rust_tree import Expr, ListPattern, Node, Type, Variable
+from rust_types import actual, is_a
+from shell_crate import ShellCrate
+from shell_names import OBJECTS, OPAQUE
+
+__all__ = ["ShellCrate", "coq_name", "translate"]
 
 VARIABLES = ["T", "EV", "W", "E", "Fault"]
 
 
-def coq_name(key):
+def coq_name(key: str) -> str:
     return ("vm_" + key[2:] if key.startswith("Vm") else key).replace("::", "_")
 
 
-class ShellWriter(Writer):
+class ShellWriter(rust2coq.Writer):
     """Writes functions of the shell. `core` are the Coq names of the functions without I/O."""
-    def __init__(self, crate, core):
+    crate: ShellCrate
+
+    def __init__(self, crate: ShellCrate, core: set[str]) -> None:
         super().__init__(crate)
         self.core = core
         self.holds = {name: self.variables(name) for name in crate.own if name in crate.types}
 
-    def coq_name(self, key):
-        if key in self.crate.own:
+    def is_own(self, name: str) -> bool:
+        return name in self.crate.own
+
+    def coq_name(self, key: str) -> str:
+        if self.is_own(key):
             return coq_name(key)
         name = super().coq_name(key)
         if name not in self.core:
             raise Refused(f"{key} is not translated")
         return name
 
-    def word(self, key):
-        return "let+" if key in self.crate.own else "let^"
+    def word(self, key: str | None) -> str:
+        return "let+" if key is not None and self.is_own(key) else "let^"
 
-    def comment(self, doc):
+    def comment(self, doc: list[str]) -> str:
         """The doc comment up to its first heading"""
         heads = [at for at, line in enumerate(doc) if line.startswith("#")]
         return super().comment(doc[:heads[0] - 1] if heads else doc)
 
     # -- types
-    def type(self, type_, node=None):
+    def type(self, type_: Type, node: Node | None = None) -> str:
         type_ = actual(type_)
-        if isinstance(type_, tuple) and type_[0] == "iterator":
-            type_ = ("list", type_[1])
-        text = super().type(type_, node)
+        text = super().type(("list", type_[1]) if is_a(type_, "iterator") else type_, node)
         if text in OPAQUE:
             return OPAQUE[text]
-        variables = self.holds.get(text, ())
-        stands = {OBJECTS[trait]: other for trait, other in self.crate.instance.items()}
+        variables, stands = self.holds.get(text, []), self.instances()
         return f"({' '.join([text, *(stands.get(one, one) for one in variables)])})" if variables else text
 
-    def variables(self, type_):
+    def instances(self) -> dict[str, str]:
+        """What stands for the type variables of Coq in the function that is at work"""
+        return {OBJECTS[trait]: other for trait, other in self.crate.instance.items()}
+
+    def variables(self, type_: Type) -> list[str]:
         """The types of objects, of a refusal or of a writer's fault that a type of the shell holds"""
-        if type_ in OPAQUE:
+        if isinstance(type_, str) and type_ in OPAQUE:
             return [OPAQUE[type_]]
+        parts: Iterable[Type] = ()
         if isinstance(type_, tuple):
             parts = type_[1:]
-        elif type_ in self.crate.own:
-            item = self.crate.types[type_]
-            parts = [self.crate.known(part) for _, part in (item.fields if item.kind == "struct" else item.variants) if part]
-        else:
-            return []
+        elif isinstance(type_, str) and self.is_own(type_):
+            parts = [self.crate.known(held) for _, held in self.crate.types[type_].members if held]
         found = {variable for part in parts for variable in self.variables(part)}
         return [variable for variable in VARIABLES if variable in found]
 
-    def types(self):
-        out, done = [], set(self.crate.core.types)
-
-        def add(name):
-            if name in done:
-                return
-            done.add(name)
-            item = self.crate.types[name]
-            members = [(member, self.crate.known(type_) if type_ else None)
-                       for member, type_ in (item.fields if item.kind == "struct" else item.variants)]
-            for _, type_ in members:
-                if type_ in self.crate.own:
-                    add(type_)
-            out.append(self.declared(name, item, members))
-        for name in self.crate.types:
-            add(name)
-        return "\n\n".join(out)
-
-    def declared(self, name, item, members):
+    def declared(self, name: str, item: Struct | Enum) -> str:
         variables = self.holds[name]
         parameters = f" ({' '.join(variables)} : Type)" if variables else ""
-        if item.kind == "struct" and members:
-            fields = ";\n".join(f"  {name}_{field} : {self.type(type_)}" for field, type_ in members)
-            text = f"Record {name}{parameters} : Type := mk_{name} {{\n{fields}\n}}."
-            made = [f"mk_{name}", *(f"{name}_{field}" for field, _ in members)]
-        else:
-            variants = members or [("", None)]
-            made = [f"{name}_{variant}" if variant else f"mk_{name}" for variant, _ in variants]
-            whole = " ".join([name, *variables])
-            lines = [f"| {constructor} : " + (f"{self.type(held)} -> " if held else "") + whole
-                     for constructor, (_, held) in zip(made, variants)]
-            text = f"Inductive {name}{parameters} : Type :=\n" + "\n".join(lines) + "."
+        text = self.comment(item.doc) + self.declaration(name, item, parameters, " ".join([name, *variables]))
+        made = [f"{name}_{member}" for member, _ in item.members]
+        if isinstance(item, Struct):
+            made.insert(0, f"mk_{name}")
         if variables:
-            text += "".join(f"\nArguments {one} {{{' '.join(variables)}}}." for one in made)
-        elif item.kind == "struct" and members:
-            text += "\n" + self.valid(name, item)
-        return self.comment(item.doc) + text
+            return text + "".join(f"\nArguments {one} {{{' '.join(variables)}}}." for one in made)
+        return f"{text}\n{self.valid(name, item)}" if isinstance(item, Struct) and item.members else text
 
     # -- calls of objects
-    def calls(self):
+    def calls(self) -> str:
         """The calls that objects get, and what each may answer"""
-        found = []
-        for trait, variable in OBJECTS.items():
-            declared = self.crate.traits[trait].methods if trait in self.crate.traits else ()
-            methods = WRITE if trait == "Write" else {method.name: self.crate.call_of(method) for method in declared}
-            found += [(f"{trait}_{name}", variable, *method) for name, method in methods.items()]
+        found = [(f"{trait}_{name}", variable, *method) for trait, variable in OBJECTS.items()
+                 for name, method in self.crate.methods(trait).items()]
         lines = [f"| {name} : " + " -> ".join([variable, *map(self.type, parameters), "Call T EV W"])
                  for name, variable, parameters, _ in found]
         answers = [f"  | {name} {' '.join('_' for _ in [variable, *parameters])} => {self.type(result)}"
@@ -126,143 +108,122 @@ class ShellWriter(Writer):
             "Inductive Call (T EV W : Type) : Type :=", *lines, "| SystemTime_now : Call T EV W.",
             *(f"Arguments {name} {{T EV W}}." for name in names), "",
             "(* What it may answer. *)",
-            "Definition Answer {T EV W : Type} (E Fault : Type) (call : Call T EV W) : Type :=", "  match call with", *answers,
-            "  | SystemTime_now => N", "  end.", "",
+            "Definition Answer {T EV W : Type} (E Fault : Type) (call : Call T EV W) : Type :=", "  match call with",
+            *answers, "  | SystemTime_now => N", "  end.", "",
             "Definition Shell (T EV W E Fault : Type) : Type -> Type := Acts (@Answer T EV W E Fault)."])
 
-    def ask(self, node, objects, env, then):
-        def asked(values, after):
-            answer = self.fresh("answer")
-            return f"let? {answer} := {' '.join([node.ask, *values])} in\n{then(answer, after)}"
-        return self.each(objects, env, asked)
-
     # -- functions
-    def constant(self, name):
-        return super().constant(name) if name in self.crate.own else self.coq_name(name)
+    def constant(self, name: str) -> str:
+        return super().constant(name) if self.is_own(name) else self.coq_name(name)
 
-    def function(self, key):
-        if key not in self.crate.own:
-            return self.coq_name(key)
-        if key in self.written:
-            return self.written[key]
-        if key in self.open:
-            raise Refused(f"{key} calls itself")
-        function = self.crate.functions[key]
-        saved = self.__dict__.get("where"), self.__dict__.get("changed"), self.count, self.crate.instance
-        self.open.append(key)
-        self.where, self.count, self.crate.instance = function.file, 0, self.crate.instance_of(function)
-        self.out.append(self.definition(key, function))
-        self.where, self.changed, self.count, self.crate.instance = saved
-        self.open.pop()
-        self.written[key] = self.coq_name(key)
-        return self.written[key]
+    def function(self, key: str) -> str:
+        return super().function(key) if self.is_own(key) else self.coq_name(key)
 
-    def definition(self, key, function):
-        checker = ShellChecker(self.crate, function, function.file)
-        checker.function(function)
-        self.changed = [local for local in function.locals if local.mode == "mut"]
-        env = {local: f"{local.name}'" for local in function.locals}
-        instance = {OBJECTS[trait]: other for trait, other in self.crate.instance.items()}
-        parameters = "".join(f" ({env[local]} : {self.type(local.type)})" for local in function.locals)
-        result = " * ".join([self.type(checker.result), *(self.type(local.type) for local in self.changed)])
-        free = " ".join(variable for variable in VARIABLES if variable not in instance)
-        shell = " ".join(["Shell", *(instance.get(variable, variable) for variable in VARIABLES)])
-        text = self.expr(function.body, env, self.leave)
-        return (f"{self.comment(function.doc)}(* {function.file}:{function.line} *)\n"
-                f"Definition {self.coq_name(key)} {{{free} : Type}}{parameters} : {shell} ({result}) :=\n  {indented(text)}.")
+    def definition(self, key: str, function: Function) -> str:
+        before, self.crate.instance = self.crate.instance, self.crate.instance_of(function)
+        text = super().definition(key, function)
+        self.crate.instance = before
+        return text
 
-    def leave(self, value, env):
+    def checker(self, function: Function) -> ShellChecker:
+        return ShellChecker(self.crate, function, function.file)
+
+    def definition_head(self, key: str, parameters: str, result: str) -> str:
+        stands = self.instances()
+        free = " ".join(variable for variable in VARIABLES if variable not in stands)
+        shell = " ".join(["Shell", *(stands.get(variable, variable) for variable in VARIABLES)])
+        return f"Definition {self.coq_name(key)} {{{free} : Type}}{parameters} : {shell} ({result})"
+
+    def leave(self, value: str, env: Env) -> str:
         return "Returns" + super().leave(value, env).removeprefix("Some")
 
     # -- expressions
-    def _name(self, node, env, then):
-        return then(f"mk_{node.name}", env) if getattr(node, "form", None) == "unit" else super()._name(node, env, then)
+    def expr(self, node: Expr, env: Env, then: Then) -> str:
+        if not isinstance(node, Span):
+            return super().expr(node, env, then)
+        return self.each([node.low, node.high], env, lambda values, after:
+                         then(f"(span {values[0]} {values[1]})", after))
 
-    def _replace(self, node, env, then):
-        def replaced(value, after):
+    def call(self, node: Call | Method, env: Env, then: Then) -> str:
+        meaning = node.meaning
+        if isinstance(meaning, Ask):
+            return self.ask(meaning, env, then)
+        if isinstance(meaning, Replace):
+            return self.replace(meaning, env, then)
+        if not isinstance(node, Method):
+            return super().call(node, env, then)
+        if isinstance(meaning, Matched):
+            return self.expr(meaning.match, env, then)
+        if isinstance(meaning, MapErr):
+            variant = meaning.variant
+            return self.expr(node.value, env, lambda value, after: then(f"(map_err {variant} {value})", after))
+        if isinstance(meaning, OkOr):
+            return self.each([node.value, node.arguments[0]], env, lambda values, after:
+                             then(f"(ok_or {values[0]} {values[1]})", after))
+        if isinstance(meaning, Same):
+            return self.expr(node.value, env, then)
+        if isinstance(meaning, Each):
+            return self.mapped(node, meaning, env, then)
+        if isinstance(meaning, Tries):
+            return self.tried(meaning, env, then)
+        if isinstance(meaning, CopyUpTo):
+            count = self.expr(meaning.count, env, lambda value, env: value)
+            copied = self.copy(meaning.copy, node.arguments[0], env, then)
+            return (f"if N.leb {count} (length {self.read(meaning.copy.target, env)}) then\n  {indented(copied)}\n"
+                    f"else {self.leave('None', env)}")
+        return super().call(node, env, then)
+
+    def ask(self, meaning: Ask, env: Env, then: Then) -> str:
+        def asked(values: list[str], after: Env) -> str:
+            answer = self.fresh("answer")
+            return f"let? {answer} := {' '.join([meaning.question, *values])} in\n{then(answer, after)}"
+        return self.each(meaning.arguments, env, asked)
+
+    def replace(self, meaning: Replace, env: Env, then: Then) -> str:
+        def replaced(value: str, after: Env) -> str:
             old = self.fresh("old")
-            return f"let {old} := {self.read(node.place, after)} in\n" + self.update(
-                node.place, value, after, lambda env: then(old, env))
-        return self.expr(node.arguments[1], env, replaced)
+            return f"let {old} := {self.read(meaning.place, after)} in\n" + self.update(
+                meaning.place, value, after, lambda env: then(old, env))
+        return self.expr(meaning.value, env, replaced)
 
-    def _call(self, node, env, then):
-        return self.ask(node, [], env, then) if hasattr(node, "ask") else super()._call(node, env, then)
+    def tried(self, meaning: Tries, env: Env, then: Then) -> str:
+        body = self.expr(meaning.body, env, lambda value, after: f"Returns {value}")
 
-    def _method(self, node, env, then):
-        if hasattr(node, "ask"):
-            return self.ask(node, [node.value, *node.arguments], env, then)
-        form = getattr(node, "form", None)
-        return getattr(self, f"on_{form}")(node, env, then) if form else super()._method(node, env, then)
-
-    def on_match(self, node, env, then):
-        return self.expr(node.match, env, then)
-
-    def on_map_err(self, node, env, then):
-        return self.expr(node.value, env, lambda value, after: then(f"(map_err {node.variant} {value})", after))
-
-    def on_ok_or(self, node, env, then):
-        return self.each([node.value, node.arguments[0]], env, lambda values, after:
-                         then(f"(ok_or {values[0]} {values[1]})", after))
-
-    def on_try_for_each(self, node, env, then):
-        body = self.expr(node.arguments[0].body, env, lambda value, after: f"Returns {value}")
-
-        def tried(times, after):
+        def tried(times: str, after: Env) -> str:
             result = self.fresh("result")
             return f"let+ {result} := try_times {times} (\n  {indented(body)}) in\n{then(result, after)}"
-        return self.expr(node.value.high, env, tried)
+        return self.expr(meaning.high, env, tried)
 
-    def on_same(self, node, env, then):
-        return self.expr(node.value, env, then)
+    def mapped(self, node: Method, meaning: Each, env: Env, then: Then) -> str:
+        closure = meaning.closure
 
-    def _span(self, node, env, then):
-        return self.each([node.low, node.high], env, lambda values, after: then(f"(span {values[0]} {values[1]})", after))
-
-    def on_each(self, node, env, then):
-        closure = node.closure
-
-        def mapped(items, after):
+        def mapped(items: str, after: Env) -> str:
             item, results = self.fresh("item"), self.fresh("items")
-            bound = {closure.parameter.local: item} if closure.parameter.kind == "variable" else {}
+            bound = {closure.parameter.local: item} if isinstance(closure.parameter, Variable) else {}
             body = self.expr(closure.body, {**after, **bound}, lambda value, env: f"Returns {value}")
             return f"let+ {results} := each (fun {item} =>\n  {indented(body)}) {items} in\n{then(results, after)}"
         return self.expr(node.value, env, mapped)
 
-    def on_copy_to(self, node, env, then):
-        count = self.read(node.ends.high, env)
-        return (f"if N.leb {count} (length {self.read(node.target, env)}) then\n  {indented(self.copy(node, env, then))}\n"
-                f"else {self.leave('None', env)}")
-
-    def by_variant(self, node, value, type_, env, then):
+    def by_variant(self, node: Match, value: str, type_: Type, env: Env, then: Then) -> str:
         return super().by_variant(node, f"({value} : {self.type(type_)})", type_, env, then)
 
-    # -- what the shell has no need of
-    def refuse(self, node, what):
-        raise Refused(f"{self.where}:{node.line}: {what}")
+    def typed(self, name: str, type_: str) -> str:
+        return f"{name} : {type_}"
 
-    def loop(self, node, env, rest):
+    # -- what the shell has no need of
+    def loop(self, node: For | While, env: Env, rest: Callable[[Env], str]) -> NoReturn:
         self.refuse(node, "a loop")
 
-    def by_parts(self, node, values, env, then, at=0):
+    def by_parts(self, node: Match, values: list[str], env: Env, then: Then, at: int = 0) -> NoReturn:
         self.refuse(node, "a match of a tuple")
 
-    def let(self, node, env, rest):
-        pattern = node.pattern
-        if pattern.kind == "list pattern":
+    def let(self, node: Let, env: Env, rest: Callable[[Env], str]) -> str:
+        if isinstance(node.pattern, ListPattern):
             self.refuse(node, "the pattern of a list")
-        if pattern.kind == "variable" and getattr(node.value, "name", None) != "split_at_mut":
-            def bound(value, after):
-                name = self.fresh(pattern.name)
-                return (f"let {name} : {self.type(node.value.type, node)} := {value} in\n"
-                        f"{rest({**after, pattern.local: name})}")
-            return self.expr(node.value, env, bound)
-        if pattern.kind != "record pattern":
-            return super().let(node, env, rest)
-        return self.expr(node.value, env, lambda value, after: rest(
-            {**after, **{part.local: f"({pattern.name}_{part.name} {value})" for part in pattern.parts}}))
+        return super().let(node, env, rest)
 
 
-def translate(crate, functions, code):
+def translate(crate: ShellCrate, functions: Iterable[str], code: str) -> str:
     """The types of the shell and these functions, as one Coq file. `code` is the file of the functions without I/O."""
     writer = ShellWriter(crate, {line.split()[1] for line in code.split("\n") if line.startswith("Definition rs_")})
     types, calls = writer.types(), writer.calls()

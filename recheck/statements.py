@@ -199,16 +199,16 @@ class Statements:
                 parts[file] += [heading(title), *(self.told(name, comments) for name in names)]
                 shown.update(names, filter(None, map(self.law_of, names)))
         for numbers, theorems in claims.items():
-            title = [f"Claim{'s' * (len(numbers) > 1)} {' and '.join(map(str, numbers))}."]
-            title += [words.pop(number) + "." for number in numbers if number in words]
-            add("claims.txt", " ".join(title), theorems)
+            said = [f"Claim{'s' * (len(numbers) > 1)} {' and '.join(map(str, numbers))}."]
+            said += [words.pop(number) + "." for number in numbers if number in words]
+            add("claims.txt", " ".join(said), theorems)
         parts["claims.txt"].append(paragraph(JUDGED))
         for topic, theorems in topics(self.folder).items():
             paths = [f"Claims.{name}" for name in theorems]
             add("statements.txt", topic, [path for path in paths if path not in of_claims])
         add("statements.txt", "laws that have conditions, used once each", self.witnesses)
-        for file, title in SHOWN.items():
-            left = [name for name in self.defined if name.startswith(f"{file}.") and name in self.text.keys() - shown]
+        for source, title in SHOWN.items():
+            left = [name for name in self.defined if name.startswith(f"{source}.") and name in self.text.keys() - shown]
             add("claims.txt", title, [name for name in left if name in read])
             add("statements.txt", title, [name for name in left if name not in read])
         parts["statements.txt"].append(f"All of both files, with what Coq does not show of it: {self.sum}\n")

@@ -29,6 +29,7 @@ TOOLS = {
               "/usr/share/cargo/registry/serde_derive-1.*": "librust-serde-derive-dev",
               "/usr/share/cargo/registry/serde_json-1.*": "librust-serde-json-dev"},
     "coq": {"coqc": "coq"},
+    "mypy": {"import mypy": "mypy"},
     "node": {"node": "nodejs"},
     "npm": {"npm": "npm", "node": "nodejs"},
     "tsc": {"tsc": "node-typescript", "node": "nodejs"},

@@ -408,4 +408,44 @@ RIGHT = {
     "blocks as statements":
         """pub fn case() -> u32 { let mut x = 1u32; if x == 1 { x += 1; } else { x += 5; } { x += 10; } match x {
         12 => x += 100, _ => {} } x }""",
+    "the greatest u16": "pub fn case() -> u32 { let x: u16 = 65530; let y = x + 5; u32::from(y) }",
+    "overflow of u32": "pub fn case() -> u32 { let x: u32 = 4294967295; let y = 1; x + y }",
+    "overflow of u64": "pub fn case() -> u32 { let x: u64 = 18446744073709551615; (x + 1) as u32 }",
+    "overflow of usize": "pub fn case() -> u32 { let x: usize = 18446744073709551615; (x + 1) as u32 }",
+    "the fields of a struct": PAIR + "pub fn case() -> u32 { let Pair { b, a } = Pair { a: 1, b: 2 }; a * 10 + b }",
+    "a struct without fields": "pub struct Nothing; pub fn case() -> u32 { let x: Option<Nothing> = Some(Nothing); if x.is_some() { 1 } else { 2 } }",
+    "overflow of u8": "pub fn case() -> u32 { (255u8 + 1) as u32 }",
+    "a cast": "pub fn case() -> u32 { 259u64 as u8 as u32 }",
+    "unequal numbers": "pub fn case() -> u32 { let x: u32 = 3; if x == 5 { 1 } else { 2 } }",
+    "a change in the right operand": "pub fn case() -> u32 { let mut x = 1u32; x * 10 + { x = 5; x } }",
+    "value of a shift": "pub fn case() -> u32 { let x: u64 = 1 << 5; x as u32 }",
+    "width from a method": "pub fn case() -> u32 { let n = 4294967297; let x: u64 = 7; (x.max(n) % 1000) as u32 }",
+    "length of a repeated array": "pub fn case() -> u32 { let x = [3u8; 4]; x.len() as u32 }",
+    "generic beside another type": """pub struct Other { pub a: u32 } impl Other { fn n(&self) -> u32 { 7 } } pub trait T { fn n(&self) -> u32; }
+        pub struct Single { pub a: u32 } impl T for Single { fn n(&self) -> u32 { self.a } } fn twice<X: T>(x: &X) -> u32 { x.n() * 2 }
+        pub fn case() -> u32 { twice(&Single { a: 4 }) * 10 + Other { a: 1 }.n() }""",
+    "parts of a pair": "pub fn case() -> u32 { let p = (3u32, 5u32); p.0 * 10 + p.1 }",
+    "variants without values": COLOR + """fn n(c: Color) -> u32 { match c { Color::Red => 1, Color::Green => 2, Color::Value(_) => 3 } }
+        pub fn case() -> u32 { n(Color::Green) * 10 + n(Color::Red) }""",
+    "bits of Booleans": """fn n(b: bool) -> u32 { if b { 1 } else { 0 } } pub fn case() -> u32 { let (t, f) = (true, false);
+        n(t | f) * 1000 + n(t ^ t) * 100 + n(!f) * 10 + n(t & f) }""",
+    "comparisons": """fn n(b: bool) -> u32 { if b { 1 } else { 0 } } fn all(a: u32, b: u32) -> u32 { n(a == b) + 2 * n(a != b) + 4 * n(a < b)
+        + 8 * n(a > b) + 16 * n(a <= b) + 32 * n(a >= b) } pub fn case() -> u32 { all(3, 5) * 10000 + all(5, 5) * 100 + all(5, 3) }""",
+    "comparisons of i64": """fn n(b: bool) -> u32 { if b { 1 } else { 0 } } fn all(a: i64, b: i64) -> u32 { n(a == b) + 2 * n(a != b) + 4 * n(a < b)
+        + 8 * n(a > b) + 16 * n(a <= b) + 32 * n(a >= b) } pub fn case() -> u32 { all(0 - 5, 3) * 10000 + all(0 - 5, 0 - 5) * 100 + all(3, 0 - 5) }""",
+    "comparisons of Booleans": """fn n(b: bool) -> u32 { if b { 1 } else { 0 } } fn all(a: bool, b: bool) -> u32 { n(a == b) + 2 * n(a != b) }
+        pub fn case() -> u32 { all(true, false) * 10 + all(false, false) }""",
+    "priority of | and ==": "pub fn case() -> u32 { let x: u32 = 4; if x | 3 == 7 { 1 } else { 2 } }",
+    "length of the pattern of a list": "fn f(x: &[u8]) -> u32 { match x { [0] => 1, _ => 2 } } pub fn case() -> u32 { f(&[0, 5]) }",
+    "both branches return": "fn f(x: u32) -> u32 { if x == 3 { return 9; } else { return 8; } } pub fn case() -> u32 { f(3) * 10 + f(4) }",
+    "? of what changes": QUEUE + """fn odd(q: &mut Queue) -> Result<u32, u32> { q.n += 1; Err(q.n) } fn all(q: &mut Queue) -> Result<u32, u32>
+        { let x = odd(q)?; Ok(x) } pub fn case() -> u32 { let mut q = Queue { n: 1 }; match all(&mut q) { Ok(n) => n, Err(e) => e * 100 + q.n } }""",
+    "only a split past the end": "pub fn case() -> u32 { let mut x = [0u8; 4]; let (_a, _b) = x.split_at_mut(5); 7 }",
+    "copy of all of a view": """pub fn case() -> u32 { let mut x = [0u8; 6]; let (_a, b) = x.split_at_mut(2); b.copy_from_slice(&[1, 2, 3, 4]);
+        u32::from(x[2]) * 10 + u32::from(x[5]) }""",
+    "a view that is read": """fn first(x: &mut [u8]) -> u32 { let y = x[0]; x[0] = y + 1; u32::from(y) } pub fn case() -> u32 {
+        let mut x = [1u8, 2, 3, 4]; let (_a, b) = x.split_at_mut(2); first(b) * 10 + u32::from(x[2]) }""",
+    "is_empty": """pub fn case() -> u32 { let x = [1u8, 2]; let (y, z) = (&x[1..1], &x[1..2]); if y.is_empty() && !z.is_empty() { 1 } else { 2 } }""",
+    "is_none": "fn n(x: Option<u32>) -> u32 { if x.is_none() { 1 } else { 0 } } pub fn case() -> u32 { n(None) * 10 + n(Some(3)) }",
+    "i64 from u32": "pub fn case() -> u32 { let x: u32 = 5; let y = i64::from(x) + 1; y.unsigned_abs() as u32 }",
 }

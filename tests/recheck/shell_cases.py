@@ -28,6 +28,10 @@ BOTH = """fn both(&mut self) -> Result<u32, Error<T::E>> { self.trigger.trigger(
     self.out.flush().map_err(Error::IOError)?; Ok(9) }"""
 SOME = "fn some(&self) -> Option<u32> { if self.n == 7 { Some(self.n) } else { None } }"
 
+TIME = """use std::time::{SystemTime, UNIX_EPOCH};
+fn moment_of(time: SystemTime) -> u64 { time.duration_since(UNIX_EPOCH).map_or(0, |since| since.as_secs()) }
+fn moment() -> u64 { moment_of(SystemTime::now()) }"""
+
 RIGHT = {
     "an answer": device("match self.trigger.trigger() { Ok(()) => 1, Err(_) => 2 }"),
     "calls in order": device("self.events.out_byte(); let _sent = self.out.write_all(&[7, 8]); self.events.tx_lost_byte(); self.n"),
@@ -46,6 +50,8 @@ RIGHT = {
     "map that panics": device("let all: Vec<usize> = (0..4).map(|i| 6 / i).collect(); all.len() as u32"),
     "map of a result": device("match self.both().map(|n| n + 1) { Ok(n) => n, Err(_) => 3 }", BOTH),
     "map_or": device("if self.some().map_or(false, |n| n == 7) { self.n = 8; } if self.some().map_or(true, |n| n == 7) { self.n } else { 2 }", SOME),
+    "map_or of none": device("self.n = 8; if self.some().map_or(false, |n| n == 7) { 1 } else { 2 }", SOME),
+    "the host's time": device("if moment() > 1000 { self.events.out_byte(); 1 } else { 2 }", items=TIME),
     "get_mut": device("self.part(3).unwrap_or(50) + self.part(5).unwrap_or(60)", """fn part(&self, count: usize) -> Option<u32> {
         let bytes: &[u8] = &[1, 2, 3, 4, 5]; let mut a = [9u8; 4]; a.get_mut(..count)?.copy_from_slice(&bytes[..count]); Some(u32::from(a[2])) }"""),
     "get_mut of another length": device("self.part(3).unwrap_or(50)", """fn part(&self, count: usize) -> Option<u32> {

@@ -17,7 +17,8 @@ INHERENT = """impl<T: crate::Trigger, EV: crate::serial::SerialEvents, W: std::i
     pub fn character_timeout(&mut self) -> Result<(), crate::serial::Error<T::E>> { Ok(()) }
 }
 """
-# What is changed: files, each with what stands there ("" is the end) and what is put in its place; and why it is refused.
+# What is changed: files, each with what stands there ("" is the end) and what is put in its place; and why it is refused,
+# where LINE is the number of a line.
 CHANGES = {
     "a macro of a known name": ([(CORE + "lib.rs", "#[rustfmt::skip]", "macro_rules! matches { ($e:expr, $p:pat) => { match $e { $p => false, _ => true } } }\n#[rustfmt::skip]")],
                                 "'$e:expr"),
@@ -43,7 +44,7 @@ CHANGES = {
     "a module of tests": ([(SHELL + "serial.rs", "mod state;\n", "mod state;\n#[cfg(test)]\nmod tests;\n" + INHERENT)], "the attribute cfg(test)"),
     "a method of tests": ([(SHELL + "lib.rs", "\n    fn trigger", "\n    #[cfg(test)]\n    fn never(&self);\n    fn trigger")], "the attribute cfg(test)"),
     "cfg": ([(DEVICES + "i8042.rs", "#[inline(always)]", '#[cfg(feature = "std")]')], 'the attribute cfg(feature="std")'),
-    "writer_mut": ([(SHELL + "serial.rs", "&mut self.out\n", "self.port = Uart::new(); &mut self.out\n")], "VmSerial::writer_mut is another function"),
+    "writer_mut": ([(SHELL + "serial.rs", "&mut self.out\n", "self.port = Uart::new(); &mut self.out\n")], "serial.rs:LINE: a mutable reference outside a parameter"),
     "store": ([(C_FUNCTIONS, "Err(error) => load_status(error),\n    }\n}\n\n#", "Err(_) => LOADED,\n    }\n}\n\n#")], "it has not what is left out: unsafe fn store"),
     "bytes_at": ([(C_FUNCTIONS, "if count == 0", "if count <= 1")], "it has not what is left out: unsafe fn bytes_at"),
     "an item after a comment": ([(C_FUNCTIONS, "use superio::{is_reset_command, ", "// *const\nuse superio::is_reset_command as unused;\nuse superio::{")],
@@ -77,6 +78,91 @@ CHANGES = {
     "settings of Cargo": ([("bindings/superio/.cargo/config.toml", None, "")], "bindings/superio/.cargo"),
 }
 
+HEADERS = ("bindings/c/superio.h", "bindings/c/from-source/superio.h")
+RESULT = "use std::fmt;\n"
+BLANKET = "trait Quick {\n    fn trigger(&self) -> bool;\n}\n\nimpl<T: Trigger> Quick for T {\n    fn trigger(&self) -> bool {\n        true\n    }\n}\n"
+
+
+def in_header(old, new):
+    return [(header, old, new) for header in HEADERS]
+
+
+# Changes of text that nobody reads, of what stands around the text, and of names that then mean something else.
+CHANGES |= {
+    "a condition of a whole crate": ([(CORE + "lib.rs", "#![no_std]", "#![no_std]\n#![cfg(any())]")], "lib.rs:LINE: the attribute cfg(any())"),
+    "a condition of a field": ([(C_FUNCTIONS, "    pub invalid_read: bool,\n", "    #[cfg(any())]\n    pub extra: u8,\n    pub invalid_read: bool,\n")],
+                               "lib.rs:LINE: the attribute cfg(any())"),
+    "a condition of an arm": ([(C_FUNCTIONS, "        SavedStateError::TooShort => 1,", "        #[cfg(any())]\n        SavedStateError::TooShort => 9,\n        SavedStateError::TooShort => 1,")],
+                              "lib.rs:LINE: a name expected: # [ cfg"),
+    "a path of a module by a condition": ([(SHELL + "serial.rs", "mod state;", '#[cfg_attr(all(), path = "other.rs")]\nmod state;')],
+                                          'serial.rs:LINE: the attribute cfg_attr(all(), path="other.rs")'),
+    "a file that is pasted": ([(CORE + "lib.rs", "", 'include!("other.txt");\n')], "lib.rs:LINE: an item: include !"),
+    "a raw string": ([(SHELL + "lib.rs", "", 'const TEXT: &str = r#"}"#;\n')], "lib.rs:LINE: ; expected: #"),
+    "a raw identifier": ([(DEVICES + "i8042.rs", "    offset ==", "    r#offset ==")], "i8042.rs:LINE: ; expected: # offset"),
+    "a block comment": ([(DEVICES + "i8042.rs", "    offset ==", "    /* false && */ offset ==")], "i8042.rs:LINE: '/* false && */"),
+    "a mark at the start of a file": ([(DEVICES + "i8042.rs", "// SPDX", "\ufeff// SPDX")], "i8042.rs:LINE: '\\ufeff//"),
+    "a first line for a shell": ([(DEVICES + "i8042.rs", "// SPDX", "#!/bin/sh pub fn quick() {}\n// SPDX")], "i8042.rs:LINE: [ expected: / bin"),
+    "a letter of another alphabet": ([(DEVICES + "i8042.rs", "    offset ==", "    \u043effset ==")], "i8042.rs:LINE: '\u043effset"),
+    "a label": ([(DEVICES + "fifo.rs", "let held = self.count();", "let held = 'a: { self.count() };")], "fifo.rs:LINE: a name expected: 'a :"),
+    "a constant in a body": ([(DEVICES + "fifo.rs", "        let held = self.count();", "        const FIFO_SIZE: usize = 63;\n        let held = self.count();")],
+                             "fifo.rs:LINE: a statement: const FIFO_SIZE"),
+    "an import in a body": ([(DEVICES + "fifo.rs", "        let held = self.count();", "        use super::saved::HEADER_SIZE as FIFO_SIZE;\n        let held = self.count();")],
+                            "fifo.rs:LINE: a statement: use super"),
+    "another name of a type": ([(DEVICES + "fifo.rs", "", "type Ring = ArrayFifo;\n")], "fifo.rs:LINE: an item: type Ring"),
+    "a union": ([(DEVICES + "fifo.rs", "", "pub union Ring {\n    pub byte: u8,\n}\n")], "fifo.rs:LINE: an item: union Ring"),
+    "a foreign function": ([(C_FUNCTIONS, "", 'extern "C" {\n    fn quick();\n}\n')], "an item: extern \"C\" { fn quick"),
+    "an export of the devices": ([(DEVICES + "i8042.rs", "#[inline(always)]", "#[no_mangle]")], "i8042.rs:LINE: the attribute no_mangle"),
+    "an export under another name": ([(C_FUNCTIONS, '#[no_mangle]\npub extern "C" fn superio_abi', '#[export_name = "superio_rtc_new"]\npub extern "C" fn superio_abi')],
+                                     'the attribute export_name="superio_rtc_new"'),
+    "another way to call": ([(C_FUNCTIONS, 'pub extern "C" fn superio_abi', 'pub extern "C-unwind" fn superio_abi')], "the attribute no_mangle: pub extern \"C-unwind\""),
+    "a packed layout": ([(DEVICES + "rtc_pl031.rs", "#[repr(C)]", "#[repr(C, packed)]")], "the attribute repr(C, packed)"),
+    "what looks derived": ([(DEVICES + "fifo.rs", "impl RxFifo for", "#[automatically_derived]\nimpl RxFifo for")], "the attribute automatically_derived: impl RxFifo"),
+    "a derive of another macro": ([(C_FUNCTIONS, "#[repr(C)]", "#[derive(Hash)]\n#[repr(C)]")], "the attribute derive(Hash)"),
+    "a module std": ([(SHELL + "lib.rs", "pub mod i8042;", "mod std;\npub mod i8042;"), (SHELL + "std.rs", None, "pub mod mem;\n"),
+                      (SHELL + "std/mem.rs", None, "pub fn replace(place: &mut u8, value: u8) -> u8 {\n    value\n}\n")], "lib.rs: a module std"),
+    "a module sansio": ([(SHELL + "rtc_pl031.rs", "use crate::sansio::{self, Pl031};", "use crate::sansio::Pl031;\nmod sansio;"),
+                         (SHELL + "rtc_pl031/sansio.rs", None, "pub use crate::sansio::RtcState;\n")], "rtc_pl031.rs: a module sansio"),
+    "a module io": ([(SHELL + "serial.rs", "use std::io::{self, Write};", "use std::io::Write;\nmod io;"),
+                     (SHELL + "serial/io.rs", None, "pub enum Error {\n    Other,\n}\n")], "serial.rs: a module io"),
+    "no import of io": ([(SHELL + "serial.rs", "use std::io::{self, Write};", "use std::io::Write;")], "serial.rs: the type io::Error"),
+    "a method of every object": ([(SHELL + "serial/line.rs", "", BLANKET)], "an item Trigger::trigger"),
+    "an implementation for a reference": ([(DEVICES + "fifo.rs", "impl RxFifo for ArrayFifo", "impl RxFifo for &ArrayFifo")], "an implementation: & ArrayFifo"),
+    "an inherent method of the shell": (
+        [(SHELL + "serial/line.rs", "", "impl<T: Trigger, EV: SerialEvents, W: Write> Serial<T, EV, W> {\n    pub fn interrupt_line(&self) -> bool {\n        false\n    }\n}\n")],
+        "two items are named VmSerial::interrupt_line"),
+    "a trait above a trait": ([(SHELL + "lib.rs", "pub trait Trigger {", "pub trait Trigger: Clone {")], "{ expected: : Clone"),
+    "a where clause": ([(SHELL + "serial/line.rs", "Serial<T, EV, W> {", "Serial<T, EV, W> where T: Clone {")], "line.rs:LINE: { expected: where T"),
+    "another Result": ([(SHELL + "serial.rs", RESULT, RESULT + "use std::io::Result;\n")], "serial.rs: a use of std::io::Result"),
+    "an import of the shell under another name": ([(SHELL + "serial.rs", "use crate::sansio::Uart;", "use crate::sansio::Uart as Port;")],
+                                                  "serial.rs: a use of crate::sansio::Uart as Port"),
+    "unsafe in the shell": ([(SHELL + "i8042.rs", "        I8042Device { reset_evt }", "        unsafe { I8042Device { reset_evt } }")], "a statement: unsafe"),
+    "a closure that changes a device": (
+        [(SHELL + "serial/state.rs", "        SerialState {\n", "        let mut other = ArrayFifo::new();\n        SerialState {\n"),
+         (SHELL + "serial/state.rs", "places.map(|place| held.bytes[place])", "places.map(|place| { other.push(1); held.bytes[place] })")],
+        "a closure that changes something"),
+    "a private function of no known form": ([(SHELL + "i8042.rs", "", "fn quick() {\n    for _turn in 0..3 {}\n}\n")], "a loop"),
+    "a build script that sets a condition": ([("bindings/c/from-source/build.rs", "fn main() {", 'fn main() {\n    println!("cargo:rustc-cfg=quick");')],
+                                             "bindings/c/from-source/build.rs"),
+    "another edition": ([("bindings/superio/Cargo.toml", 'edition = "2021"', 'edition = "2018"')], "bindings/superio/Cargo.toml: package: edition: 2018"),
+    "checks that are off": ([("bindings/c/from-source/Cargo.toml", "opt-level = 2", "opt-level = 2\noverflow-checks = false")],
+                            "bindings/c/from-source/Cargo.toml: profile: release: overflow-checks"),
+    "a build script under another name": ([("bindings/rust/Cargo.toml", 'edition = "2021"', 'edition = "2021"\nbuild = "other.rs"')],
+                                          "bindings/rust/Cargo.toml: package: build"),
+    "another compiler": ([("bindings/rust-toolchain.toml", None, '[toolchain]\npath = "other"\n')], "bindings has settings of Cargo"),
+    "another compiler of a crate": ([("bindings/superio/rust-toolchain", None, "other\n")], "bindings/superio/rust-toolchain"),
+    "an aligned field of C": (in_header("    uint8_t scratch; ", "    _Alignas(16) uint8_t scratch; "), "superio.h: _Alignas"),
+    "a field of some bits": (in_header("    uint8_t scratch; ", "    uint8_t scratch : 4; "), "superio.h: superio_serial: "),
+    "a packed struct of C": (in_header("} superio_serial;", "} __attribute__((packed)) superio_serial;"), "superio.h: packed"),
+    "another symbol": (in_header("uint32_t superio_abi(void);", 'uint32_t superio_abi(void) __asm__("superio_i8042_write");'), "superio.h: __asm__"),
+    "a number that changes": (in_header("} superio_serial;", "} superio_serial;\n#undef SUPERIO_SERIAL_FIFO_SIZE\n#define SUPERIO_SERIAL_FIFO_SIZE 64"),
+                              "superio.h: SUPERIO_SERIAL_FIFO_SIZE twice"),
+    "a function of C's own": (in_header("uint32_t superio_abi(void);", "uint32_t superio_abi(void);\nstatic int quick(void) { return 0; }"), "superio.h: static int quick"),
+    "another count of copied bytes": ([(C_FUNCTIONS, "saved.as_ptr(), saved.len())", "saved.as_ptr(), saved.len() - 1)")], "a statement: unsafe"),
+    "an item behind another": ([(C_FUNCTIONS, "        Err(error) => load_status(error),\n    }\n}\n", "        Err(error) => load_status(error),\n    }\n} const QUICK: u8 = 0;\n")],
+                               "two items in a line"),
+    "two files of a module": ([(DEVICES + "fifo/mod.rs", None, "")], "devices/fifo.rs: a file without its `mod`"),
+}
+
 
 @pytest.fixture(scope="module")
 def sources(tmp_path_factory):
@@ -99,7 +185,7 @@ def test_refused(name, sources, tmp_path):
     changes, why = CHANGES[name]
     root = tmp_path / "root"
     changed(sources, root, changes)
-    with pytest.raises(rust2coq.Refused, match=re.escape(why)):
+    with pytest.raises(rust2coq.Refused, match=re.escape(why).replace("LINE", r"\d+")):
         rerun.translated(root)
 
 
@@ -133,4 +219,4 @@ def test_rustc_reads_something_else(name, sources, tmp_path):
 
 def test_nothing_else_is_left_out():
     """The lists name files that are there; each item of them is left out, or the run fails."""
-    assert [path for path in rerun.rust_tree.left_out((ROOT / "recheck/left-out.rs").read_text()) if not (ROOT / path).exists()] == []
+    assert [path for path in rerun.left_out_items((ROOT / "recheck/left-out.rs").read_text()) if not (ROOT / path).exists()] == []
