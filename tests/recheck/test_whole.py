@@ -25,11 +25,11 @@ CHANGES = {
     "a module at another path": ([(CORE + "lib.rs", "mod devices;", '#[path = "devices/mod.rs"]\nmod devices;')], 'the attribute path="devices/mod.rs"'),
     "an item beside a glob": ([(CORE + "lib.rs", "", "pub fn is_reset_command(_offset: u8, _value: u8) -> bool { false }\n")],
                               "two items are named is_reset_command"),
-    "an inherent method": ([(CORE + "error_text.rs", "", "impl ArrayFifo { pub fn is_empty(&self) -> bool { false } }\n")],
+    "an inherent method": ([(CORE + "printed.rs", "", "impl ArrayFifo { pub fn is_empty(&self) -> bool { false } }\n")],
                            "two items are named ArrayFifo::is_empty"),
-    "a module in a file": ([(CORE + "lib.rs", "mod error_text;", "mod error_text;\nmod quick { }")], "; expected: { }"),
+    "a module in a file": ([(CORE + "lib.rs", "mod printed;", "mod printed;\nmod quick { }")], "; expected: { }"),
     "a file with an item of a known name": (
-        [(CORE + "lib.rs", "mod error_text;", "mod error_text;\nmod quick;"), (CORE + "quick.rs", None, QUICK),
+        [(CORE + "lib.rs", "mod printed;", "mod printed;\nmod quick;"), (CORE + "quick.rs", None, QUICK),
          (DEVICES + "rtc_pl031.rs", "use alarm::{guest_time, seconds_until};", "use crate::quick::guest_time;\nuse alarm::seconds_until;")],
         "two items are named guest_time"),
     "an import from elsewhere": ([(DEVICES + "rtc_pl031.rs", "use alarm::{guest_time", "use encoding::{guest_time")], "a use of encoding::guest_time"),
@@ -192,7 +192,7 @@ def test_refused(name, sources, tmp_path):
 # What rustc reads in another way than it stands there.
 HIDDEN = {
     "a macro of a known name": CHANGES["a macro of a known name"][0],
-    "a module at another path": [(CORE + "lib.rs", "mod error_text;", '#[path = "other.rs"]\nmod extra;\nmod error_text;'),
+    "a module at another path": [(CORE + "lib.rs", "mod printed;", '#[path = "other.rs"]\nmod extra;\nmod printed;'),
                                  (CORE + "other.rs", None, QUICK), (CORE + "extra.rs", None, QUICK.replace("time\n", "time + 1\n"))],
     "cfg": [(DEVICES + "i8042.rs", "pub fn is", '#[cfg(any())]\npub fn is_reset_command(_: u8, _: u8) -> bool {\n    true\n}\n\npub fn is')],
     "an attribute of a statement": [(DEVICES + "i8042.rs", "    offset ==", "    #[cfg(any())]\n    return true;\n    offset ==")],
