@@ -142,4 +142,5 @@ def main(said: str | None) -> None:
                 subprocess.run(["coqchk", "-silent", "-o", "-Q", ".", "Recheck", "Recheck.Witnesses"], cwd=folder, check=True)
         except (Failed, rust2coq.Refused, antt2coq.Refused) as fault:
             sys.exit(f"recheck: {fault}")
-    print(f"proved again: {len(theorems)} theorems")
+    listed = left_out_items((HERE / "recheck/left-out.rs").read_text())
+    print(f"proved again: {len(theorems)} theorems; {sum(map(len, listed.values()))} items of Rust are left out")
