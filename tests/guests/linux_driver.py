@@ -58,6 +58,7 @@ ENTRIES = {
     "quiet": "if all is quiet, no byte waits",
     "open": "the port is opened",
     "host": "a turn of the event loop",
+    "turns": "which interrupts the guest for bytes that are held",
     "begins": "the handler begins, and reads IIR",
     "receives": "in a pass of the handler: it receives a byte",
     "looks": "in a pass of the handler: it looks at LSR",

@@ -70,6 +70,10 @@ REFUTED = [Check(entry, Monitor(line, (*NO_LIMIT, *faults)), options_of(entry), 
     ("begins", LEVELS, ("ONLY_IN_TURNS",)), ("host", EDGES, ("NO_RETRY",)), ("act_write", EDGES, ("NO_RETRY_AT_IER",)),
     ("act_write", EDGES, ("DROPS_IER",)), ("receives", EDGES, ("NO_OFFER",)), ("receives", LEVELS, ("NO_OFFER",)),
     ("whole_interrupt", EDGES, ()), ("whole_interrupt", LEVELS, ())]]
+# The same rules, if the poll keeps its limit.
+REFUTED += [Check(entry, Monitor(line, (fault,)), options_of(entry), "refuted") for entry, line, fault in [
+    ("turns", EDGES, "NO_TIMEOUT"), ("turns", LEVELS, "NO_TIMEOUT"), ("act_write", EDGES, "NO_RETRY_AT_IER"),
+    ("act_write", EDGES, "DROPS_IER"), ("receives", EDGES, "NO_OFFER"), ("receives", LEVELS, "NO_OFFER")]]
 
 # Xen's driver. Without the poll's limit a poll, and the debugger, may leave bytes at levels.
 XEN = [Check(entry, Monitor(line), driver="xen") for entry in xen_driver.ENTRIES for line in (EDGES, LEVELS)]
@@ -80,6 +84,7 @@ XEN_REFUTED = [Check(entry, Monitor(line, (*NO_LIMIT, *faults)), (), "refuted", 
     ("interrupt_runs", EDGES, ("ONLY_IN_TURNS",)), ("interrupt_runs", LEVELS, ("ONLY_IN_TURNS",)),
     ("interrupt_runs", EDGES, ("NO_OFFER",)), ("interrupt_runs", LEVELS, ("NO_OFFER",)),
     ("host", EDGES, ("NO_RETRY",)), ("resume", EDGES, ("NO_RETRY_AT_IER",)), ("resume", EDGES, ("DROPS_IER",))]]
+XEN_REFUTED += [Check("turns", Monitor(line, ("NO_TIMEOUT",)), (), "refuted", "xen") for line in (EDGES, LEVELS)]
 
 # Linux's driver of the clock. The gate leaves out what is dear.
 CLOCK_OUTSIDE = [clock(entry) for entry in ("due", "comes", "read_alarm")]

@@ -19,6 +19,7 @@ ENTRIES = {
     "open": "the port is found and opened",
     "resume": "the machine wakes, and the port has kept what it held",
     "host": "a turn of the event loop",
+    "turns": "which interrupts the guest for bytes that are held",
     "begins": "the handler begins",
     "interrupt_runs": "the handler, with any number of passes",
     "poll": "the timer polls, until an interrupt has come",

@@ -324,6 +324,12 @@ void host(void) {
     __CPROVER_assert(invariant(), "turn: invariant");
 }
 
+/* and it interrupts the guest. */
+void turns(void) {
+    any_state();
+    turn_interrupts(handler == BEGUN);
+}
+
 /* The handler's begin, and its read of IIR. */
 void begins(void) {
     any_state();

@@ -86,13 +86,30 @@ static bool is_asked_for(const struct view *m) {
         || ((!m->pending || m->edges > 0 || m->is_refused) && (!enabled(m) || m->edges > 0 || m->has_timer));
 }
 
-/* Held bytes have raised RDA, or a turn of the event loop will. */
+/* RDA is pending if bytes are held that IER lets interrupt. */
+static bool is_rda_pending(const struct view *m) { return !is_set(m->enable, 1) || m->len == 0 || m->pending & 4; }
+
+/* Held bytes have raised RDA, or a turn of the event loop will: it has a timer, and `turns` proves of each turn that it
+ * does. */
 static bool is_rda_raised(const struct view *m) {
 #ifdef LIMIT
     return true;
 #else
-    return !is_set(m->enable, 1) || m->len == 0 || m->pending & 4;
+    return is_rda_pending(m);
 #endif
+}
+
+/* A turn in which nothing is refused interrupts the guest for bytes that are held and IER lets interrupt, and for all
+ * else that is pending and enabled, unless the guest's handler is about to read IIR. */
+static void turn_interrupts(bool reads_iir) {
+    struct view m;
+    mon.can_refuse = false;
+    host_step();
+    look(&m, &mon);
+    REACHED(m.len > 0 && is_set(m.enable, 1) && !reads_iir);
+    REACHED(m.len == 0 && enabled(&m) && !reads_iir);
+    __CPROVER_assert(is_rda_pending(&m), "turn: held bytes have raised RDA");
+    __CPROVER_assert(reads_iir || !enabled(&m) || is_asked(), "turn: the guest is interrupted");
 }
 
 static void any_changed_by_others(struct monitor *m) {

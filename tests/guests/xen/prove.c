@@ -251,6 +251,11 @@ void host(void) {
     __CPROVER_assert(invariant(), "turn: the invariant");
 }
 
+void turns(void) {
+    any_state();
+    turn_interrupts(handler == RUNS);
+}
+
 void begins(void) {
     any_state();
     __CPROVER_assume(handler == IDLE && is_asked());
