@@ -34,8 +34,8 @@ CLAIMS = """What is proved again of README's claims, as Coq prints it, below sen
     with `rs_` is a function of Rust, and `Some` of a result says that the call returns it: it does not panic or hang.
     `valid_Uart` and its like hold of every struct that Rust can make, and `inhabited` of a record of facts if they
     do."""
-JUDGED = """A reviewer of README's claims may stop here. What is left to judge are the definitions that these statements
-    use. They follow, each after those that it uses itself."""
+JUDGED = """These are README's claims, all of them. What follows are the definitions that they use, each after those that it
+    uses itself: judge these too. There is no more to read of the claims."""
 OTHERS = """What is proved beside claims.txt, as Coq prints it: the other theorems, by topic; laws that have conditions,
     used once each; and the definitions that are not in claims.txt."""
 

@@ -50,7 +50,7 @@ static uint8_t guest_reads(struct machine *machine, uint8_t offset) {
 
 static void *run_loop(void *argument) {
     struct machine *machine = argument;
-    struct pollfd files[2] = {{.fd = machine->line}, {.fd = machine->wakes[0], .events = POLLIN}};
+    struct pollfd files[2] = {{.fd = -1}, {.fd = machine->wakes[0], .events = POLLIN}};
     for (uint8_t bytes[SUPERIO_CONSOLE_OUTPUT_SIZE];;) {
         pthread_mutex_lock(&machine->lock);
         superio_console_wanted wanted = superio_console_wants(&machine->console);
@@ -64,6 +64,7 @@ static void *run_loop(void *argument) {
         wanted = superio_console_wants(&machine->console);
         pthread_mutex_unlock(&machine->lock);
         files[0].events = (short)((wanted.input > 0 ? POLLIN : 0) | (wanted.output ? POLLOUT : 0));
+        files[0].fd = files[0].events ? machine->line : -1; /* whose end would end each poll */
         if (poll(files, 2, wanted.turn ? 5 : -1) > 0 && files[1].revents && read(machine->wakes[0], bytes, 64) < 0)
             warn("the event loop");
     }

@@ -5,9 +5,9 @@
  * A 16550 serial port, a PL031 real-time clock, and an i8042 controller that
  * resets the machine. What a call does to a device is proved, for every
  * argument and whatever its struct holds. README.md names the builds that this
- * covers. The pages and the program that are named here are in the repository,
- * and an installed header has them in share/doc/superio or, in Debian's package,
- * in share/doc/libsuperio-dev. docs/USING.md is the one to begin with.
+ * covers. The pages and the program that are named here are in the repository.
+ * An installed header has them in share/doc/superio, or in that of Debian's
+ * package in share/doc/libsuperio-dev. Begin with docs/USING.md.
  *
  * A device is a struct of plain fields that you keep. A call takes it by
  * pointer, changes it, and returns what is left for you to do. There are no
@@ -47,6 +47,8 @@
  *         wanted = superio_console_wants(&console);
  *         if (wanted.input && (count = read(source, bytes, wanted.input)) > 0)
  *             carry_out(superio_console_receive(&console, bytes, count).work);
+ *         else if (wanted.input && count == 0)
+ *             source = -1; // its end, which a poll would show for ever
  *         count = superio_console_output(&console, bytes, sizeof bytes);
  *         if (count > 0 && (count = write(reader, bytes, count)) > 0)
  *             superio_console_consume(&console, count);
@@ -492,7 +494,9 @@ typedef struct superio_console_work {
                            superio_console_refuse */
     bool is_up;         /* if it takes levels: set the line to this level */
     bool wakes;         /* wake the event loop: superio_console_wants names
-                           something that it did not name before the call */
+                           something that it did not name before the call. It
+                           is not set if only the number of bytes of input
+                           grows, so read until none comes or none is wanted */
 } superio_console_work;
 
 /* What the event loop waits for. */
