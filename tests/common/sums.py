@@ -18,12 +18,12 @@ HEAD = f"""\
 
 def rows_of(tests):
     """The names of tests by row: that of their folder, and one for each place that they need or, of a run, that was not
-    there. A test is its name with these places."""
-    rows = defaultdict(list)
+    there. A test is its name with these places. Tests of one name count as one, since a run tells them not apart."""
+    rows = defaultdict(dict)
     for name, places in tests:
         folder = name.partition("::")[0].rpartition("/")[0]
         for row in (folder, *(f"{folder}, {place}" for place in places)):
-            rows[row].append(name)
+            rows[row][name] = None
     return rows
 
 

@@ -147,9 +147,10 @@ def test_target(name, monkeypatch):
 def interpreter(command):
     """What runs a command of this machine that is a script, if it is one."""
     with open(shutil.which(command), "rb") as file:
-        words = file.readline().decode("latin-1").split()
-    if not words or not words[0].startswith("#!"):
+        line = file.readline().decode("latin-1")
+    if not line.startswith("#!"):
         return None
+    words = line.removeprefix("#!").split()
     return words[1] if words[0].endswith("/env") else os.path.basename(words[0])
 
 

@@ -6,6 +6,8 @@ mod console;
 #[path = "../../../bindings/superio/src/devices/mod.rs"]
 #[allow(dead_code, unused_imports)]
 mod devices;
+#[path = "../../../bindings/superio/src/printed.rs"]
+mod printed;
 
 use console::saved::CONSOLE_SAVED_MAX;
 use console::{Console, Work};
