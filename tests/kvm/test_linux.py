@@ -39,7 +39,7 @@ def printable(count, seed):
 
 
 def digest(content):
-    return hashlib.md5(content).hexdigest()
+    return hashlib.md5(content).hexdigest().encode()
 
 
 def run(guest, command):
@@ -60,7 +60,7 @@ def check_paste(guest, sizes):
     content = printable(PASTED, str(sizes))
     begin_raw(guest, f"head -c {PASTED} | md5sum")
     guest.paste(content, sizes)
-    assert guest.until(b"  -\n", PATIENCE).decode() == digest(content)
+    assert guest.until(b"  -\n", PATIENCE) == digest(content)
 
 
 def check_output(guest):
@@ -68,7 +68,7 @@ def check_output(guest):
     run(guest, f"dd if=/dev/urandom of=/sent bs={MOVED} count=1")
     begin_raw(guest, "cat /sent; md5sum < /sent")
     content = guest.take(MOVED, PATIENCE)
-    assert guest.until(b"  -\n", PATIENCE).decode() == digest(content)
+    assert guest.until(b"  -\n", PATIENCE) == digest(content)
 
 
 def check_both(guest):
@@ -78,7 +78,7 @@ def check_both(guest):
     begin_raw(guest, f"(cat /sent & head -c {EXCHANGED} > /received; wait); cat /sent /received | md5sum")
     guest.paste(content, EVEN)
     sent = guest.take(EXCHANGED, PATIENCE)
-    assert guest.until(b"  -\n", PATIENCE).decode() == digest(sent + content)
+    assert guest.until(b"  -\n", PATIENCE) == digest(sent + content)
 
 
 def check_stall(guest):
@@ -90,10 +90,10 @@ def check_stall(guest):
         begin_raw(guest, f"head -c {BURST} | md5sum")
         guest.send(content)
         try:
-            assert guest.until(b"  -\n", STALL).decode() == digest(content)
+            assert guest.until(b"  -\n", STALL) == digest(content)
         except Stalled:
             guest.send(b"\n")
-            assert guest.until(b"  -\n", PATIENCE).decode() == digest(content)
+            assert guest.until(b"  -\n", PATIENCE) == digest(content)
             return
     pytest.fail("no burst has stalled")
 
