@@ -65,9 +65,8 @@ def test_bare_port(line, tmp_path):
     """The functions of the page around a guest, with what it says of a line for either."""
     functions = code("docs/PORT.md", "c", "write_access")
     if line == "levels":
-        set_level = code("docs/PORT.md", "c", "set_line")
-        calls_it = f"{set_level}static void interrupt(unsigned times) {{ (void)times; set_level(); }}\n"
-        functions, count = INTERRUPT.subn(f"void set_line(bool is_up);\n{calls_it}", functions)
+        level = code("docs/PORT.md", "c", "set_line")
+        functions, count = INTERRUPT.subn(f"void set_line(bool is_up);\n{level}", functions)
         assert count == 1
     compile_c(tmp_path, "port", functions, ROOT / "tests/documents/bare_port.c", LIBRARY, "-o", "port")
     check(["./port"], "all came back\n", cwd=tmp_path)

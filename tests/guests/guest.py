@@ -57,7 +57,6 @@ def port_code(has_level, faults):
     if has_level:
         level, count = VARIABLES.subn("", code("set_line"))
         assert count == 1
-        level += "static void interrupt(unsigned times) { set_level(); }\n"
         text, count = INTERRUPT.subn(lambda _: level, text)
         assert count == 1
     for fault in faults:
