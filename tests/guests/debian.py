@@ -51,6 +51,17 @@ def download(folder, release, packages):
         subprocess.run([*words, "download", *packages], check=True, stdout=subprocess.DEVNULL, cwd=kept)
         for package in Path(kept).glob("*.deb"):
             subprocess.run(["dpkg-deb", "--extract", package, folder], check=True)
+    replace_links(folder)
+
+
+def replace_links(folder):
+    """Puts the file that a link leads to in the link's place, and drops a link that leads to no file of the folder: `rt ci`
+    takes no link below the repository."""
+    links = {path: path.resolve() for path in folder.rglob("*") if path.is_symlink()}
+    for link, target in links.items():
+        link.unlink()
+        if target.is_file() and folder.resolve() in target.parents:
+            shutil.copy(target, link)
 
 
 def download_source(folder, release, package):
