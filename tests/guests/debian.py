@@ -6,6 +6,7 @@ import re
 import shutil
 import subprocess
 import tempfile
+import time
 from pathlib import Path
 
 KEY = "/usr/share/keyrings/debian-archive-keyring.gpg"
@@ -13,15 +14,21 @@ KEY = "/usr/share/keyrings/debian-archive-keyring.gpg"
 
 def make_whole(folder, make):
     """Makes a folder by a function of it, unless it is there: whole or not at all, and once, since tests run in several
-    processes."""
+    processes. If Debian's archive does not give what is needed, nothing is tried for an hour."""
     folder.parent.mkdir(parents=True, exist_ok=True)
-    with open(f"{folder}.lock", "w", encoding="ascii") as lock:
+    unreachable = folder.parent / "unreachable"
+    with open(folder.parent / "lock", "w", encoding="ascii") as lock:
         fcntl.flock(lock, fcntl.LOCK_EX)
-        if not folder.exists():
-            with tempfile.TemporaryDirectory(dir=folder.parent) as new:
-                made = Path(new) / folder.name
-                made.mkdir()
+        if folder.exists() or unreachable.exists() and time.time() - unreachable.stat().st_mtime < 3600:
+            return
+        with tempfile.TemporaryDirectory(dir=folder.parent) as new:
+            made = Path(new) / folder.name
+            made.mkdir()
+            try:
                 make(made)
+            except subprocess.CalledProcessError:
+                unreachable.touch()
+            else:
                 made.rename(folder)
 
 

@@ -87,7 +87,7 @@ def fetch(name):
 def is_recorded(name):
     """Whether a source is of a version that was read. It is fetched if it is not there."""
     fetch(name)
-    return sums(name).exists()
+    return bool(files(name)[0]) and sums(name).exists()
 
 
 def sources(name):
