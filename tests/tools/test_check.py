@@ -219,7 +219,7 @@ def test_another_user(machine):
 
 
 # What of the installation fails, by whose words, for which user.
-STEPS = {"the lists of packages cannot be read": ("apt-get", "update", 0),
+STEPS = {"the lists of packages cannot be read, and lack a package": ("apt-get", "update|--print-uris", 0),
          "a package cannot be installed": ("apt-get", "install", 0),
          "another user's packages are unknown": ("apt-get", "--simulate", 1000),
          "another user's packages cannot be got": ("apt-get", "download", 1000),
@@ -230,17 +230,28 @@ STEPS = {"the lists of packages cannot be read": ("apt-get", "update", 0),
 @pytest.mark.parametrize("name", STEPS)
 def test_an_installation_fails(name, machine):
     """It ends there, and nothing is tried after it."""
-    command, word, user = STEPS[name]
+    command, words, user = STEPS[name]
     machine.stand_in("id", f"[ $1 != -u ] && echo somebody || echo {user}")
     machine.lacks("cargo")
     before = (machine.bin / command).read_text("utf-8").split("\n", 2)[2]
-    machine.stand_in(command, f'case " $* " in *" {word} "*) echo "E: no {word}" >&2; exit 100; esac\n{before}')
+    fails = "".join(f'case " $* " in *" {it} "*) echo "E: no {it}" >&2; exit 100; esac\n' for it in words.split("|"))
+    machine.stand_in(command, fails + before)
     status, said, called = machine.run("tools/install-packages")
-    assert status != 0 and f"E: no {word}" in said
-    assert not called or f" {word}" in called[-1], "it went on"
-    assert ("the lists of packages cannot be read" in said) == (word == "update")
+    last = words.split("|")[-1]
+    assert status != 0 and f"E: no {last}" in said
+    assert not called or f" {last}" in called[-1], "it went on"
+    assert ("the lists of packages cannot be read" in said) == ("update" in words)
     if command != "python3":
         for tool in ("tools/check", ".ci/run"):
             status, said, called = machine.run(tool)
             assert status == 1 and "tools/install-packages ended with status" in said.splitlines()[-1], said
             assert not {"rt ci", "pytest"} & {*called}
+
+
+def test_a_list_of_packages_cannot_be_read(machine):
+    """The others have all that is needed."""
+    machine.lacks("cargo")
+    machine.stand_in("apt-get", 'case " $* " in *" update "*) exit 100; esac\n' + STAND_INS["apt-get"])
+    status, said, called = machine.run("tools/check")
+    assert (status, said.splitlines()[-1]) == (0, PASSED), said
+    assert [it for it in called if "--print-uris" in it and it.endswith(" cargo")]
