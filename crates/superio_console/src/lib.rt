@@ -6,18 +6,24 @@
 //! call returns the work that is left, and [`Console::wants`] says what to poll for. No object, no heap, no time.
 #![tactic(auto)]
 
-ghost use Rattle.std.specs.Prelude.{◌≡◌, ◌≤◌, ◌-◌, ◌==◌, ◌||◌, min, not, length, take, drop, false};
+ghost use Rattle.std.specs.Prelude.{◌≡◌, ◌≤◌, ◌-◌, ◌==◌, ◌||◌, min, not, length, take, drop, false, IfOk, IfErr};
+ghost use Rattle.std.specs.Result.{result_err, IsOkAnd};
 ghost use Rattle.superio_core.specs.Serial.{state_of_uart, CoherentUart, not_empty};
-ghost use Rattle.superio_console.specs.Console.{state_of, new_console, wants_of, shown_at, after, work_of};
+ghost use Rattle.superio_console.specs.Console.{state_of, ConsoleState, new_console, wants_of, shown_at, after, work_of};
 ghost use Rattle.superio_console.specs.Console.{Reads, Writes, Receives, Consumes, Turns, Refuses, Resets, Suspends, SetsPolled};
+ghost use Rattle.superio_console.specs.Saved.{console_encoding, console_fault, IsConsole};
 
 pub mod laws;
 pub mod output_ring;
 pub mod saved;
 
 use output_ring::{OUTPUT_SIZE, OutputRing};
+use saved::{
+    ASLEEP_BIT, CONSOLE_SAVED_MAX, POLLED_BIT, READY_BIT, REFUSED_BIT, append, decode_console,
+};
 use superio_core::Uart;
 use superio_core::fifo::RxFifo;
+use superio_core::saved::SavedStateError;
 use superio_core::serial::registers::{
     Condition, DATA_OFFSET, IER_OFFSET, IIR_NONE_BIT, IIR_OFFSET, MCR_OFFSET,
 };
@@ -300,6 +306,70 @@ impl Console {
         let before = self.wants();
         self.is_polled = u8::from(is_polled);
         self.work(before, 0)
+    }
+
+    /// Writes the console's encoding to the start of `bytes`, and returns its length; [`load`](Self::load) reads it back.
+    /// The other bytes do not change. The encoding has no byte that the guest has read, nor one that the reader took.
+    pub fn save(&self, bytes: &mut [u8; CONSOLE_SAVED_MAX]) -> usize
+        ensures count { result ≡ length (console_encoding (state_of self.now)) }
+        ensures at_most_4196 { result ≤ 4196 }
+        ensures encoding { take result bytes.new ≡ console_encoding (state_of self.now) }
+        ensures rest_unchanged { drop result bytes.new ≡ drop result bytes.old }
+    {
+        let port = self.port.to_bytes();
+        let port = port.as_bytes();
+        let (older, newer) = self.output.as_slices();
+        let waiting = older.len() + newer.len();
+        let prefix = self.encode_prefix(waiting, port.len());
+        let count = append(bytes, 0, &prefix);
+        let count = append(bytes, count, older);
+        let count = append(bytes, count, newer);
+        append(bytes, count, port)
+    }
+
+    /// Reads a console back from saved bytes: each later call answers as it would have before. The port in it may be
+    /// incoherent, as [`Uart::is_coherent`] tells.
+    ///
+    /// If your interrupt controller was not restored too, call [`refuse`](Self::refuse): it may have lost what it was
+    /// told before. In any case make a [`turn`](Self::turn) then.
+    ///
+    /// # Errors
+    ///
+    /// The first check that fails, in the order of [`SavedStateError`]. No console has [`SavedStateError::InvalidArmed`].
+    pub fn from_bytes(bytes: &[u8]) -> Result<Console, SavedStateError>
+        ensures encoding { IfOk result (λ console. bytes.now ≡ console_encoding (state_of console)) }
+        ensures at_most_64 { IfOk result (λ console. console.port.in_buffer.len ≤ 64) }
+        ensures read { (state : ConsoleState) → IsConsole state → bytes.now ≡ console_encoding state →
+            IsOkAnd result (λ console. state_of console ≡ state) }
+        ensures fault { result_err result ≡ console_fault bytes.now }
+    {
+        let (flags, dropped, output, port) = decode_console(bytes)?;
+        Ok(Console {
+            port: Uart::from_bytes(port)?,
+            output: OutputRing::from_slice(output),
+            dropped,
+            is_polled: flags & POLLED_BIT,
+            is_ready: flags & READY_BIT,
+            is_asleep: flags & ASLEEP_BIT,
+            is_refused: flags & REFUSED_BIT,
+        })
+    }
+
+    /// Becomes the console of saved bytes. If they are none, nothing changes.
+    ///
+    /// # Errors
+    ///
+    /// As for [`from_bytes`](Self::from_bytes).
+    pub fn load(&mut self, bytes: &[u8]) -> Result<(), SavedStateError>
+        ensures fault { result_err result ≡ console_fault bytes.now }
+        ensures loaded { IfOk result (λ _. bytes.now ≡ console_encoding (state_of self.new)) }
+        ensures read { (state : ConsoleState) → IsConsole state → bytes.now ≡ console_encoding state →
+            IsOkAnd result (λ _. state_of self.new ≡ state) }
+        ensures at_most_64 { IfOk result (λ _. self.new.port.in_buffer.len ≤ 64) }
+        ensures refused { IfErr result (λ _. self.new ≡ self.old) }
+    {
+        *self = Console::from_bytes(bytes)?;
+        Ok(())
     }
 }
 

@@ -8,14 +8,12 @@ ghost use Rattle.std.specs.Prelude.{◌≡◌, ◌<◌, ◌≤◌, ◌+◌, ◌^
 ghost use Rattle.std.specs.Cmp.{on_equiv, on_per, partial_equiv_from_equiv};
 ghost use Rattle.std.specs.Cmp.Lexicographic.{pointwise, nat_list_eq_equiv};
 ghost use Rattle.std.specs.Int.{w16, w64, to_le_bytes};
-ghost use Rattle.std.specs.Result.{result_err, IsOkAnd};
 ghost use Rattle.superio_core.specs.Saved.{encoding, console_kind, serial_fault};
-ghost use Rattle.superio_console.specs.Console.{state_of, ConsoleState};
-ghost use Rattle.superio_console.specs.Saved.{console_encoding, console_fault, IsConsole, bit_if, flags_of, console_prefix};
+ghost use Rattle.superio_console.specs.Console.{state_of};
+ghost use Rattle.superio_console.specs.Saved.{console_encoding, console_fault, bit_if, flags_of, console_prefix};
 
 use super::Console;
-use super::output_ring::{OUTPUT_SIZE, OutputRing};
-use superio_core::Uart;
+use super::output_ring::OUTPUT_SIZE;
 use superio_core::saved::{CONSOLE_KIND, HEADER_SIZE, SavedStateError, decode_header, header};
 use superio_core::serial::encoding::SAVED_MAX as PORT_MAX;
 
@@ -26,13 +24,13 @@ const PREFIX_SIZE: usize = 11;
 pub const CONSOLE_SAVED_MAX: usize = HEADER_SIZE + PREFIX_SIZE + OUTPUT_SIZE + PORT_MAX;
 
 /// The bits of the flags.
-const POLLED_BIT: u8 = 0x01;
+pub(super) const POLLED_BIT: u8 = 0x01;
 
-const READY_BIT: u8 = 0x02;
+pub(super) const READY_BIT: u8 = 0x02;
 
-const ASLEEP_BIT: u8 = 0x04;
+pub(super) const ASLEEP_BIT: u8 = 0x04;
 
-const REFUSED_BIT: u8 = 0x08;
+pub(super) const REFUSED_BIT: u8 = 0x08;
 
 const ALL_BITS: u8 = 0x0F;
 
@@ -56,72 +54,12 @@ impl Eq for Console {
 }
 
 impl Console {
-    /// Writes the console's encoding to the start of `bytes`, and returns its length; [`load`](Self::load) reads it back.
-    /// The other bytes do not change. The encoding has no byte that the guest has read, nor one that the reader took.
-    pub fn save(&self, bytes: &mut [u8; CONSOLE_SAVED_MAX]) -> usize
-        ensures count { result ≡ length (console_encoding (state_of self.now)) }
-        ensures at_most_4196 { result ≤ 4196 }
-        ensures encoding { take result bytes.new ≡ console_encoding (state_of self.now) }
-        ensures rest_unchanged { drop result bytes.new ≡ drop result bytes.old }
-    {
-        let port = self.port.to_bytes();
-        let port = port.as_bytes();
-        let (older, newer) = self.output.as_slices();
-        let waiting = older.len() + newer.len();
-        let prefix = self.encode_prefix(waiting, port.len());
-        let count = append(bytes, 0, &prefix);
-        let count = append(bytes, count, older);
-        let count = append(bytes, count, newer);
-        append(bytes, count, port)
-    }
-
-    /// Reads a console back from saved bytes: each later call answers as it would have before. The port in it may be
-    /// incoherent, as [`Uart::is_coherent`] tells.
-    ///
-    /// If your interrupt controller was not restored too, call [`refuse`](Self::refuse): it may have lost what it was
-    /// told before. In any case make a [`turn`](Self::turn) then.
-    ///
-    /// # Errors
-    ///
-    /// The first check that fails, in the order of [`SavedStateError`]. No console has [`SavedStateError::InvalidArmed`].
-    pub fn from_bytes(bytes: &[u8]) -> Result<Console, SavedStateError>
-        ensures encoding { IfOk result (λ console. bytes.now ≡ console_encoding (state_of console)) }
-        ensures at_most_64 { IfOk result (λ console. console.port.in_buffer.len ≤ 64) }
-        ensures read { (state : ConsoleState) → IsConsole state → bytes.now ≡ console_encoding state →
-            IsOkAnd result (λ console. state_of console ≡ state) }
-        ensures fault { result_err result ≡ console_fault bytes.now }
-    {
-        let (flags, dropped, output, port) = decode_console(bytes)?;
-        Ok(Console {
-            port: Uart::from_bytes(port)?,
-            output: OutputRing::from_slice(output),
-            dropped,
-            is_polled: flags & POLLED_BIT,
-            is_ready: flags & READY_BIT,
-            is_asleep: flags & ASLEEP_BIT,
-            is_refused: flags & REFUSED_BIT,
-        })
-    }
-
-    /// Becomes the console of saved bytes. If they are none, nothing changes.
-    ///
-    /// # Errors
-    ///
-    /// As for [`from_bytes`](Self::from_bytes).
-    pub fn load(&mut self, bytes: &[u8]) -> Result<(), SavedStateError>
-        ensures fault { result_err result ≡ console_fault bytes.now }
-        ensures loaded { IfOk result (λ _. bytes.now ≡ console_encoding (state_of self.new)) }
-        ensures read { (state : ConsoleState) → IsConsole state → bytes.now ≡ console_encoding state →
-            IsOkAnd result (λ _. state_of self.new ≡ state) }
-        ensures at_most_64 { IfOk result (λ _. self.new.port.in_buffer.len ≤ 64) }
-        ensures refused { IfErr result (λ _. self.new ≡ self.old) }
-    {
-        *self = Console::from_bytes(bytes)?;
-        Ok(())
-    }
-
     /// The start of an encoding, before `waiting` bytes of output and `port` bytes of a port.
-    fn encode_prefix(&self, waiting: usize, port: usize) -> [u8; HEADER_SIZE + PREFIX_SIZE]
+    pub(super) fn encode_prefix(
+        &self,
+        waiting: usize,
+        port: usize,
+    ) -> [u8; HEADER_SIZE + PREFIX_SIZE]
         requires waiting { waiting ≤ 4096 }
         requires port { port ≤ 81 }
         ensures { result ≡ console_prefix (state_of self.now) waiting port }
@@ -178,8 +116,8 @@ fn bit_if(flag: u8, bit: u8) -> u8
 ///
 /// # Errors
 ///
-/// As for [`Console::from_bytes`], but for the port's own.
-fn decode_console(bytes: &[u8]) -> Result<(u8, u64, &[u8], &[u8]), SavedStateError>
+/// Those of [`Console::from_bytes`], except for what [`Uart::from_bytes`] finds.
+pub(super) fn decode_console(bytes: &[u8]) -> Result<(u8, u64, &[u8], &[u8]), SavedStateError>
     ensures encoding { IfOk result (λ found. bytes.now ≡ encoding console_kind
         (found.0 ∷ to_le_bytes w64 found.1 ++ to_le_bytes w16 (length found.2.now) ++ found.2.now ++ found.3.now)) }
     ensures flags { IfOk result (λ found. found.0 ≤ 15) }
@@ -206,7 +144,7 @@ fn decode_console(bytes: &[u8]) -> Result<(u8, u64, &[u8], &[u8]), SavedStateErr
 }
 
 /// Writes `part` behind the first `count` bytes, and returns how many bytes come first then.
-fn append(bytes: &mut [u8], count: usize, part: &[u8]) -> usize
+pub(super) fn append(bytes: &mut [u8], count: usize, part: &[u8]) -> usize
     requires { count + length part.now ≤ length bytes.old }
     ensures count { result ≡ count + length part.now }
     ensures written { take result bytes.new ≡ take count bytes.old ++ part.now }

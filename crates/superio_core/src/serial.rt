@@ -6,18 +6,22 @@
 //!
 //! At the end are the steps of its calls, as methods of the registers. A step that uses the received bytes takes the
 //! FIFO as an argument, so the same code serves every receive FIFO.
-ghost use Rattle.std.specs.Prelude.{◌≡◌, ◌↔◌, ◌≤◌, ◌-◌, ◌==◌, not, length, IsTrue, if◌then◌else◌, [], slice_index};
-ghost use Rattle.superio_core.specs.Serial.{fresh_state, state_of_uart, CoherentUart, RdaCoversHeldBytes, irq_level, conditions_due, not_empty, state_with, register_read, is_asserted};
+ghost use Rattle.std.specs.Prelude.{◌≡◌, ◌↔◌, ◌≤◌, ◌-◌, ◌==◌, not, length, IsTrue, if◌then◌else◌, [], slice_index, IfOk};
+ghost use Rattle.std.specs.Result.{result_err, IsOkAnd};
+ghost use Rattle.superio_core.specs.Serial.{fresh_state, State, state_of_uart, CoherentUart, RdaCoversHeldBytes, irq_level, conditions_due, not_empty, state_with, register_read, is_asserted};
 ghost use Rattle.superio_core.specs.Serial.Step.{IsUartRead, IsUartWrite, IsUartEnqueue, IsUartTimeout, iir_none_bit, becomes_pending, iir_after_raise, iir_after_lower, bytes_that_fit, receive_bytes, rbr_read, ier_write, read_step, write_step, character_timeout, read_events, ier_write_calls, arrival_calls, timeout_calls, decoded_calls};
 ghost use Rattle.superio_core.specs.Serial.RegisterMap.{lsr_dr_bit, ier_bits, iir_bit, Rda, Thre, Data, is_loopback};
 ghost use Rattle.superio_core.specs.Bits.{only_bits, with_bits, without_bits};
 ghost use Rattle.superio_core.specs.Serial.Operations.{count_if, is_first_of_two_refused, decode_write, sent_by, events_of_read};
+ghost use Rattle.superio_core.specs.Saved.{serial_encoding, serial_fault};
 
 pub mod encoding;
 pub mod registers;
 
 pub use super::fifo::ArrayFifo;
 use super::fifo::{FIFO_SIZE, RxFifo};
+use super::saved::SavedStateError;
+use encoding::{SAVED_MAX, SerialEncoding, decode_serial};
 pub use registers::Registers;
 use registers::{
     Condition, IER_UART_VALID_BITS, IIR_FIFO_BITS, IIR_NONE_BIT, LSR_DATA_READY_BIT, Register,
@@ -153,6 +157,43 @@ impl Uart {
     {
         usize::from(self.in_buffer.len) <= FIFO_SIZE
             && self.registers.is_coherent(!self.in_buffer.is_empty())
+    }
+
+    /// The port as bytes; `from_bytes` reads them back. Any struct has an encoding: a port never holds more than 64
+    /// bytes. The encoding has no byte that the guest has read.
+    ///
+    /// It is a header of eight bytes, the registers in the order of the fields, and the received bytes, oldest first.
+    pub fn to_bytes(&self) -> SerialEncoding
+        ensures encoding { result ≡ serial_encoding (state_of_uart self.now) }
+        ensures at_most_81 { length result ≤ 81 }
+    {
+        let (older, newer) = self.in_buffer.as_slices();
+        let mut bytes = [0; SAVED_MAX];
+        let count = self.registers.encode_serial(older, newer, &mut bytes);
+        SerialEncoding { bytes, count }
+    }
+
+    /// Reads a port back from these bytes, whatever its registers hold. It may be incoherent:
+    /// [`is_coherent`](Self::is_coherent) tells.
+    ///
+    /// # Errors
+    ///
+    /// Returns the first check that fails, in the order of [`SavedStateError`]. No port has
+    /// [`SavedStateError::InvalidArmed`] or [`SavedStateError::InvalidFlags`].
+    pub fn from_bytes(bytes: &[u8]) -> Result<Uart, SavedStateError>
+        ensures encoding { IfOk result (λ port. bytes.now ≡ serial_encoding (state_of_uart port)) }
+        ensures at_most_64 { IfOk result (λ port. port.in_buffer.len ≤ 64) }
+        ensures read { (state : State) → length state.in_buffer ≤ 64 → bytes.now ≡ serial_encoding state →
+            IsOkAnd result (λ port. state_of_uart port ≡ state) }
+        ensures fault { result_err result ≡ serial_fault bytes.now }
+    {
+        let (registers, held) = decode_serial(bytes)?;
+        let mut in_buffer = ArrayFifo::new();
+        in_buffer.fill(held);
+        Ok(Uart {
+            registers,
+            in_buffer,
+        })
     }
 }
 

@@ -3,11 +3,11 @@
 ghost use Rattle.std.specs.Prelude.{◌≡◌, ◌≤◌, ◌+◌, length, List, ℕ, ◌++◌, take, drop, IfOk, nat_eq};
 ghost use Rattle.std.specs.Cmp.{on_equiv, on_per, partial_equiv_from_equiv};
 ghost use Rattle.std.specs.Cmp.Lexicographic.{pointwise, nat_list_eq_equiv};
-ghost use Rattle.std.specs.Result.{result_err, IsOkAnd};
-ghost use Rattle.superio_core.specs.Serial.{state_with, State, state_of_uart};
+ghost use Rattle.std.specs.Result.{result_err};
+ghost use Rattle.superio_core.specs.Serial.{state_with, state_of_uart};
 ghost use Rattle.superio_core.specs.Saved.{serial_encoding, serial_fault};
 
-use super::super::fifo::{ArrayFifo, FIFO_SIZE, RxFifo};
+use super::super::fifo::FIFO_SIZE;
 use super::super::saved::{HEADER_SIZE, SERIAL_KIND, SavedStateError, decode_header, header};
 use super::Uart;
 use super::registers::{REGISTER_COUNT, Registers};
@@ -23,8 +23,8 @@ pub const SAVED_MAX: usize = SAVED_MIN + FIFO_SIZE;
 #[derive(Clone, Debug)]
 #[derive(Drop)]
 pub struct SerialEncoding {
-    bytes: [u8; SAVED_MAX],
-    count: usize,
+    pub(super) bytes: [u8; SAVED_MAX],
+    pub(super) count: usize,
 }
 
 impl Model for SerialEncoding {
@@ -73,45 +73,6 @@ impl Eq for Uart {
     ghost laws = { on_equiv (λ port. serial_encoding (state_of_uart port)) nat_list_eq_equiv };
 }
 
-impl Uart {
-    /// The port as bytes; `from_bytes` reads them back. Any struct has an encoding: a port never holds more than 64
-    /// bytes. The encoding has no byte that the guest has read.
-    ///
-    /// It is a header of eight bytes, the registers in the order of the fields, and the received bytes, oldest first.
-    pub fn to_bytes(&self) -> SerialEncoding
-        ensures encoding { result ≡ serial_encoding (state_of_uart self.now) }
-        ensures at_most_81 { length result ≤ 81 }
-    {
-        let (older, newer) = self.in_buffer.as_slices();
-        let mut bytes = [0; SAVED_MAX];
-        let count = self.registers.encode_serial(older, newer, &mut bytes);
-        SerialEncoding { bytes, count }
-    }
-
-    /// Reads a port back from these bytes, whatever its registers hold. It may be incoherent:
-    /// [`is_coherent`](Self::is_coherent) tells.
-    ///
-    /// # Errors
-    ///
-    /// Returns the first check that fails, in the order of [`SavedStateError`]. No port has
-    /// [`SavedStateError::InvalidArmed`] or [`SavedStateError::InvalidFlags`].
-    pub fn from_bytes(bytes: &[u8]) -> Result<Uart, SavedStateError>
-        ensures encoding { IfOk result (λ port. bytes.now ≡ serial_encoding (state_of_uart port)) }
-        ensures at_most_64 { IfOk result (λ port. port.in_buffer.len ≤ 64) }
-        ensures read { (state : State) → length state.in_buffer ≤ 64 → bytes.now ≡ serial_encoding state →
-            IsOkAnd result (λ port. state_of_uart port ≡ state) }
-        ensures fault { result_err result ≡ serial_fault bytes.now }
-    {
-        let (registers, held) = decode_serial(bytes)?;
-        let mut port = Uart {
-            registers,
-            in_buffer: ArrayFifo::new(),
-        };
-        port.in_buffer.fill(held);
-        Ok(port)
-    }
-}
-
 /// Copies two slices to the start of another, one after the other.
 fn copy_both(target: &mut [u8], first: &[u8], second: &[u8])
     requires { length first.now + length second.now ≤ length target.old }
@@ -128,7 +89,12 @@ fn copy_both(target: &mut [u8], first: &[u8], second: &[u8])
 impl Registers {
     /// Writes the encoding of a port with these registers and received bytes, in two slices, to the start of an array,
     /// and returns its length. The other bytes do not change.
-    fn encode_serial(&self, older: &[u8], newer: &[u8], encoding: &mut [u8; SAVED_MAX]) -> usize
+    pub(super) fn encode_serial(
+        &self,
+        older: &[u8],
+        newer: &[u8],
+        encoding: &mut [u8; SAVED_MAX],
+    ) -> usize
         requires { length older.now + length newer.now ≤ 64 }
         ensures count { result ≡ length (serial_encoding (state_with self.now (older.now ++ newer.now))) }
         ensures encoding { encoding.new
@@ -178,7 +144,7 @@ impl Registers {
 /// # Errors
 ///
 /// As for [`Uart::from_bytes`].
-fn decode_serial(bytes: &[u8]) -> Result<(Registers, &[u8]), SavedStateError>
+pub(super) fn decode_serial(bytes: &[u8]) -> Result<(Registers, &[u8]), SavedStateError>
     ensures encoding { IfOk result (λ found. bytes.now ≡ serial_encoding (state_with found.0 found.1.now)) }
     ensures at_most_64 { IfOk result (λ found. length found.1.now ≤ 64) }
     ensures fault { result_err result ≡ serial_fault bytes.now }
