@@ -55,8 +55,13 @@ def files_of(folder):
 
 @pytest.mark.parametrize("crate", PACKAGES)
 def test_documented(packed, crate):
-    """rustdoc has nothing to say."""
-    packed[crate][0].check("doc", "--no-deps", "--quiet", RUSTDOCFLAGS="-D warnings")
+    """rustdoc has nothing to say, and on the page of each type the call that makes one comes first."""
+    cargo = packed[crate][0]
+    cargo.check("doc", "--no-deps", "--quiet", RUSTDOCFLAGS="-D warnings")
+    pages = [*(Path(cargo.environment["CARGO_TARGET_DIR"]) / "doc").rglob("struct.*.html")]
+    calls = {page.name: re.findall(r'id="method\.(\w+)"', page.read_text("utf-8")) for page in pages}
+    assert crate == PACKAGES[-1] or {"new"} < {name for names in calls.values() for name in names}
+    assert not [(page, names) for page, names in calls.items() if "new" in names[1:]]
 
 
 @pytest.mark.parametrize("crate", PACKAGES)

@@ -11,8 +11,12 @@ pub mod output_ring;
 pub mod saved;
 
 use output_ring::{OUTPUT_SIZE, OutputRing};
+use saved::{
+    ASLEEP_BIT, CONSOLE_SAVED_MAX, POLLED_BIT, READY_BIT, REFUSED_BIT, append, decode_console,
+};
 use crate::Uart;
 use crate::fifo::RxFifo;
+use crate::saved::SavedStateError;
 use crate::serial::registers::{
     Condition, DATA_OFFSET, IER_OFFSET, IIR_NONE_BIT, IIR_OFFSET, MCR_OFFSET,
 };
@@ -251,6 +255,55 @@ impl Console {
         let before = self.wants();
         self.is_polled = u8::from(is_polled);
         self.work(before, 0)
+    }
+
+    /// Writes the console's encoding to the start of `bytes`, and returns its length; [`load`](Self::load) reads it back.
+    /// The other bytes do not change. The encoding has no byte that the guest has read, nor one that the reader took.
+    // Clauses in crates/superio_console/src/lib.rt: count, at_most_4196, encoding, rest_unchanged.
+    pub fn save(&self, bytes: &mut [u8; CONSOLE_SAVED_MAX]) -> usize {
+        let port = self.port.to_bytes();
+        let port = port.as_bytes();
+        let (older, newer) = self.output.as_slices();
+        let waiting = older.len() + newer.len();
+        let prefix = self.encode_prefix(waiting, port.len());
+        let count = append(bytes, 0, &prefix);
+        let count = append(bytes, count, older);
+        let count = append(bytes, count, newer);
+        append(bytes, count, port)
+    }
+
+    /// Reads a console back from saved bytes: each later call answers as it would have before. The port in it may be
+    /// incoherent, as [`Uart::is_coherent`] tells.
+    ///
+    /// If your interrupt controller was not restored too, call [`refuse`](Self::refuse): it may have lost what it was
+    /// told before. In any case make a [`turn`](Self::turn) then.
+    ///
+    /// # Errors
+    ///
+    /// The first check that fails, in the order of [`SavedStateError`]. No console has [`SavedStateError::InvalidArmed`].
+    // Clauses in crates/superio_console/src/lib.rt: encoding, at_most_64, read, fault.
+    pub fn from_bytes(bytes: &[u8]) -> Result<Console, SavedStateError> {
+        let (flags, dropped, output, port) = decode_console(bytes)?;
+        Ok(Console {
+            port: Uart::from_bytes(port)?,
+            output: OutputRing::from_slice(output),
+            dropped,
+            is_polled: flags & POLLED_BIT,
+            is_ready: flags & READY_BIT,
+            is_asleep: flags & ASLEEP_BIT,
+            is_refused: flags & REFUSED_BIT,
+        })
+    }
+
+    /// Becomes the console of saved bytes. If they are none, nothing changes.
+    ///
+    /// # Errors
+    ///
+    /// As for [`from_bytes`](Self::from_bytes).
+    // Clauses in crates/superio_console/src/lib.rt: fault, loaded, read, at_most_64, refused.
+    pub fn load(&mut self, bytes: &[u8]) -> Result<(), SavedStateError> {
+        *self = Console::from_bytes(bytes)?;
+        Ok(())
     }
 }
 

@@ -8,8 +8,7 @@
 //! [`Uart::to_bytes`](crate::Uart) writes it. Numbers are little-endian.
 
 use super::Console;
-use super::output_ring::{OUTPUT_SIZE, OutputRing};
-use crate::Uart;
+use super::output_ring::OUTPUT_SIZE;
 use crate::saved::{CONSOLE_KIND, HEADER_SIZE, SavedStateError, decode_header, header};
 use crate::serial::encoding::SAVED_MAX as PORT_MAX;
 
@@ -20,13 +19,13 @@ const PREFIX_SIZE: usize = 11;
 pub const CONSOLE_SAVED_MAX: usize = HEADER_SIZE + PREFIX_SIZE + OUTPUT_SIZE + PORT_MAX;
 
 /// The bits of the flags.
-const POLLED_BIT: u8 = 0x01;
+pub(super) const POLLED_BIT: u8 = 0x01;
 
-const READY_BIT: u8 = 0x02;
+pub(super) const READY_BIT: u8 = 0x02;
 
-const ASLEEP_BIT: u8 = 0x04;
+pub(super) const ASLEEP_BIT: u8 = 0x04;
 
-const REFUSED_BIT: u8 = 0x08;
+pub(super) const REFUSED_BIT: u8 = 0x08;
 
 const ALL_BITS: u8 = 0x0F;
 
@@ -45,57 +44,12 @@ impl Eq for Console {
 }
 
 impl Console {
-    /// Writes the console's encoding to the start of `bytes`, and returns its length; [`load`](Self::load) reads it back.
-    /// The other bytes do not change. The encoding has no byte that the guest has read, nor one that the reader took.
-    // Clauses in crates/superio_console/src/saved.rt: count, at_most_4196, encoding, rest_unchanged.
-    pub fn save(&self, bytes: &mut [u8; CONSOLE_SAVED_MAX]) -> usize {
-        let port = self.port.to_bytes();
-        let port = port.as_bytes();
-        let (older, newer) = self.output.as_slices();
-        let waiting = older.len() + newer.len();
-        let prefix = self.encode_prefix(waiting, port.len());
-        let count = append(bytes, 0, &prefix);
-        let count = append(bytes, count, older);
-        let count = append(bytes, count, newer);
-        append(bytes, count, port)
-    }
-
-    /// Reads a console back from saved bytes: each later call answers as it would have before. The port in it may be
-    /// incoherent, as [`Uart::is_coherent`] tells.
-    ///
-    /// If your interrupt controller was not restored too, call [`refuse`](Self::refuse): it may have lost what it was
-    /// told before. In any case make a [`turn`](Self::turn) then.
-    ///
-    /// # Errors
-    ///
-    /// The first check that fails, in the order of [`SavedStateError`]. No console has [`SavedStateError::InvalidArmed`].
-    // Clauses in crates/superio_console/src/saved.rt: encoding, at_most_64, read, fault.
-    pub fn from_bytes(bytes: &[u8]) -> Result<Console, SavedStateError> {
-        let (flags, dropped, output, port) = decode_console(bytes)?;
-        Ok(Console {
-            port: Uart::from_bytes(port)?,
-            output: OutputRing::from_slice(output),
-            dropped,
-            is_polled: flags & POLLED_BIT,
-            is_ready: flags & READY_BIT,
-            is_asleep: flags & ASLEEP_BIT,
-            is_refused: flags & REFUSED_BIT,
-        })
-    }
-
-    /// Becomes the console of saved bytes. If they are none, nothing changes.
-    ///
-    /// # Errors
-    ///
-    /// As for [`from_bytes`](Self::from_bytes).
-    // Clauses in crates/superio_console/src/saved.rt: fault, loaded, read, at_most_64, refused.
-    pub fn load(&mut self, bytes: &[u8]) -> Result<(), SavedStateError> {
-        *self = Console::from_bytes(bytes)?;
-        Ok(())
-    }
-
     /// The start of an encoding, before `waiting` bytes of output and `port` bytes of a port.
-    fn encode_prefix(&self, waiting: usize, port: usize) -> [u8; HEADER_SIZE + PREFIX_SIZE] {
+    pub(super) fn encode_prefix(
+        &self,
+        waiting: usize,
+        port: usize,
+    ) -> [u8; HEADER_SIZE + PREFIX_SIZE] {
         let [m0, m1, m2, m3, kind, version, low, high] = header(
             CONSOLE_KIND,
             (PREFIX_SIZE + waiting + port) as u16,
@@ -144,8 +98,8 @@ fn bit_if(flag: u8, bit: u8) -> u8 {
 ///
 /// # Errors
 ///
-/// As for [`Console::from_bytes`], but for the port's own.
-fn decode_console(bytes: &[u8]) -> Result<(u8, u64, &[u8], &[u8]), SavedStateError> {
+/// Those of [`Console::from_bytes`], except for what [`Uart::from_bytes`] finds.
+pub(super) fn decode_console(bytes: &[u8]) -> Result<(u8, u64, &[u8], &[u8]), SavedStateError> {
     match decode_header(CONSOLE_KIND, bytes)? {
         [flags, d0, d1, d2, d3, d4, d5, d6, d7, low, high, rest @ ..] => {
             let waiting = usize::from(u16::from_le_bytes([*low, *high]));
@@ -164,7 +118,7 @@ fn decode_console(bytes: &[u8]) -> Result<(u8, u64, &[u8], &[u8]), SavedStateErr
 }
 
 /// Writes `part` behind the first `count` bytes, and returns how many bytes come first then.
-fn append(bytes: &mut [u8], count: usize, part: &[u8]) -> usize {
+pub(super) fn append(bytes: &mut [u8], count: usize, part: &[u8]) -> usize {
     let end = count + part.len();
     bytes[count..end].copy_from_slice(part);
     end

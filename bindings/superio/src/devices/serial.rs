@@ -14,6 +14,8 @@ pub mod registers;
 
 pub use super::fifo::ArrayFifo;
 use super::fifo::{FIFO_SIZE, RxFifo};
+use super::saved::SavedStateError;
+use encoding::{SAVED_MAX, SerialEncoding, decode_serial};
 pub use registers::Registers;
 use registers::{
     Condition, IER_UART_VALID_BITS, IIR_FIFO_BITS, IIR_NONE_BIT, LSR_DATA_READY_BIT, Register,
@@ -124,6 +126,36 @@ impl Uart {
     pub fn is_coherent(&self) -> bool {
         usize::from(self.in_buffer.len) <= FIFO_SIZE
             && self.registers.is_coherent(!self.in_buffer.is_empty())
+    }
+
+    /// The port as bytes; `from_bytes` reads them back. Any struct has an encoding: a port never holds more than 64
+    /// bytes. The encoding has no byte that the guest has read.
+    ///
+    /// It is a header of eight bytes, the registers in the order of the fields, and the received bytes, oldest first.
+    // Clauses in crates/superio_core/src/serial.rt: encoding, at_most_81.
+    pub fn to_bytes(&self) -> SerialEncoding {
+        let (older, newer) = self.in_buffer.as_slices();
+        let mut bytes = [0; SAVED_MAX];
+        let count = self.registers.encode_serial(older, newer, &mut bytes);
+        SerialEncoding { bytes, count }
+    }
+
+    /// Reads a port back from these bytes, whatever its registers hold. It may be incoherent:
+    /// [`is_coherent`](Self::is_coherent) tells.
+    ///
+    /// # Errors
+    ///
+    /// Returns the first check that fails, in the order of [`SavedStateError`]. No port has
+    /// [`SavedStateError::InvalidArmed`] or [`SavedStateError::InvalidFlags`].
+    // Clauses in crates/superio_core/src/serial.rt: encoding, at_most_64, read, fault.
+    pub fn from_bytes(bytes: &[u8]) -> Result<Uart, SavedStateError> {
+        let (registers, held) = decode_serial(bytes)?;
+        let mut in_buffer = ArrayFifo::new();
+        in_buffer.fill(held);
+        Ok(Uart {
+            registers,
+            in_buffer,
+        })
     }
 }
 

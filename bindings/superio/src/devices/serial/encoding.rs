@@ -3,7 +3,7 @@
 // These are the lines that the prover checks, without their contracts. Change them there.
 //! The encoding of a serial port's state.
 
-use super::super::fifo::{ArrayFifo, FIFO_SIZE, RxFifo};
+use super::super::fifo::FIFO_SIZE;
 use super::super::saved::{HEADER_SIZE, SERIAL_KIND, SavedStateError, decode_header, header};
 use super::Uart;
 use super::registers::{REGISTER_COUNT, Registers};
@@ -17,8 +17,8 @@ pub const SAVED_MAX: usize = SAVED_MIN + FIFO_SIZE;
 /// The bytes of a saved port. Contracts see a list of at most 81 bytes.
 #[derive(Clone, Debug)]
 pub struct SerialEncoding {
-    bytes: [u8; SAVED_MAX],
-    count: usize,
+    pub(super) bytes: [u8; SAVED_MAX],
+    pub(super) count: usize,
 }
 
 impl SerialEncoding {
@@ -48,38 +48,6 @@ impl PartialEq for Uart {
 impl Eq for Uart {
 }
 
-impl Uart {
-    /// The port as bytes; `from_bytes` reads them back. Any struct has an encoding: a port never holds more than 64
-    /// bytes. The encoding has no byte that the guest has read.
-    ///
-    /// It is a header of eight bytes, the registers in the order of the fields, and the received bytes, oldest first.
-    // Clauses in crates/superio_core/src/serial/encoding.rt: encoding, at_most_81.
-    pub fn to_bytes(&self) -> SerialEncoding {
-        let (older, newer) = self.in_buffer.as_slices();
-        let mut bytes = [0; SAVED_MAX];
-        let count = self.registers.encode_serial(older, newer, &mut bytes);
-        SerialEncoding { bytes, count }
-    }
-
-    /// Reads a port back from these bytes, whatever its registers hold. It may be incoherent:
-    /// [`is_coherent`](Self::is_coherent) tells.
-    ///
-    /// # Errors
-    ///
-    /// Returns the first check that fails, in the order of [`SavedStateError`]. No port has
-    /// [`SavedStateError::InvalidArmed`] or [`SavedStateError::InvalidFlags`].
-    // Clauses in crates/superio_core/src/serial/encoding.rt: encoding, at_most_64, read, fault.
-    pub fn from_bytes(bytes: &[u8]) -> Result<Uart, SavedStateError> {
-        let (registers, held) = decode_serial(bytes)?;
-        let mut port = Uart {
-            registers,
-            in_buffer: ArrayFifo::new(),
-        };
-        port.in_buffer.fill(held);
-        Ok(port)
-    }
-}
-
 /// Copies two slices to the start of another, one after the other.
 fn copy_both(target: &mut [u8], first: &[u8], second: &[u8]) {
     let (start, rest) = target.split_at_mut(first.len());
@@ -93,7 +61,12 @@ fn copy_both(target: &mut [u8], first: &[u8], second: &[u8]) {
 impl Registers {
     /// Writes the encoding of a port with these registers and received bytes, in two slices, to the start of an array,
     /// and returns its length. The other bytes do not change.
-    fn encode_serial(&self, older: &[u8], newer: &[u8], encoding: &mut [u8; SAVED_MAX]) -> usize {
+    pub(super) fn encode_serial(
+        &self,
+        older: &[u8],
+        newer: &[u8],
+        encoding: &mut [u8; SAVED_MAX],
+    ) -> usize {
         let held = older.len() + newer.len();
         let (start, rest) = encoding.split_at_mut(SAVED_MIN);
         start.copy_from_slice(&self.encode_prefix(held));
@@ -134,7 +107,7 @@ impl Registers {
 /// # Errors
 ///
 /// As for [`Uart::from_bytes`].
-fn decode_serial(bytes: &[u8]) -> Result<(Registers, &[u8]), SavedStateError> {
+pub(super) fn decode_serial(bytes: &[u8]) -> Result<(Registers, &[u8]), SavedStateError> {
     match decode_header(SERIAL_KIND, bytes)? {
         [dll, dlm, ier, iir, lcr, lsr, mcr, msr, scr, in_buffer @ ..] => {
             if in_buffer.len() > FIFO_SIZE {
