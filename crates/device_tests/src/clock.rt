@@ -1,6 +1,6 @@
 // SPDX-License-Identifier: Apache-2.0 OR BSD-3-Clause
 //! The clock by accesses of the guest and their moments: guest time, the registers, invalid offsets, saved states and
-//! the alarm. Tests that vm-superio has too name those.
+//! the alarm. A test that vm-superio has too gives its name there.
 use crate::clock::Access::{Read, Write};
 use std::process::Abort;
 use superio_script::Counts;

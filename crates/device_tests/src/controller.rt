@@ -1,5 +1,5 @@
 // SPDX-License-Identifier: Apache-2.0 OR BSD-3-Clause
-//! The i8042 controller: it resets at one command, and reads 0. Tests that vm-superio has too name those.
+//! The i8042 controller: it resets at one command, and reads 0. A test that vm-superio has too gives its name there.
 use superio_script::{Line, LineRefused};
 use vm_superio::I8042Device;
 

@@ -248,7 +248,7 @@ fn holds_the_byte(alloc: Global, port: &Port) -> bool {
     }
 }
 
-/// Whether an act asked for so many interrupts and sent so many bytes as it does among those calls.
+/// Whether an act asked for as many interrupts and sent as many bytes as it does in those calls.
 fn asks_and_sends(act: &Act, asked: Asked, sent: Sent) -> bool {
     calls_of(asked) == u8::from(matches!(act, Act::Enqueue(_)))
         && bytes_out(sent) == u8::from(*act == Act::Write(0, b'x'))

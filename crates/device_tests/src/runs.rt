@@ -129,7 +129,7 @@ fn shown_by<W: io::Write>(reply: &Reply<Line, Counts, W>) -> Shown {
     }
 }
 
-/// Whether an act is that of a call.
+/// Whether an act is the act of a call.
 fn is_act_of(act: &Act, call: Plain) -> bool {
     match (act, call) {
         (Act::Read(made), Read(offset)) => *made == offset,
@@ -176,7 +176,7 @@ fn recorded<W: io::Write + Drop>(
     done
 }
 
-/// The same, without the records.
+/// Does the same, without the records.
 fn run_shows<W: io::Write + Drop>(
     rt: &impl Abort,
     alloc: Global,

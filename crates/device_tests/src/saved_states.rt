@@ -97,8 +97,8 @@ fn of_65_bytes() -> [u8; 82] {
 
 #[test]
 fn bytes_of_no_port_are_refused_for_the_first_reason(rt: HostRuntime) {
-    // Changes of a saved clock, and how many of its bytes are read. As those of a port, these are its registers and some
-    // received bytes.
+    // Changes of a saved clock, and how many of its bytes are read. Read as a port's bytes, these are its registers and
+    // some received bytes.
     let rows: [(&[(usize, u8)], usize, SavedStateError); 7] = [
         (&[(KIND, PORT)], 7, SavedStateError::TooShort),
         (

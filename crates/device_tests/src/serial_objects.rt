@@ -91,7 +91,7 @@ pub fn is_fresh<W: Write>(alloc: Global, port: &TestSerial<W>) -> bool {
     has_state(alloc, port, &SerialState::default(alloc))
 }
 
-/// Some fields of a state. The others are those of a fresh port.
+/// Some fields of a state. The others are as in a fresh port.
 #[derive(Clone, Copy)]
 pub struct Fields {
     pub iir: u8,
@@ -183,9 +183,9 @@ pub enum Step {
     Read(u8, u8),
     /// A write at this offset of this value returns `Ok`.
     Write(u8, u8),
-    /// The same, and the trigger refuses.
+    /// Such a write returns the trigger's refusal.
     WriteRefused(u8, u8),
-    /// The same, and the writer fails by a fault of this kind.
+    /// Such a write returns the writer's fault, which is of this kind.
     WriteFails(u8, u8, ErrorKind),
     /// An enqueue of these bytes accepts so many of them.
     Enqueue(&'static [u8], usize),
@@ -350,7 +350,7 @@ pub fn fresh_shows<R: Abort + AllocGlobal>(rt: &R, mask: u64, steps: &[Step]) {
     fresh_over_shows(rt, mask, Narrow::with_room(256), steps);
 }
 
-/// The same over this writer.
+/// Does the same over this writer.
 pub fn fresh_over_shows<R: Abort + AllocGlobal>(rt: &R, mask: u64, out: Narrow, steps: &[Step]) {
     let mut port = made(rt, rt.alloc(), mask, out);
     all_show(rt, rt.alloc(), &mut port, steps);

@@ -60,7 +60,7 @@ fn buffer<W: Write + Drop>(alloc: Global, writer: W) -> Result<BufWriter<W>, Scr
     BufWriter::new(alloc, writer).map_err(|_| ScriptFault::Memory)
 }
 
-/// The exit status of the program: 0, or that of the fault.
+/// The exit status of the program: 0, or the status of the fault.
 fn exit_status(end: &Result<(), ScriptFault>) -> u8
     ensures success { OnOk end.now (result ≡ 0) }
     ensures fault { IfErr end.now (λ fault. result ≡ status_of fault) }

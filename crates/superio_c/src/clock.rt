@@ -79,7 +79,8 @@ pub extern "C" fn superio_rtc_interrupt_line(clock: &Pl031) -> bool
     clock.interrupt_line()
 }
 
-/// The seconds from the moment `now` until the alarm is due, if the guest makes no access.
+/// The seconds from the moment `now` until the alarm is due, if the guest makes no access, or the largest number if it
+/// never is.
 #[unsafe(no_mangle)]
 pub extern "C" fn superio_rtc_alarm_due(clock: &Pl031, now: u64) -> u64
     ensures due { IsAlarmDue (state_of_clock clock.now) now (due_of result) }

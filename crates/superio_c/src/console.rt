@@ -43,7 +43,7 @@ pub extern "C" fn superio_console_write(console: &mut Console, offset: u8, value
     console.write(offset, value)
 }
 
-/// What the event loop waits for now.
+/// What the event loop has to poll now.
 #[unsafe(no_mangle)]
 pub extern "C" fn superio_console_wants(console: &Console) -> Wants
     ensures value { result ≡ wants_of (state_of console.now) }
@@ -64,7 +64,7 @@ pub extern "C" fn superio_console_receive(console: &mut Console, bytes: &[u8]) -
     console.receive(bytes)
 }
 
-/// Copies the oldest output that waits to `bytes`, as much as lies together and has room. Returns how many bytes.
+/// Copies the oldest output that waits to `bytes`, up to the end of the ring, as much as fits. Returns how many bytes.
 #[unsafe(no_mangle)]
 pub extern "C" fn superio_console_output(console: &Console, bytes: &mut [u8]) -> usize
     ensures bound { result ≤ length (state_of console.now).output }
@@ -146,7 +146,7 @@ pub extern "C" fn superio_console_suspend(console: &mut Console)
     console.suspend();
 }
 
-/// Whether the guest polls, from now on.
+/// Says whether the guest polls from now on.
 #[unsafe(no_mangle)]
 pub extern "C" fn superio_console_set_polled(console: &mut Console, is_polled: bool) -> Work
     ensures work { result ≡ work_of (SetsPolled is_polled) (state_of console.old) }

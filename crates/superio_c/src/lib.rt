@@ -13,10 +13,10 @@ mod controller;
 mod saved;
 mod serial;
 
-/// Changes with every change to a struct or to the meaning of a call.
+/// The number of the binary interface. It changes with every change to a struct or to the meaning of a call.
 const ABI: u32 = 5;
 
-/// The binary interface of this library; compare it with the header's, `SUPERIO_ABI`.
+/// The number of this library's binary interface. Compare it with `SUPERIO_ABI` in the header.
 #[unsafe(no_mangle)]
 pub extern "C" fn superio_abi() -> u32
     ensures { result ≡ 5 }

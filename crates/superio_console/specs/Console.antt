@@ -49,7 +49,8 @@ new_console is_polled = record {
 
 -- ---- what the event loop polls for
 
--- IER enables RDA and not THRE, as a driver leaves it that has tested its port and wants input. No test of a port does
+-- IER enables RDA and not THRE. A driver leaves it so once it has tested its port and wants input; no test of a port
+-- does
 abbrev pub shows_ready : (enable : ℕ) → Bool
 shows_ready enable = has_bits enable (ier_bit Rda) && not (has_bits enable (ier_bit Thre))
 
@@ -57,8 +58,8 @@ shows_ready enable = has_bits enable (ier_bit Rda) && not (has_bits enable (ier_
 abbrev pub is_open : (c : ConsoleState) → Bool
 is_open c = (c.is_ready || c.is_polled) && not c.is_asleep
 
--- how many bytes of input may go in now: none before it may, none in loopback, and otherwise as many as the FIFO has
--- room for
+-- how many bytes of input may go in now: none while input has to wait, none in loopback, and otherwise all that fit in
+-- the FIFO
 abbrev pub input_room : (c : ConsoleState) → ℕ
 input_room c = if is_open c && not (is_loopback c.port.modem_control) then 64 - length c.port.in_buffer else 0
 
@@ -107,7 +108,7 @@ retries (Writes offset value) = offset == 1
 retries call = false
 
 -- what the call makes of the port: steps of superio_core, in order. A character timeout follows a read of IIR that
--- answers that nothing is pending, and each turn makes one. Input goes in as far as there is room for it
+-- answers that nothing is pending, and each turn makes one. Input goes in as far as it fits
 abbrev pub port_calls : (call : Call) (c : ConsoleState) → List Op
 port_calls (Reads offset) c =
     Read offset ∷ (if answers_none offset (shown_at offset c.port) then CharacterTimeout ∷ [] else [])
@@ -131,7 +132,7 @@ abbrev pub port_after : (call : Call) (c : ConsoleState) → State
 port_after Resets c = fresh_state
 port_after call c = steps (port_calls call c) c.port
 
--- the byte that a write sends: that of a THR write outside loopback
+-- the byte that a write sends: a THR write outside loopback sends its value
 abbrev pub sent_at : (call : Call) (c : ConsoleState) → List ℕ
 sent_at (Writes offset value) c = sent_by (decode_in c.port (Write offset value))
 sent_at call c = []
@@ -157,7 +158,7 @@ abbrev pub output_after : (call : Call) (c : ConsoleState) → List ℕ
 output_after (Consumes count) c = drop count c.output
 output_after call c = output_with (sent_at call c) c.output
 
--- a write at the offset of IER that leaves it as a driver does that is ready
+-- a write at the offset of IER that leaves IER as a ready driver does
 abbrev pub opens_gate : (call : Call) (c : ConsoleState) → Bool
 opens_gate (Writes offset value) c =
     (offset == 1) && shows_ready (port_after (Writes offset value) c).interrupt_enable

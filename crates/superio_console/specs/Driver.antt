@@ -11,7 +11,7 @@ use Rattle.superio_console.specs.Laws.{after_calls, in_each, in_one, is_reset, i
 
 -- ---- a console at a point of its history
 
--- the port is that of a trace from a coherent start
+-- the port is in the state to which a trace leads from a coherent start
 pub record IsAt (start : State) (before : Trace) (c : ConsoleState) : Type 0 where
   pub coherent : Coherent start
   pub port : c.port ≡ state_of_history start before
@@ -20,15 +20,15 @@ pub record IsAt (start : State) (before : Trace) (c : ConsoleState) : Type 0 whe
 abbrev pub newest : (calls : List Call) (c : ConsoleState) → Trace
 newest calls c = trace_with [] (in_each port_calls calls c)
 
--- a console whose port is coherent, such as one that was loaded, is at the beginning of a history
+-- a console with a coherent port, such as one that was loaded with it, is at the beginning of a history
 abbrev pub StartLaw : Type 0
 StartLaw = (c : ConsoleState) → Coherent c.port → IsAt c.port [] c
 
--- and so is a new one
+-- a new console is at the beginning of a history
 abbrev pub FirstLaw : Type 0
 FirstLaw = (is_polled : Bool) → IsAt fresh_state [] (new_console is_polled)
 
--- and after some calls it is at the trace with their entries added
+-- after some calls a console is at the trace with their entries added
 abbrev pub NextLaw : Type 0
 NextLaw = (start : State) (before : Trace) (c : ConsoleState) (calls : List Call) → IsAt start before c
     → in_one is_reset calls c ≡ false → IsAt start (newest calls c ++ before) (after_calls calls c)
@@ -44,7 +44,7 @@ abbrev pub TimeoutLaw : Type 0
 TimeoutLaw = (start : State) (before : Trace) (c : ConsoleState) (calls : List Call) → IsAt start before c
     → in_one is_reset calls c ≡ false → TimeoutAfterNone start before (newest calls c)
 
--- and with a turn, all is done that `superio_laws::console_driver` asks of a monitor
+-- with a turn after the driver's run, all is done that `superio_laws::console_driver` asks of a monitor
 abbrev pub MonitoredLaw : Type 0
 MonitoredLaw = (driver : Driver) (start : State) (before : Trace) (c : ConsoleState) (calls : List Call)
     → IsAt start before c → in_one is_reset calls c ≡ false
@@ -52,9 +52,9 @@ MonitoredLaw = (driver : Driver) (start : State) (before : Trace) (c : ConsoleSt
 
 -- ---- each byte is through
 
--- after a run of the driver: for a byte that is held, and for one that is left to send while flow control does not stop
--- the driver, the guest is interrupted. If the driver read that nothing is pending, no turn has to come first: then RDA
--- is pending at once
+-- after a run of the driver the guest is interrupted if a byte is held, or if one is left to send and flow control does
+-- not stop the driver. If the driver read that nothing is pending, no turn has to come first: then RDA is pending at
+-- once
 pub record IsServed (driver : Driver) (start : State) (before : Trace) (run : List Call) (c : ConsoleState)
     : Type 0 where
   pub to_take : IsTrue (not_empty (after_calls run c).port.in_buffer) → IsInterrupted Rda run c
@@ -86,8 +86,8 @@ runs_of [] c = []
 runs_of (run ∷ later) c = newest run c ∷ runs_of later (after_calls run c)
 
 -- the guest is interrupted after each run. The bytes held at first are read out first, in order, at least one in each
--- run. Of a driver that sends its bytes in order, those left at first are sent first, at least one in each run without
--- a stop
+-- run. If a driver sends its bytes in order, the bytes left to send at first are sent first, at least one in each run
+-- without a stop
 pub record AllIsThrough
     (driver : Driver) (start : State) (before : Trace) (runs : List (List Call)) (c : ConsoleState)
     : Type 0 where

@@ -52,12 +52,12 @@ abbrev pub WakeLaw : Type 0
 WakeLaw = (calls : List Call) (c : ConsoleState) → NamesMore (wants_of c) (wants_of (after_calls calls c))
     → IsTrue (in_one wakes calls c)
 
--- and a call says so only if its wants name something more
+-- a call says to wake the loop only if the wants name something more after it
 abbrev pub NoNeedlessWakeLaw : Type 0
 NoNeedlessWakeLaw = (call : Call) (c : ConsoleState)
     → IsTrue (wakes call c) → NamesMore (wants_of c) (wants_of (after call c))
 
--- the reader's call never has to wake it
+-- `consume`, the reader's call, never has to wake the loop
 abbrev pub ConsumeLaw : Type 0
 ConsumeLaw = (count : ℕ) (c : ConsoleState) → wakes (Consumes count) c ≡ false
 
@@ -80,7 +80,8 @@ abbrev pub HeldLaw : Type 0
 HeldLaw = (c : ConsoleState) → IsTrue (not_empty c.port.in_buffer)
     → IsTrue (has_bits c.port.interrupt_enable (ier_bit Rda)) → IsTrue (wants_of c).turn
 
--- and after a refusal as long as the line is up, that is, while a condition is pending and enabled
+-- the loop is told to come back after a refusal, too, as long as the line is up, that is, while a condition is pending
+-- and enabled
 abbrev pub RefusedLaw : Type 0
 RefusedLaw = (c : ConsoleState) → IsTrue c.is_refused → IsTrue (irq_level c.port) → IsTrue (wants_of c).turn
 
@@ -91,7 +92,7 @@ RetryLaw = (c : ConsoleState) → IsTrue c.is_refused
     → (interrupts_of Turns c ≡ length (conditions_due (after Turns c).port))
     × ((value : ℕ) → interrupts_of (Writes 1 value) c ≡ length (conditions_due (after (Writes 1 value) c).port))
 
--- such a call that asks
+-- a turn, or a write at the offset of IER, that asks for an interrupt
 abbrev pub asks_again : (call : Call) (c : ConsoleState) → Bool
 asks_again call c = retries call && not (length (conditions_due (after call c).port) == 0)
 
@@ -155,12 +156,13 @@ pub record IsInterrupted (condition : Condition) (calls : List Call) (c : Consol
       IsTrue (is_enabled condition end)
       → IsTrue (irq_level end.port) ⊎ (IsTrue (wants_of end).turn × IsTrue (irq_level (after Turns end).port))
 
--- for a condition that is pending in the end and was not at first, such as where the guest has read IIR
+-- the guest is interrupted for a condition that is pending in the end and was not at first, as after a read of IIR
 abbrev pub PendingLaw : Type 0
 PendingLaw = (condition : Condition) (calls : List Call) (c : ConsoleState) → in_one is_reset calls c ≡ false
     → is_shown condition c ≡ false → IsTrue (is_shown condition (after_calls calls c)) → IsInterrupted condition calls c
 
--- for bytes that are held, whatever the guest did and whatever arrived, if RDA was not pending at first
+-- the guest is interrupted for bytes that are held, whatever it did and whatever arrived, if RDA was not pending at
+-- first
 abbrev pub WaitingLaw : Type 0
 WaitingLaw = (calls : List Call) (c : ConsoleState) → in_one is_reset calls c ≡ false
     → is_shown Rda c ≡ false → IsTrue (not_empty (after_calls calls c).port.in_buffer) → IsInterrupted Rda calls c
@@ -172,7 +174,7 @@ asks_for_thre (Writes offset value) c =
 asks_for_thre call c = false
 
 -- after such a write THRE is pending until IIR is read or the machine is reset. So a driver that has sent a byte is
--- interrupted for the next
+-- interrupted to send the next
 abbrev pub SendLaw : Type 0
 SendLaw = (write : Call) (rest : List Call) (c : ConsoleState) → IsTrue (asks_for_thre write c)
     → in_one reads_iir rest (after write c) ≡ false → in_one is_reset rest (after write c) ≡ false
@@ -204,7 +206,8 @@ IsSplit (byte ∷ all) first second =
     ((others : List ℕ) × (first ≡ byte ∷ others) × IsSplit all others second)
     ⊎ ((others : List ℕ) × (second ≡ byte ∷ others) × IsSplit all first others)
 
--- what left the FIFO, then what is held, is what was held, then what arrived: input and looped bytes, each in order
+-- what left the FIFO, followed by what is held, is what was held, followed by what arrived: input and looped bytes,
+-- each in order
 pub record KeepsInput (left received looped : List ℕ) (old new : ConsoleState) : Type 0 where
   pub arrived : List ℕ
   pub sources : IsSplit arrived received looped
@@ -229,17 +232,17 @@ abbrev pub lets_poll : (call : Call) (c : ConsoleState) → Bool
 lets_poll (SetsPolled is_polled) c = is_polled
 lets_poll call c = false
 
--- none goes in before such a write, unless the monitor says so first
+-- no input goes in before such a write, unless the monitor says first that the guest polls
 abbrev pub NoneBefore : (c : ConsoleState) → Type 0
 NoneBefore c = (calls : List Call) → in_one is_ready_write calls c ≡ false → in_one lets_poll calls c ≡ false
     → in_each received_at calls c ≡ []
 
--- from a new console on, and from a reset on, unless the guest polls
+-- this is so from a new console on, and from a reset on, unless the guest polls
 abbrev pub GateLaw : Type 0
 GateLaw = NoneBefore (new_console false)
     × ((c : ConsoleState) → c.is_polled ≡ false → NoneBefore (after Resets c))
 
--- none goes in after a suspend before such a write or a reset, also if the guest polls
+-- after a suspend no input goes in before such a write or a reset, even if the guest polls
 abbrev pub SleepLaw : Type 0
 SleepLaw = (calls : List Call) (c : ConsoleState)
     → in_one is_ready_write calls (after Suspends c) ≡ false → in_one is_reset calls (after Suspends c) ≡ false
@@ -254,12 +257,12 @@ closes_gate Resets c = true
 closes_gate Suspends c = true
 closes_gate call c = false
 
--- from such a write on they do, until a reset or a suspend
+-- from such a write on, until a reset or a suspend, the wants name all this room
 abbrev pub OpenLaw : Type 0
 OpenLaw = (write : Call) (rest : List Call) (c : ConsoleState) → IsTrue (is_ready_write write c)
     → in_one closes_gate rest (after write c) ≡ false → NamesRoom (after_calls rest (after write c))
 
--- and always if the guest polls and does not sleep
+-- if the guest polls and does not sleep, the wants always name it
 abbrev pub PolledLaw : Type 0
 PolledLaw = (c : ConsoleState) → IsTrue c.is_polled → c.is_asleep ≡ false → NamesRoom c
 
@@ -277,7 +280,7 @@ EachTakes (run ∷ later) c =
     (IsTrue (not_empty c.port.in_buffer) → IsTrue (not_empty (in_each left_at run c)))
     × EachTakes later (after_calls run c)
 
--- then the bytes held at first come first, in order, at least one with each run, whatever arrives meanwhile
+-- then the bytes held at first are read out first, in order, at least one in each run, whatever arrives meanwhile
 abbrev pub TakenLaw : Type 0
 TakenLaw = (runs : List (List Call)) (c : ConsoleState) → EachTakes runs c
     → (more : List ℕ) × (left_in_runs runs c ≡ take (length runs) c.port.in_buffer ++ more)
@@ -289,8 +292,8 @@ abbrev pub taken_at : (call : Call) (c : ConsoleState) → List ℕ
 taken_at (Consumes count) c = take count c.output
 taken_at call c = []
 
--- the bytes that the guest sent are kept or dropped. What the reader took, then what waits, is what waited, then the
--- bytes kept. The bytes dropped are counted, up to 2^64 - 1
+-- the bytes that the guest sent are kept or dropped. What the reader took, followed by what waits, is what waited,
+-- followed by the bytes kept. The bytes dropped are counted, up to 2^64 - 1
 pub record KeepsOutput (taken sent : List ℕ) (old new : ConsoleState) : Type 0 where
   pub kept : List ℕ
   pub dropped : List ℕ
@@ -298,11 +301,11 @@ pub record KeepsOutput (taken sent : List ℕ) (old new : ConsoleState) : Type 0
   pub in_order : taken ++ new.output ≡ old.output ++ kept
   pub counted : new.dropped ≡ min (old.dropped + length dropped) (2 ^ 64 - 1)
 
--- a byte that is sent while 4,096 wait
+-- a byte is sent while 4,096 wait
 abbrev pub finds_no_room : (call : Call) (c : ConsoleState) → Bool
 finds_no_room call c = not_empty (sent_at call c) && not (nat_lt (length c.output) 4096)
 
--- if no byte is, none is dropped
+-- if no byte is sent while 4,096 wait, none is dropped
 abbrev pub RoomLaw : Type 0
 RoomLaw = (calls : List Call) (c : ConsoleState) → in_one finds_no_room calls c ≡ false
     → (in_each taken_at calls c ++ (after_calls calls c).output ≡ c.output ++ in_each sent_at calls c)

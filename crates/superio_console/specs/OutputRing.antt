@@ -7,6 +7,6 @@ pub use Rattle.superio_console.specs.declared.output_ring.OutputRing.{OutputRing
 abbrev pub ring_from : (head : ℕ) (bytes : List ℕ) → List ℕ
 ring_from head bytes = drop (head % 4096) bytes ++ take (head % 4096) bytes
 
--- the bytes that wait, oldest first: as many of these places as wait, and at most 4,096
+-- the bytes that wait, oldest first: the first `len` of these places, at most 4,096
 abbrev pub waiting_in : (ring : OutputRing) → List ℕ
 waiting_in ring = take (min ring.len 4096) (ring_from ring.head ring.bytes)

@@ -21,7 +21,7 @@ abbrev pub console_contents : (c : ConsoleState) → List ℕ
 console_contents c =
     flags_of c ∷ to_le_bytes w64 c.dropped ++ to_le_bytes w16 (length c.output) ++ c.output ++ serial_encoding c.port
 
--- the bytes of an encoding before the output, if so many bytes of it wait, and the port has so many
+-- the bytes of an encoding before the output, if `waiting` bytes of output wait and the port has `port` bytes
 abbrev pub console_prefix : (c : ConsoleState) (waiting port : ℕ) → List ℕ
 console_prefix c waiting port =
     header console_kind (11 + waiting + port) ++ flags_of c ∷ to_le_bytes w64 c.dropped ++ to_le_bytes w16 waiting
@@ -35,7 +35,7 @@ console_encoding c = encoding console_kind (console_contents c)
 abbrev pub output_count : (contents : List ℕ) → ℕ
 output_count contents = from_le_bytes w16 (slice_index contents 9 ∷ slice_index contents 10 ∷ [])
 
--- there are flags and two counts; at most 4,096 bytes of output; and as many as their count says
+-- there are flags and two counts, and then at most 4,096 bytes of output, as many as their count says
 abbrev pub is_cut : (contents : List ℕ) → Bool
 is_cut contents =
     nat_lt (length contents) 11 || nat_lt 4096 (output_count contents)
@@ -62,6 +62,6 @@ pub record IsConsole (c : ConsoleState) : Type 0 where
 abbrev pub ConsoleEncodingLaw : Type 0
 ConsoleEncodingLaw = (c : ConsoleState) → IsConsole c → console_fault (console_encoding c) ≡ None
 
--- states that have the same encoding are one state, and so answer any later calls alike
+-- states that have the same encoding are one state, so they answer any later calls alike
 abbrev pub OneConsoleStateLaw : Type 0
 OneConsoleStateLaw = (a b : ConsoleState) → IsConsole a → IsConsole b → console_encoding a ≡ console_encoding b → a ≡ b

@@ -5,16 +5,16 @@ ghost use Rattle.superio_console.specs.Driver.{StartLaw, FirstLaw, NextLaw, Rese
 ghost use Rattle.superio_console.specs.Laws.{PortLaw, WakeLaw, NoNeedlessWakeLaw, ConsumeLaw, CoveredLaw, HeldLaw, RefusedLaw, RetryLaw, KeptLaw, AskedLaw, PendingLaw, WaitingLaw, SendLaw, InputLaw, GateLaw, SleepLaw, OpenLaw, PolledLaw, TakenLaw, OutputLaw, RoomLaw};
 ghost use Rattle.superio_console.specs.Saved.{ConsoleEncodingLaw, OneConsoleStateLaw};
 
-/// The port makes the steps of `superio_core`. So it is the port of the history of its trace, for which the laws of
-/// `superio_laws` hold.
+/// The port makes the steps of `superio_core`. So without a reset it is the port to which the steps of its trace lead,
+/// and the laws of `superio_laws` hold for it.
 #[tactic(auto, using(crate::proofs::Lemmas::Port::port_law))]
 pub fn port()
     ensures { PortLaw }
 {}
 
-/// If `wants` names something in the end that it did not name at first, one of the calls said to wake the event loop. So
-/// a loop that sleeps on what it polled for, and wakes when it is told to, never sleeps past new work. A call says so only
-/// if `wants` names something more, and `consume` never does.
+/// If `wants` names something in the end that it did not name at first, one of the calls said to wake the event loop.
+/// So a loop that polls what was named, and wakes when it is told to wake, never sleeps past new work. A call tells it
+/// to wake only if `wants` names something more, and `consume` never does.
 pub fn wakes()
     ensures wakes { WakeLaw }
     ensures no_needless { NoNeedlessWakeLaw }
@@ -24,7 +24,7 @@ pub fn wakes()
 }
 
 /// After each turn, and after each read of IIR that shows nothing pending, RDA is pending if bytes are held and IER
-/// enables it. While they are, `wants` names a turn.
+/// enables it. While bytes are held and IER enables RDA, `wants` names a turn.
 pub fn turns()
     ensures covered { CoveredLaw }
     ensures held { HeldLaw }
@@ -33,8 +33,8 @@ pub fn turns()
 }
 
 /// After a refusal `wants` names a turn as long as the line is up. The next turn, or write at the offset of IER, asks
-/// once for each condition that is pending and enabled. Only such a call that asks, a read of IIR, and a reset end the
-/// refusal.
+/// once for each condition that is pending and enabled. Only three things end the refusal: such a call that asks, a
+/// read of IIR, and a reset.
 pub fn refusals()
     ensures wants { RefusedLaw }
     ensures retry { RetryLaw }
@@ -43,11 +43,12 @@ pub fn refusals()
     by_lemmas();
 }
 
-/// For any guest: a condition that is pending in the end and was not at first, such as where the guest has read IIR, was
-/// asked for by one of the calls. And the guest is interrupted for it: no `refuse` followed since a call asked, and the
-/// guest did not read IIR; or `wants` names a turn, which asks. If IER masks the condition, the write that enables it
-/// asks. For levels: the line is up. The same holds while bytes are held, for RDA: if it is not pending yet, `wants` names
-/// a turn, which asks and leaves the line up.
+/// These laws hold for any guest, as long as it is not reset. Suppose that a condition is pending in the end and was
+/// not pending at first, as after a read of IIR. Then one of the calls asked for the interrupt, and the guest is
+/// interrupted. For edges this means that no `refuse` followed since a call asked, and the guest did not read IIR; or
+/// that `wants` names a turn, which asks. If IER masks the condition, the write that enables it asks. For levels it
+/// means that the line is up while IER enables the condition. The same holds for RDA while bytes are held: if RDA is
+/// not pending yet, `wants` names a turn, which asks and leaves the line up.
 pub fn interrupted()
     ensures asked { AskedLaw }
     ensures pending { PendingLaw }
@@ -56,26 +57,26 @@ pub fn interrupted()
     by_lemmas();
 }
 
-/// For any guest: after a THR write outside loopback while IER enables THRE, and after an IER write that enables it, THRE
-/// is pending until IIR is read or the machine is reset. So a driver that has sent a byte is interrupted for the next.
+/// For any guest: a THR write outside loopback while IER enables THRE, and an IER write that enables THRE, leave THRE
+/// pending until IIR is read or the machine is reset. So a driver that has sent a byte is interrupted to send the next.
 pub fn sending()
     ensures { SendLaw }
 {
     by_lemmas();
 }
 
-/// The bytes that the guest read out and those that resets lost, then those held, are those held at first, then what
-/// arrived: the input that went in, and what the guest looped back, each in order.
+/// The bytes that the guest read out and those that resets lost, followed by those held, are those held at first,
+/// followed by those that arrived: the input that went in, and the bytes that the guest looped back, each in order.
 pub fn input()
     ensures in_order { InputLaw }
 {
     by_lemmas();
 }
 
-/// When input goes in. Into a new console, and after a reset, none does before a write of IER that enables RDA and not
-/// THRE, unless the guest polls; and none after a suspend before such a write or a reset. From such a write on, until a
-/// reset or a suspend, `wants` names all the room of the FIFO, outside loopback; and always if the guest polls and does
-/// not sleep.
+/// When input goes in. After `new` and after a reset, no input goes in before a write of IER that enables RDA and not
+/// THRE, unless the guest polls. After a suspend, none goes in before such a write or a reset, even if the guest polls.
+/// From such a write on, until a reset or a suspend, `wants` names all the room of the FIFO outside loopback. While the
+/// guest polls and does not sleep, `wants` always names it.
 pub fn gate()
     ensures shut { GateLaw }
     ensures asleep { SleepLaw }
@@ -85,15 +86,16 @@ pub fn gate()
     by_lemmas();
 }
 
-/// For a driver that takes at least one byte in each run, if one is held when the run begins: the bytes held at first
-/// are read out first, in order, at least one with each run, whatever arrives meanwhile.
+/// Suppose that a driver takes at least one byte in each run that begins while a byte is held. Then the bytes held at
+/// first are read out first, in order, at least one in each run, whatever arrives meanwhile.
 #[tactic(auto, using(crate::proofs::Lemmas::Taken::taken_law))]
 pub fn taken()
     ensures { TakenLaw }
 {}
 
-/// What the reader took, then what waits, is what waited at first, then what the guest sent, in order, without the bytes
-/// that found no room. These are counted. If at most 4,095 waited at each write that sent a byte, none is dropped.
+/// What the reader took, followed by what waits, is what waited at first, followed by what the guest sent, in order,
+/// without the bytes that found no room. Those bytes are counted. If at most 4,095 bytes waited at each write that sent
+/// a byte, none is dropped.
 pub fn output()
     ensures in_order { OutputLaw }
     ensures room { RoomLaw }
@@ -101,9 +103,9 @@ pub fn output()
     by_lemmas();
 }
 
-/// A console whose port is coherent, such as a new one or one that was loaded, is at the beginning of a history, and calls
-/// without a reset add their entries to it. A reset begins a new one. After each read of IIR that shows nothing pending,
-/// the next call of the port is a character timeout. So with a turn after the driver's run, the monitor's part of
+/// A console with a coherent port, whether new or loaded, is at the beginning of a history, and calls without a reset
+/// add their entries to it. A reset begins a new one. After each read of IIR that shows nothing pending, the next call
+/// of the port is a character timeout. So with a turn after the driver's run, the monitor's part of
 /// `superio_laws::console_driver` is done.
 pub fn history()
     ensures start { StartLaw }
@@ -116,15 +118,15 @@ pub fn history()
     by_lemmas();
 }
 
-/// With the driver's conditions of `superio_laws::console_driver` alone, no byte waits for ever, in either direction. Of
-/// the monitor it needs only that it makes a turn while `wants` names one, raises the interrupts that it is told to, and
-/// calls `refuse` if it cannot.
+/// If a driver keeps the driver's conditions of `superio_laws::console_driver`, no byte waits for ever, in either
+/// direction. The monitor has three duties: it makes a turn while `wants` names one, raises each interrupt that a call
+/// tells it to raise, and calls `refuse` if it cannot.
 ///
 /// After each run the guest is interrupted, as [`interrupted`] says, if bytes are held, or if the driver has bytes left
-/// to send and flow control does not stop it. If it read IIR until nothing was pending, and IER enables RDA, no turn has
-/// to come first. Of the bytes held at first at least one is read out in each run, in order, and of those left to send at
-/// least one is sent in each run without a stop. So a byte with i before it in its direction is through within i + 1 such
-/// runs, whatever arrives meanwhile.
+/// to send and flow control does not stop it. No turn has to come first if the driver read IIR until nothing was
+/// pending, and IER enables RDA. Each run reads out at least one of the bytes held at first, in order, and each run
+/// without a stop sends at least one of the bytes left to send. So a byte that has i bytes before it in its direction
+/// is through within i + 1 such runs, whatever arrives meanwhile.
 pub fn each_byte_is_through()
     ensures { EachByteIsThroughLaw }
 {
@@ -132,14 +134,14 @@ pub fn each_byte_is_through()
 }
 
 /// The encoding of a console passes each check of a load, and states that have the same encoding are one state. So a
-/// console that is saved and loaded answers any later calls alike.
+/// console that is saved and loaded answers any later calls as the saved one would have.
 pub fn saving()
     ensures passes { ConsoleEncodingLaw }
     ensures one_state { OneConsoleStateLaw }
 {}
 
-/// Laws whose lemmas the prover's search does not apply. The functions above that state these laws call this one, whose
-/// answers cite the lemmas.
+/// The prover's search does not apply the lemmas of these laws. So the functions above that state them call this one,
+/// and its answers cite the lemmas.
 fn by_lemmas()
     ensures wakes { WakeLaw }
     ensures no_needless { NoNeedlessWakeLaw }

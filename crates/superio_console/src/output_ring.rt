@@ -19,7 +19,7 @@ pub struct OutputRing {
     pub head: u16,
     /// How many bytes wait.
     pub len: u16,
-    /// The bytes. The first place follows the last.
+    /// The places of the ring. The first place follows the last.
     pub bytes: [u8; 4096],
 }
 
@@ -106,7 +106,7 @@ impl OutputRing {
         (&to_end[..older], &from_start[..waiting - older])
     }
 
-    /// The oldest bytes, as many as lie together: some, if any wait.
+    /// The oldest bytes, up to the last place. There are none only if no byte waits.
     pub(crate) fn oldest(&self) -> &[u8]
         ensures first { result.now ≡ take (length result.now) (waiting_in self.now) }
         ensures bound { length result.now ≤ length (waiting_in self.now) }

@@ -1,9 +1,16 @@
 // SPDX-License-Identifier: Apache-2.0 OR BSD-3-Clause
 //! A saved console as bytes.
 //!
-//! It is a header of eight bytes, as of each saved device; the four flags in one byte; the number of dropped bytes in
-//! eight; the number of bytes of output that wait in two, and these bytes; and then the port, as
-//! [`Uart::to_bytes`](superio_core::Uart) writes it. Numbers are little-endian.
+//! Its parts are, in order:
+//!
+//! - a header of eight bytes, which each saved device has,
+//! - the four flags in one byte,
+//! - the number of dropped bytes in eight bytes,
+//! - the number of bytes of output that wait, in two bytes,
+//! - these bytes of output, and
+//! - the port, as [`Uart::to_bytes`](superio_core::Uart) writes it.
+//!
+//! Numbers are little-endian.
 ghost use Rattle.std.specs.Prelude.{◌≡◌, ◌<◌, ◌≤◌, ◌+◌, ◌^◌, ◌==◌, ◌∷◌, ◌++◌, List, ℕ, not, length, take, drop, Some, IfOk, IfErr, nat_eq};
 ghost use Rattle.std.specs.Cmp.{on_equiv, on_per, partial_equiv_from_equiv};
 ghost use Rattle.std.specs.Cmp.Lexicographic.{pointwise, nat_list_eq_equiv};
@@ -34,7 +41,7 @@ pub(super) const REFUSED_BIT: u8 = 0x08;
 
 const ALL_BITS: u8 = 0x0F;
 
-/// Two consoles are equal if their saved states are: then each later call answers alike.
+/// Two consoles are equal if their saved states are equal. Any later calls then answer alike.
 impl PartialEq for Console {
     ghost eq = { λ a b. pointwise nat_eq (console_encoding (state_of a)) (console_encoding (state_of b)) };
 
@@ -104,7 +111,7 @@ impl Console {
     }
 }
 
-/// A bit, if a flag is set.
+/// The bit if the flag is set, and otherwise 0.
 fn bit_if(flag: u8, bit: u8) -> u8
     ensures { result ≡ bit_if (not (flag == 0)) bit }
 {
@@ -116,7 +123,7 @@ fn bit_if(flag: u8, bit: u8) -> u8
 ///
 /// # Errors
 ///
-/// Those of [`Console::from_bytes`], except for what [`Uart::from_bytes`] finds.
+/// Returns the errors of [`Console::from_bytes`], except for what [`Uart::from_bytes`] finds in the port.
 pub(super) fn decode_console(bytes: &[u8]) -> Result<(u8, u64, &[u8], &[u8]), SavedStateError>
     ensures encoding { IfOk result (λ found. bytes.now ≡ encoding console_kind
         (found.0 ∷ to_le_bytes w64 found.1 ++ to_le_bytes w16 (length found.2.now) ++ found.2.now ++ found.3.now)) }
@@ -143,7 +150,7 @@ pub(super) fn decode_console(bytes: &[u8]) -> Result<(u8, u64, &[u8], &[u8]), Sa
     }
 }
 
-/// Writes `part` behind the first `count` bytes, and returns how many bytes come first then.
+/// Writes `part` after the first `count` bytes, and returns how many bytes there are then.
 pub(super) fn append(bytes: &mut [u8], count: usize, part: &[u8]) -> usize
     requires { count + length part.now ≤ length bytes.old }
     ensures count { result ≡ count + length part.now }

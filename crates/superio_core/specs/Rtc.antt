@@ -83,7 +83,7 @@ clock_register_read Icr guest state = None
 clock_register_read (Id byte) guest state = Some byte
 clock_register_read Reserved guest state = None
 
--- the four bytes that a read leaves: the number that it shows, lowest byte first, otherwise those that were there
+-- the four bytes that a read leaves: the number that it shows, lowest byte first, or else the bytes that were there
 abbrev pub bytes_left : (response : Option ℕ) (bytes : List ℕ) → List ℕ
 bytes_left (Some number) bytes = to_le_bytes w32 number
 bytes_left None bytes = bytes
@@ -107,7 +107,8 @@ state_of_clock clock = record {
 abbrev pub guest_time_in : (state : RtcState) (time : ℕ) → ℕ
 guest_time_in state time = guest_time (pos time +ℤ state.offset) time
 
--- a match write sets an alarm if guest time has still to reach the value, and raises at once if it is the value
+-- a match write sets an alarm if guest time has yet to reach the value. If guest time is the value, it raises the
+-- interrupt at once
 abbrev pub match_write : (state : RtcState) (value time : ℕ) → RtcState
 match_write state value time =
     let guest = guest_time_in state time in

@@ -73,8 +73,8 @@ numbers_in bytes = record {
 
 -- ---- the checks of bytes that are read as a saved state, in order: the first that fails is the error
 
--- there is a header; it has the magic, the kind of this device and the version of this encoding; and its length
--- is that of what follows
+-- there is a header; it has the magic, the kind of this device and the version of this encoding; and its length is the
+-- number of bytes after it
 abbrev pub header_fault : (kind : ℕ) (bytes : List ℕ) → Option SavedStateError
 header_fault kind (m0 ∷ m1 ∷ m2 ∷ m3 ∷ its_kind ∷ its_version ∷ low ∷ high ∷ contents) =
     if not (bytes_eq (m0 ∷ m1 ∷ m2 ∷ m3 ∷ []) magic) then Some NotASavedState
@@ -124,8 +124,8 @@ pub record IsClock (state : RtcState) : Type 0 where
   pub ris : state.ris < 2 ^ 32
   pub offset : FitsSigned w64 state.offset
 
--- the encoding of a port that holds at most 64 bytes passes each check, whatever its registers hold. So does that of a
--- clock
+-- the encoding of a port that holds at most 64 bytes passes each check, whatever its registers hold. So does the
+-- encoding of a clock
 abbrev pub SerialEncodingLaw : Type 0
 SerialEncodingLaw = (state : State) → length state.in_buffer ≤ 64 → serial_fault (serial_encoding state) ≡ None
 

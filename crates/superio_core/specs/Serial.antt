@@ -90,11 +90,11 @@ abbrev pub is_asserted : (condition : Condition) (s : State) → Bool
 is_asserted condition s =
     has_bits s.interrupt_identification (iir_bit condition) && has_bits s.interrupt_enable (ier_bit condition)
 
--- the line, as a 16550 drives it: up while such a condition is there
+-- the line, as a 16550 drives it: it is up while a condition is pending and enabled
 abbrev pub irq_level : (s : State) → Bool
 irq_level s = is_asserted Thre s || is_asserted Rda s
 
--- one call for each such condition, as long as none is refused: THRE first
+-- the trigger calls of a restore: one for each such condition, THRE first, as long as none is refused
 abbrev pub conditions_due : (s : State) → List Condition
 conditions_due s = pending_in_order (is_asserted Thre s) (is_asserted Rda s)
 
@@ -110,7 +110,7 @@ register_bytes s =
     s.baud_divisor_low ∷ s.baud_divisor_high ∷ s.interrupt_enable ∷ s.interrupt_identification ∷ s.line_control
     ∷ s.line_status ∷ s.modem_control ∷ s.modem_status ∷ s.scratch ∷ []
 
--- the state with these bytes: those of the registers, and then the received ones
+-- the state with these bytes: first the registers' bytes, and then the received ones
 abbrev pub state_of_bytes : (bytes : List ℕ) → State
 state_of_bytes bytes = record {
   baud_divisor_low = slice_index bytes 0;
@@ -131,20 +131,20 @@ state_of_bytes bytes = record {
 abbrev pub ring_from : (head : ℕ) (bytes : List ℕ) → List ℕ
 ring_from head bytes = drop (head % 64) bytes ++ take (head % 64) bytes
 
--- the bytes that are held, oldest first: as many of these places as are held, and at most 64
+-- the bytes that are held, oldest first: the first `len` of these places, at most 64
 abbrev pub ring_contents : (fifo : ArrayFifo) → List ℕ
 ring_contents fifo = take (min fifo.len 64) (ring_from fifo.head fifo.bytes)
 
 -- ---- the state of a port
 
--- the registers and the bytes in the places; any struct has one
+-- the state that the registers and the bytes in the places make; any struct has one
 abbrev pub state_of_uart : (port : Uart) → State
 state_of_uart port = state_with port.registers (ring_contents port.in_buffer)
 
 -- ---- what every step keeps
 
 -- IIR shows which of THRE and RDA are pending; RDA is pending only while a received byte is held; data ready is set
--- exactly while one is; at most 64 are. The other fields are free
+-- exactly while one is held; at most 64 are held. The other fields are free
 pub record Coherent (s : State) : Type 0 where
   pub thre : Bool
   pub rda : Bool

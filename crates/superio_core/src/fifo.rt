@@ -38,7 +38,7 @@ pub trait RxFifo {
         ensures added { held self.new ≡ held self.old ++ take (64 - length (held self.old)) (byte ∷ []) }
         ensures len_in_range { len_in_range self.old → len_in_range self.new };
 
-    /// Adds as many of these bytes as fit, first ones first, and returns how many.
+    /// Adds the first of these bytes, as many as fit, and returns how many it added.
     fn fill(&mut self, bytes: &[u8]) -> usize
         ensures count { result ≡ length (take (64 - length (held self.old)) bytes.now) }
         ensures added { held self.new ≡ held self.old ++ take (64 - length (held self.old)) bytes.now }
@@ -55,7 +55,7 @@ pub struct ArrayFifo {
     pub head: u8,
     /// How many bytes are held.
     pub len: u8,
-    /// The bytes. The first place follows the last.
+    /// The places of the ring. The first place follows the last.
     pub bytes: [u8; 64],
 }
 
@@ -116,7 +116,8 @@ impl ArrayFifo {
         }
     }
 
-    /// Puts these bytes into the places after the first `held`: those up to the last place, and then the others.
+    /// Puts these bytes into the places after the first `held`: first up to the last place, and then from the first
+    /// place on.
     #[inline(never)]
     fn put_all(&mut self, held: usize, bytes: &[u8])
         requires { held + length bytes.now ≤ 64 }
@@ -131,7 +132,7 @@ impl ArrayFifo {
         self.copy_in(held + to_end.len(), from_start);
     }
 
-    /// Copies these bytes into the places after the first `held`. The last of them is no later than the last place.
+    /// Copies these bytes into the places after the first `held`, none of them past the last place.
     #[inline(always)]
     fn copy_in(&mut self, held: usize, bytes: &[u8])
         requires room { held + length bytes.now ≤ 64 }

@@ -1,6 +1,6 @@
 // SPDX-License-Identifier: Apache-2.0 OR BSD-3-Clause
 //! The devices of a virtual machine monitor without I/O (sans-I/O): a call changes a device and returns what is left to
-//! do. No object, no heap, no dependency.
+//! do. The devices hold no objects, use no heap and have no dependencies.
 //!
 //! ```text
 //! let mut port = Uart::new();

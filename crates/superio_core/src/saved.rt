@@ -26,19 +26,19 @@ pub(crate) const CLOCK_KIND: u8 = 2;
 /// The kind of the console, a serial port with the monitor's end of its line.
 pub const CONSOLE_KIND: u8 = 3;
 
-/// Why bytes were not read. They are checked in the order of the cases; the first check that fails is the error. A
-/// console's own bytes come first, and then those of its port.
+/// Why bytes were refused. The checks are made in the order of these cases, and the first one that fails is the error.
+/// A console's own bytes are checked first, and then its port's bytes.
 #[derive(Clone, Copy, Debug, Eq, PartialEq)]
 pub enum SavedStateError {
-    /// Fewer bytes than a header.
+    /// There are fewer than eight bytes, the length of a header.
     TooShort,
-    /// The bytes do not begin with the magic.
+    /// The bytes do not begin with `SIOS`.
     NotASavedState,
     /// The state belongs to another device.
     OtherDevice,
     /// The encoding has this version, which is not 1.
     UnknownVersion(u8),
-    /// The length in the header is not that of the rest, or it is too small or too large for the device.
+    /// The length in the header is not the number of bytes after it, or it is too small or too large for the device.
     WrongLength,
     /// The port would hold more than 64 received bytes.
     TooManyBytes,
@@ -48,7 +48,7 @@ pub enum SavedStateError {
     InvalidFlags,
 }
 
-/// The header of a state of this kind, before `length` bytes.
+/// The header of a state of this kind that has `length` bytes after it.
 pub fn header(kind: u8, length: u16) -> [u8; 8]
     ensures { result ≡ header kind length }
 {
@@ -57,12 +57,13 @@ pub fn header(kind: u8, length: u16) -> [u8; 8]
     [m0, m1, m2, m3, kind, VERSION, low, high]
 }
 
-/// The bytes after the header of a state of this kind.
+/// Returns the bytes after the header of a state of this kind.
 ///
 /// # Errors
 ///
-/// The first header check that fails: [`SavedStateError::TooShort`], [`SavedStateError::NotASavedState`],
-/// [`SavedStateError::OtherDevice`], [`SavedStateError::UnknownVersion`] or [`SavedStateError::WrongLength`].
+/// Returns the first check of the header that fails: [`SavedStateError::TooShort`],
+/// [`SavedStateError::NotASavedState`], [`SavedStateError::OtherDevice`], [`SavedStateError::UnknownVersion`] or
+/// [`SavedStateError::WrongLength`].
 pub fn decode_header(kind: u8, bytes: &[u8]) -> Result<&[u8], SavedStateError>
     ensures encoding { IfOk result (λ contents. bytes.now ≡ encoding kind contents.now) }
     ensures fault { result_err result ≡ header_fault kind bytes.now }

@@ -15,13 +15,13 @@ use Rattle.superio_examples.specs.declared.bus.BusError.TheVariants.{Serial, Res
 abbrev pub serial_offset : (base port : ℕ) → Option ℕ
 serial_offset base port = if nat_le base port && nat_lt port (base + 8) then Some (port - base) else None
 
--- what a read of the controller's two ports shows: 0 of a keyboard that never answers. Otherwise bit 0x01, output full,
--- and not bit 0x02, input full
+-- what a read of the controller's two ports shows: 0 if the keyboard never answers. Otherwise bit 0x01, output full, is
+-- set, and bit 0x02, input full, is clear
 abbrev pub controller_byte : (keyboard : Keyboard) → ℕ
 controller_byte Keyboard.Silent = 0
 controller_byte Keyboard.Absent = 0xFD
 
--- what a read at a port shows that is not the serial port's: the controller's are for data and commands
+-- what a read shows at a port that is not the serial port's. The controller has a port for data and one for commands
 abbrev pub other_byte : (keyboard : Keyboard) (port : ℕ) → ℕ
 other_byte keyboard port = if (port == 0x60) || (port == 0x64) then controller_byte keyboard else 0xFF
 
@@ -39,7 +39,7 @@ next_port port = (port + 1) % 0x10000
 
 module _ {T E EV W R F : Type 0} (trigger : Link T (TriggerAnswer E)) (events : Link EV Event) (contents : Contents W)
     (reset : Link R (TriggerAnswer F)) where
-  -- a byte is read: by the serial port, or without a change
+  -- a byte is read from the serial port, or without a change
   abbrev pub ReadsAt : (offset : Option ℕ) (port byte : ℕ) (old new : Bus T EV W R E F) → Type 0
   ReadsAt (Some offset) port byte old new =
       IsSerialRead trigger events contents offset byte old.serial new.serial
@@ -69,7 +69,7 @@ module _ {T E EV W R F : Type 0} (trigger : Link T (TriggerAnswer E)) (events : 
   ForwardsReset (Err (Reset refusal)) old new = reset old (Err refusal ∷ []) new
   ForwardsReset (Err (Serial error)) old new = ⊥
 
-  -- a byte is written: to the serial port, as the reset command, or without a change
+  -- a byte is written to the serial port, as the reset command, or without a change
   abbrev pub WritesAt :
       (offset : Option ℕ) (port value : ℕ) (result : Result (Unit {0}) (BusError E F)) (old new : Bus T EV W R E F)
       → Type 0

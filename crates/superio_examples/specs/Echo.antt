@@ -15,6 +15,6 @@ pub record IsOpen (s : State) : Type 0 where
 abbrev pub held : (port : Uart) → List ℕ
 held port = (state_of_uart port).in_buffer
 
--- its IIR
+-- the IIR of the port
 abbrev pub pending : (port : Uart) → ℕ
 pending port = (state_of_uart port).interrupt_identification

@@ -5,7 +5,7 @@ use Rattle.vm_superio.specs.Links.{Link}
 use Rattle.vm_superio.specs.Rtc.{RtcEvent, invalid_read, invalid_write, ClockDevice, clock_events}
 use Rattle.superio_laws.specs.Rtc.{read, write_of, host_time, bytes_left, after_alarm, clock_response, clock_step}
 
--- in the 4096 bytes from `base` on
+-- an address is in the 4,096 bytes from `base` on
 abbrev pub is_inside : (base address : ℕ) → Bool
 is_inside base address = nat_le base address && nat_lt address (base + 0x1000)
 

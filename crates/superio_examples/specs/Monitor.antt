@@ -43,7 +43,7 @@ abbrev pub asks_reset : (event : MachineEvent) → Bool
 asks_reset (PortWrite port value) = is_reset_command port value
 asks_reset _ = false
 
--- the console at COM1. A reset is for its port alone: the clock goes on
+-- the call that an event makes to the console at COM1. A reset is for the port alone: the clock goes on
 abbrev pub call_of : (event : MachineEvent) → Option Call
 call_of (PortRead port) = option_map Reads (serial_offset 0x3F8 port)
 call_of (PortWrite port value) =
@@ -56,7 +56,7 @@ call_of Refused = Some Refuses
 call_of Suspended = Some Suspends
 call_of _ = None
 
--- the clock, in a window of memory. A timer reads RTCMIS
+-- the offset of the clock at an address of its window in memory. A timer reads RTCMIS
 abbrev pub clock_offset : (address : ℕ) → Option ℕ
 clock_offset address = if is_inside 0x09010000 address then Some (address - 0x09010000) else None
 
@@ -121,7 +121,7 @@ reply_to event m = record {
   clock_line = rtc_irq_level (clock_after event m);
 }
 
--- an event: what it answers, what it leaves to do, and what becomes of the machine
+-- an event, with what it answers, what it leaves to do, and what becomes of the machine
 pub record Acts (event : MachineEvent) (answered : Answer) (left : Work) (old new : Machine) : Type 0 where
   pub answer : answered ≡ answer_to event old
   pub work : left ≡ work_by event old
@@ -168,18 +168,18 @@ accepted (event ∷ events) (reply ∷ replies) = accepted_by event reply.answer
 accepted _ _ = []
 
 -- the input that was accepted, and the bytes that the guest looped back, arrived in order, behind those that were held.
--- What left the FIFO, by reads or a reset, then what is held, are these bytes
+-- What left the FIFO, by reads or a reset, followed by what is held, are these bytes
 abbrev pub InputInOrder : (events : List MachineEvent) (replies : List MachineReply) (old new : Machine) → Type 0
 InputInOrder events replies old new =
     KeepsInput (in_each left_at (calls_of events) old.console) (accepted events replies)
     (in_each looped_at (calls_of events) old.console) old.console new.console
 
--- a call after which input may go in: a write of IER as a driver makes it that is ready, the monitor's word that the
--- guest polls, or a reset of a guest that polls
+-- a call after which input may go in: a ready driver's write of IER, the monitor's word that the guest polls, or a
+-- reset of a guest that polls
 abbrev pub may_open : (call : Call) (c : ConsoleState) → Bool
 may_open call c = is_ready_write call c || lets_poll call c || (is_reset call c && c.is_polled)
 
--- before such a call none is accepted, if none may go in at first
+-- no byte is accepted before such a call, if none may go in at first
 abbrev pub KeepsOut : (events : List MachineEvent) (replies : List MachineReply) (old : Machine) → Type 0
 KeepsOut events replies old =
     is_open old.console ≡ false → in_one may_open (calls_of events) old.console ≡ false → accepted events replies ≡ []
@@ -191,7 +191,8 @@ kept_at call c = if finds_no_room call c then [] else sent_at call c
 abbrev pub dropped_at : (call : Call) (c : ConsoleState) → List ℕ
 dropped_at call c = if finds_no_room call c then sent_at call c else []
 
--- what sinks took, then what waits, is what waited, then what was kept. What was dropped is counted, up to 2^64 - 1
+-- what sinks took, followed by what waits, is what waited, followed by what was kept. What was dropped is counted, up
+-- to 2^64 - 1
 pub record KeepsOutput (calls : List Call) (old new : ConsoleState) : Type 0 where
   pub in_order : in_each taken_at calls old ++ new.output ≡ old.output ++ in_each kept_at calls old
   pub counted : new.dropped ≡ min (old.dropped + length (in_each dropped_at calls old)) (2 ^ 64 - 1)

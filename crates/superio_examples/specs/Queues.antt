@@ -53,8 +53,8 @@ IsSplit (byte ∷ all) kept dropped =
     ((others : List ℕ) × (kept ≡ byte ∷ others) × IsSplit all others dropped)
     ⊎ ((others : List ℕ) × (dropped ≡ byte ∷ others) × IsSplit all kept others)
 
--- the bytes that were sent are kept or dropped. What sinks took, then what waits, is what waited at the start, then the
--- bytes kept. The bytes dropped are counted
+-- the bytes that were sent are kept or dropped. What sinks took, followed by what waits, is what waited at the start,
+-- followed by the bytes kept. The bytes dropped are counted
 pub record IsInOrder (turns : List Turn) (output : Waiting) : Type 0 where
   pub kept : List ℕ
   pub dropped : List ℕ

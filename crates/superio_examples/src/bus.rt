@@ -24,16 +24,16 @@ const SERIAL_PORTS: u16 = 8;
 /// The controller's data port.
 pub(crate) const I8042_DATA: u16 = 0x60;
 
-/// The controller's command port. On a PC, those in between are not its own: 0x61 is system control port B.
+/// The controller's command port. On a PC, the ports between the two belong to others: 0x61 is system control port B.
 pub(crate) const I8042_COMMAND: u16 = 0x64;
 
 /// What a guest reads at the controller's two ports. The reset command works with either.
 #[derive(Clone, Copy)]
 pub enum Keyboard {
-    /// 0, as the controller gives: a keyboard that never answers. Linux waits for it half a second.
+    /// Reads give 0, as the controller's do: the keyboard never answers. Linux waits half a second for an answer.
     Silent,
-    /// 0xFD. Bit 0x01 of the status never clears, so Linux finds no controller after 17 reads. Bit 0x02 is clear, or it
-    /// would read the status 65,536 times before the reset command, as it does with 0xFF.
+    /// Reads give 0xFD. Bit 0x01 of the status never clears, so Linux finds no controller after 17 reads. Bit 0x02 is
+    /// clear: otherwise Linux would read the status 65,536 times before the reset command, as it does with 0xFF.
     Absent,
 }
 
@@ -154,7 +154,7 @@ fn is_width(length: usize) -> bool
     matches!(length, 1 | 2 | 4)
 }
 
-/// The offset of a port at a serial port that begins at `base`, if it is one of its ports.
+/// The offset of `port` from `base`, if it is one of the eight ports of a serial port that begins there.
 pub(crate) fn serial_offset(base: u16, port: u16) -> Option<u8>
     ensures { result ≡ serial_offset base port }
 {

@@ -92,7 +92,8 @@ fn finds_interrupt(port: &mut Uart) -> bool
 }
 
 /// The handler: reads IIR until nothing is pending, and echoes at most `bound` bytes after each read that shows an
-/// interrupt. As nothing is pending then, the monitor makes a character timeout. Returns how often it interrupts.
+/// interrupt. Since nothing is pending then, the monitor makes a character timeout. Returns how often the timeout asks
+/// for the interrupt.
 fn run_handler(port: &mut Uart, bound: usize, output: &mut Vec<u8>) -> Result<u8, AllocError>
     requires coherent { CoherentUart port.old }
     requires open { IsOpen (state_of_uart port.old) }
@@ -135,7 +136,7 @@ fn serve(port: &mut Uart, bound: usize, asked: u8, output: &mut Vec<u8>) -> Resu
     Ok(())
 }
 
-/// A piece of input comes, and the driver echoes it. Returns how many of its bytes there was room for.
+/// A piece of input comes, and the driver echoes it. Returns how many of its bytes fit.
 fn echo_piece(
     port: &mut Uart,
     bound: usize,
@@ -159,7 +160,7 @@ fn echo_piece(
     Ok(enqueued.accepted)
 }
 
-/// All input comes: first in pieces of at most these sizes, and then as much at a time as there is room for.
+/// All input comes: first in pieces of at most these sizes, and then as much at a time as fits.
 #[tactic(auto)]
 fn echo_input(
     port: &mut Uart,
@@ -191,8 +192,9 @@ fn echo_input(
     Ok(())
 }
 
-/// A guest opens a new port, and echoes the input, which comes in pieces of at most these sizes and then as there is
-/// room. Its handler takes at most `bound` bytes at each interrupt. Returns what it sent: exactly the input, in order.
+/// A guest opens a new port, and echoes the input, which comes first in pieces of at most these sizes, and then as much
+/// at a time as fits. Its handler takes at most `bound` bytes at each interrupt. Returns what it sent: exactly the
+/// input, in order.
 ///
 /// # Errors
 ///

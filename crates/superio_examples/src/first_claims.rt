@@ -1,7 +1,7 @@
 // SPDX-License-Identifier: Apache-2.0 OR BSD-3-Clause
 //! First claims about the devices. Each states one sentence as a contract, and the calls and their contracts are its
 //! proof; `read_all` also has an invariant. Copy the one that is nearest to yours. A function with a plain
-//! `#[tactic(auto)]` opens no bit.
+//! `#[tactic(auto)]` does not look into bits.
 #![tactic(auto, unfolding(superio_core::specs::Bits::has_bits, superio_core::specs::Bits::only_bits, superio_core::specs::Bits::with_bits))]
 
 ghost use Rattle.std.specs.Prelude.{◌≡◌, ◌+◌, ◌-◌, ◌<◌, ◌^◌, [], ◌∷◌, ◌++◌, take, length, true, false, IsTrue, IfOk, IfErr, OnOk};
@@ -91,7 +91,8 @@ pub fn refused_keeps_bytes<T: Trigger, EV: SerialEvents, W: Write>(
 
 // ---- sent bytes
 
-/// `Ok` of a THR write says that the writer took the byte, and nothing else, whatever writer of known contents it is.
+/// `Ok` of a THR write says that the writer took this byte and nothing else. This holds for any writer of known
+/// contents.
 pub fn sent_is_appended<T: Trigger, EV: SerialEvents, W: Write>(
     serial: &mut Serial<T, EV, W>,
     byte: u8,
@@ -168,7 +169,7 @@ pub fn read_acknowledges<T: Trigger, EV: SerialEvents, W: Write>(
     serial.read(2)
 }
 
-/// After a character timeout IIR shows received data to a guest that wants to hear of the bytes that it left.
+/// After a character timeout, IIR shows received data if bytes are held and IER enables the interrupt for them.
 pub fn timeout_shows_data<T: Trigger, EV: SerialEvents, W: Write>(
     serial: &mut Serial<T, EV, W>,
 ) -> u8
@@ -199,7 +200,7 @@ pub fn timeout_cannot_fail<T: Trigger<E = Infallible>, EV: SerialEvents, W: Writ
     serial.character_timeout()
 }
 
-/// Nor can a write at any offset but 0, which sends no byte.
+/// If the trigger never refuses, a write at an offset above 0 cannot fail either, since it sends no byte.
 pub fn setting_cannot_fail<T: Trigger<E = Infallible>, EV: SerialEvents, W: Write>(
     serial: &mut Serial<T, EV, W>,
     setting: u8,
@@ -286,7 +287,7 @@ pub fn alarm_raises_line<EV: RtcEvents>(
 
 // ---- from a new port
 
-/// A guest reads back the input of a new port, as far as there is room for it.
+/// A guest reads back the input of a new port, as much of it as fits.
 #[tactic(auto, unfolding(superio_core::specs::Bits::has_bits))]
 pub fn read_back<T: Trigger + Drop, W: Write + Drop>(
     alloc: Global,

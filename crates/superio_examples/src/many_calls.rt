@@ -27,8 +27,9 @@ pub enum Access {
     Write(u8, u8),
 }
 
-/// Makes the accesses in order, whatever the calls answer. However many they are, at most two more interrupts wait, two
-/// more for each read of IIR, and one more for each read at offset 0. LSR goes on showing the transmitter as it was.
+/// Makes the accesses in order, whatever the calls answer. However many there are, the number of interrupts that wait
+/// grows by at most two, plus two for each read of IIR and one for each read at offset 0. LSR shows the transmitter as
+/// before.
 pub fn make_all<EV: SerialEvents, W: Write>(
     serial: &mut Serial<InterruptLine, EV, W>,
     accesses: &[Access],
@@ -42,7 +43,8 @@ pub fn make_all<EV: SerialEvents, W: Write>(
     }
 }
 
-/// Makes an access: what becomes pending and was not acknowledged bounds the interrupts that wait.
+/// Makes an access. The conditions that become pending and are not acknowledged bound the number of interrupts that
+/// wait.
 fn make_one<EV: SerialEvents, W: Write>(serial: &mut Serial<InterruptLine, EV, W>, access: Access)
     ensures interrupts { serial.new.trigger.waiting + pending_count serial.old.state
         ≤ serial.old.trigger.waiting + pending_count serial.new.state + acknowledged_by access }
@@ -58,8 +60,9 @@ fn make_one<EV: SerialEvents, W: Write>(serial: &mut Serial<InterruptLine, EV, W
     }
 }
 
-/// Makes the calls by `run`. What a guest reads of the FIFO, then what is held, is what was held, then what came in.
-/// The trigger is called at most twice, and once for each condition that a read acknowledges; restores do not count.
+/// Makes the calls by `run`. What a guest reads from the FIFO, followed by what is held, is what was held, followed by
+/// what came in. The trigger is called at most twice, plus once for each condition that a read acknowledges; restores
+/// do not count.
 pub fn make_by_run<T: Trigger + Drop, EV: SerialEvents + Drop, W: Write + Drop>(
     alloc: Global,
     serial: &mut Serial<T, EV, W>,

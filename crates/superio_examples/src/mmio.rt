@@ -8,15 +8,15 @@ ghost use Rattle.superio_examples.specs.Mmio.{ReadsClock, WritesClock, IsInvalid
 use vm_superio::Rtc;
 use vm_superio::rtc_pl031::RtcEvents;
 
-/// The length of the window, as of a PL031.
+/// The length of the window, the same as a PL031's.
 const LENGTH: u64 = 0x1000;
 
-/// An offset between two registers. There an access is invalid, and changes no register.
+/// An offset between two registers. An access there is invalid, and changes no register.
 const NO_REGISTER: u16 = 0x021;
 
 /// A clock whose window begins at `base`. A guest reaches its registers by accesses of four bytes. A read of one or two
 /// bytes gives that part of the register around it, as EDK II reads the identification. Any other access in the window
-/// is invalid, a narrow write too, and the clock reports it as such.
+/// is invalid, even a narrow write, and the clock reports it as such.
 ///
 /// You pass each access its moment, in seconds since 1970, by the host's clock. If a guest migrates, the clocks of both
 /// hosts must agree.
@@ -29,7 +29,7 @@ pub struct ClockWindow<EV: RtcEvents> {
 impl<EV: RtcEvents> ClockWindow<EV> {
     /// Reads at `address`, as the guest does at the moment `now`. Clears the bytes first, so an invalid read gives
     /// zeros, and nothing of the monitor's memory. A read of another length, or of two bytes that lie in two registers,
-    /// is invalid. One outside the window gives zeros too, and changes nothing.
+    /// is invalid. A read outside the window gives zeros too, and changes nothing.
     pub fn read(&mut self, address: u64, bytes: &mut [u8], now: u64)
         ensures clock { OnTrue (is_read self.old.base address (length bytes.old))
             (ReadsClock EV.link (address - self.old.base) now bytes.new self.old.clock self.new.clock) }
@@ -59,8 +59,8 @@ impl<EV: RtcEvents> ClockWindow<EV> {
         }
     }
 
-    /// Writes at `address`, as the guest does at the moment `now`. A write of another length than four is invalid. One
-    /// outside the window changes nothing.
+    /// Writes at `address`, as the guest does at the moment `now`. A write in the window is invalid unless its length
+    /// is four. A write outside the window changes nothing.
     pub fn write(&mut self, address: u64, bytes: &[u8], now: u64)
         ensures clock { OnTrue (is_write self.old.base address (length bytes.now))
             (WritesClock EV.link (address - self.old.base) bytes.now now self.old.clock self.new.clock) }

@@ -112,16 +112,16 @@ impl Monitor {
         ensures replies { IfOk result (λ replies. replies.items ≡ replies_to events.now (machine_of self.old)) }
         ensures machine { OnOk result (machine_of self.new ≡ after_events events.now (machine_of self.old)) }
         ensures refused { OnErr result (self.new ≡ self.old) }
-        // The sinks got the bytes that the guest wrote to THR outside loopback, in order. Those that found 4,096 waiting
-        // were dropped and counted.
+        // The sinks got the bytes that the guest wrote to THR outside loopback, in order. The bytes that found 4,096
+        // waiting were dropped and counted.
         ensures output { OnOk result (OutputInOrder events.now (machine_of self.old) (machine_of self.new)) }
         // A reset is asked for exactly where 0xFE is written at port 0x64.
         ensures resets { IfOk result (λ replies. map is_reset_reply replies.items ≡ map asks_reset events.now) }
-        // While the guest's driver is not ready, and the guest does not poll, and while it sleeps, each typed byte is
-        // answered `Full`.
+        // Each typed byte is answered `Full` while the guest sleeps, and while its driver is not ready and it does not
+        // poll.
         ensures gate { IfOk result (λ replies. KeepsOut events.now replies.items (machine_of self.old)) }
-        // The guest got each typed byte that was not answered `Full`, in order, but those that a reset lost and those
-        // that the port holds.
+        // The guest got each typed byte that was not answered `Full`, in order, except those that a reset lost and
+        // those that the port holds.
         ensures input { IfOk result (λ replies.
             InputInOrder events.now replies.items (machine_of self.old) (machine_of self.new)) }
     {
@@ -248,7 +248,7 @@ impl Monitor {
         }
     }
 
-    /// A law, for a guest whose driver keeps the conditions of `superio_laws::console_driver`: no byte waits for ever, in
+    /// A law: if a guest's driver keeps the conditions of `superio_laws::console_driver`, no byte waits for ever, in
     /// either direction, as [`superio_console::laws::each_byte_is_through`] says.
     pub fn each_byte_is_through()
         ensures { EachByteIsThrough }

@@ -14,9 +14,9 @@ use std::marker::Model;
 /// The bytes that wait for the monitor's sink, oldest first, in a ring. Their number is limited, and `new` allocates
 /// the memory for this limit. A byte that finds no room is dropped, and counted.
 ///
-/// The monitor of a port without I/O passes each byte that the guest sends to [`OutputQueue::push`]. An `OutputQueue` may
-/// also be a port's own writer. Then the guest's write returns an I/O error of the kind `WriteZero` for a byte that is dropped, which the
-/// monitor can log, and no contract says what the output holds after an I/O error.
+/// The monitor of a port without I/O passes each byte that the guest sends to [`OutputQueue::push`]. An `OutputQueue`
+/// may also be a port's own writer. Then a guest's write of a byte that is dropped returns an I/O error of the kind
+/// `WriteZero`, which the monitor can log. No contract says what the output holds after an I/O error.
 #[derive(Drop)]
 pub struct OutputQueue {
     ring: HeapCircularBuffer<u8>,
@@ -132,8 +132,8 @@ impl OutputQueue {
 impl Write for OutputQueue {
     ghost contents = { λ output. Some output.items };
 
-    /// Takes the first of these bytes, as many as there is room for, and returns how many. If there is room for none,
-    /// it drops and counts all of them: a caller such as `write_all` gives up then.
+    /// Takes the first of these bytes, as many as fit, and returns how many. If none fits, it drops and counts all of
+    /// them, because a caller such as `write_all` gives up then.
     fn write(&mut self, buf: &[u8]) -> io::Result<usize>
         ensures bound { WritesAtMost result buf.now }
         ensures bytes { WriteAppends (Some self.old.items) (Some self.new.items) result buf.now }
@@ -159,8 +159,8 @@ impl Write for OutputQueue {
 }
 
 /// A law, for proofs about many calls: a guest sends bytes, by `push`, and sinks take them, by `drain_into`, in any
-/// order. What sinks took, then what waits, is what waited at the start, then what the guest sent, in order, without
-/// the bytes that were dropped. The count has grown by the number of these, up to 2^64 - 1.
+/// order. What sinks took, followed by what waits, is what waited at the start, followed by what the guest sent, in
+/// order, without the bytes that were dropped. The count has grown by the number of dropped bytes, up to 2^64 - 1.
 #[tactic(auto, using(crate::proofs::QueueLemmas::output_law))]
 pub fn in_order()
     ensures { OutputLaw }

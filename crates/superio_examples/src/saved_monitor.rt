@@ -1,5 +1,5 @@
 // SPDX-License-Identifier: Apache-2.0 OR BSD-3-Clause
-//! A monitor as plain data: it goes on from there on another machine, as if nothing had happened.
+//! A monitor as plain data. Restored on another machine, it goes on as if nothing had happened.
 //!
 //! The clocks of both hosts must agree, since the clock keeps only the difference between guest time and host time.
 ghost use Rattle.std.specs.Prelude.{◌≡◌, IfOk, IfErr};
@@ -53,7 +53,7 @@ pub fn save_monitor(alloc: Global, monitor: &Monitor) -> Result<SavedMonitor, Al
 ///
 /// # Errors
 ///
-/// Returns the first check that fails, of the clock's bytes and then of the console's.
+/// Returns the first check that fails. The clock's bytes are checked first, and then the console's.
 pub fn restore_monitor(saved: &SavedMonitor) -> Result<Monitor, SavedStateError>
     ensures saved { IfOk result (λ monitor. IsSavedAs saved.now (machine_of monitor)) }
     ensures read { (machine : Machine) → IsMachine machine → IsSavedAs saved.now machine →
@@ -68,8 +68,8 @@ pub fn restore_monitor(saved: &SavedMonitor) -> Result<Monitor, SavedStateError>
     })
 }
 
-/// Saves a monitor, and restores another one from there. Both are the same machine, so by the contract of
-/// [`Monitor::run`] the other one replies to any events as the first would, and becomes what it would.
+/// Saves a monitor, and restores another one from the saved data. Both are the same machine. So, by the contract of
+/// [`Monitor::run`], the other one replies to any events as the first one would, and reaches the same state.
 ///
 /// # Errors
 ///

@@ -16,8 +16,8 @@ use vm_superio::Trigger;
 /// An interrupt line, or the event that requests a reset, as a file descriptor. `W` is the descriptor as a writer,
 /// such as a `File`.
 ///
-/// No value of the program shows what the kernel does with it. So its link states nothing about a trigger that was
-/// called, and that a trigger that was not called is unchanged.
+/// No value of the program shows what the kernel does with it. So its link says only that a trigger that was not called
+/// is unchanged, and nothing about one that was called.
 #[derive(Drop)]
 pub struct EventFd<W: Write> {
     pub file: W,
@@ -46,8 +46,8 @@ impl<W: Write> Trigger for EventFd<W> {
     }
 }
 
-/// An interrupt line that counts its calls, and refuses none. After an access or an input the monitor looks whether the
-/// count has grown, and injects an interrupt. The count saturates at 2^64 - 1.
+/// An interrupt line that counts its calls, and refuses none. After an access or an input, the monitor checks whether
+/// the count has grown, and if so injects an interrupt. The count saturates at 2^64 - 1.
 #[derive(Drop)]
 pub struct Counter {
     calls: u64,
@@ -68,7 +68,7 @@ impl Counter {
         self.calls
     }
 
-    /// Forgets the calls so far, as a monitor does that injects one interrupt for all of them.
+    /// Forgets the calls so far. A monitor does so when it injects one interrupt for all of them.
     pub fn clear(&mut self)
         ensures { self.new.calls ≡ 0 }
     {
@@ -98,7 +98,7 @@ impl Trigger for Counter {
 /// A line into a controller that keeps interrupts until the guest takes them, up to a limit. It counts those that wait,
 /// and refuses a call while there is no room.
 ///
-/// Its link is its own: one more interrupt waits for each call that was taken.
+/// It has a link of its own: each call that was taken adds one interrupt that waits.
 #[derive(Drop)]
 pub struct InterruptLine {
     waiting: u32,

@@ -25,13 +25,13 @@ RespondsByHistory state access response =
     (start : RtcState) (trace : List Access) → state ≡ clock_of_history start trace
     → response ≡ clock_history_response start trace access
 
--- and a read leaves the bytes that the history says
+-- a read leaves the bytes that the history says
 abbrev pub ReadsByHistory : (state : RtcState) (offset now : ℕ) (old new : List ℕ) → Type 0
 ReadsByHistory state offset now old new =
     (start : RtcState) (trace : List Access) → state ≡ clock_of_history start trace
     → new ≡ bytes_left (clock_history_response start trace (read offset now)) old
 
--- and the state after it is that of the longer trace
+-- the state after an access is the state of the longer trace
 abbrev pub GoesOnByHistory : (old : RtcState) (access : Access) (new : RtcState) → Type 0
 GoesOnByHistory old access new =
     (start : RtcState) (trace : List Access) → old ≡ clock_of_history start trace
@@ -56,7 +56,7 @@ pub record ClockIsHistory : Type 0 where
 abbrev pub is_cleared : (trace : List Access) (bit : ℕ) → Bool
 is_cleared trace bit = list_any (λ access. bit_at (cleared_by access) bit == 1) trace
 
--- a raw interrupt bit is that of the start, unless an access of the trace cleared it. Bit 0 is also set if the alarm
+-- a raw interrupt bit is as at the start, unless an access of the trace cleared it. Bit 0 is also set if the alarm
 -- raised it, and no access cleared it then or later
 abbrev pub RawBitsByHistory : Type 0
 RawBitsByHistory =
@@ -70,14 +70,14 @@ abbrev pub RaisesAt : (start : RtcState) (trace : List Access) (moment : ℕ) �
 RaisesAt start trace moment =
     (access : Access) → moment_of access ≡ moment → raises_alarm start trace access ≡ true
 
--- and none at it does, unless it writes a match itself
+-- after a trace, no access at a moment raises the interrupt, unless it writes a match itself
 abbrev pub RaisesNothingAt : (start : RtcState) (trace : List Access) (moment : ℕ) → Type 0
 RaisesNothingAt start trace moment =
     (access : Access) → moment_of access ≡ moment → match_written access ≡ None
     → raises_alarm start trace access ≡ false
 
--- an alarm that is due raises the interrupt then, by the history, and not sooner. One that never is does so at no later
--- moment. An earlier read changes nothing, so the alarm stays due
+-- an alarm that is due raises the interrupt then, by the history, and not sooner. An alarm that is never due raises it
+-- at no later moment. An earlier read changes nothing, so the alarm stays due
 pub record AlarmDueByHistory : Type 0 where
   pub raised :
       (start : RtcState) (trace : List Access) (now seconds : ℕ)
@@ -94,8 +94,8 @@ pub record AlarmDueByHistory : Type 0 where
       (state : RtcState) (now seconds : ℕ) → IsDueIn state now seconds
       → (offset sooner : ℕ) → sooner < seconds → clock_step state (read offset (now + sooner)) ≡ state
 
--- a clock that was set shows the value that it was set to, and as many seconds more as have passed since, if 32 bits
--- hold both times. `bytes` are those written, and `shown` those that a read leaves
+-- a clock that was set shows the written value plus the seconds that have passed since, if 32 bits hold both times.
+-- `bytes` are the bytes written, and `shown` the bytes that a read leaves
 abbrev pub SetTimeLaw : Type 0
 SetTimeLaw = (before after : RtcState) (value now seconds : ℕ) (bytes shown : List ℕ)
     → bytes ≡ to_le_bytes w32 value → after ≡ clock_step before (write_of 0x008 bytes now)

@@ -8,7 +8,7 @@
 //! `states_of_history` and `clock_is_history`, state that both describe the same device. Most others follow from one of
 //! the two alone.
 //!
-//! They hold for a device in any language whose calls are those of `superio_core`.
+//! They hold for a device in any language, if it makes the calls of `superio_core`.
 #![tactic(auto)]
 
 ghost use Rattle.superio_laws.specs.Serial.Laws.{RegisterLaw, HeldBytesLaw, LineStatusLaw, InterruptLaw, CoherenceLaw, StateLaw, ResponseLaw, StepLaw, CallLaw, RetryLaw, WholeRunLaw};
@@ -26,8 +26,8 @@ pub fn registers()
     ensures { RegisterLaw }
 {}
 
-/// The held-bytes law, from any start: the bytes in the FIFO are those of the history. If the start's LSR shows whether
-/// bytes are held, so does LSR at every later point.
+/// The held-bytes law, from any start: the history gives the bytes in the FIFO. If the start's LSR shows whether bytes
+/// are held, so does LSR at every later point.
 #[tactic(auto, using(crate::proofs::Lemmas::Serial::Laws::held_bytes_laws))]
 pub fn held_bytes()
     ensures bytes { HeldBytesLaw }
@@ -49,8 +49,8 @@ pub fn coherence()
     ensures { CoherenceLaw }
 {}
 
-/// From a coherent start, the state after any trace is that of the history, and a call responds as the history says. A
-/// read returns `guest_read`.
+/// From a coherent start, the history gives the state after any trace, and a call responds as the history says. A read
+/// returns `guest_read`.
 #[tactic(auto, using(crate::proofs::Lemmas::Serial::Laws::StepsOfHistory::states_of_history_laws))]
 pub fn states_of_history()
     ensures state { StateLaw }
@@ -74,8 +74,8 @@ pub fn calls_of_history()
     by_lemmas();
 }
 
-/// From a coherent start, a retry in the state that a trace leads to counts as a restore: the trigger calls are those
-/// due for a restore there, and the state is that of the trace with a restore's entry added.
+/// From a coherent start, a retry in the state that a trace leads to counts as a restore: it makes the trigger calls
+/// that are due for a restore there, and leaves the state of the trace with a restore's entry added.
 pub fn retries_of_history()
     ensures { RetryLaw }
 {
@@ -114,8 +114,8 @@ pub fn trigger_bound()
     ensures { TriggerBoundLaw }
 {}
 
-/// From any start, after a byte is accepted, IER is written or a character timeout is made, and until IIR or RBR is
-/// read, RDA is pending whenever bytes are held and IER enables it.
+/// From any start, once a byte is accepted, IER is written or a character timeout is made, RDA is pending whenever
+/// bytes are held and IER enables RDA. This lasts until IIR or RBR is read.
 #[tactic(auto, using(crate::proofs::Lemmas::Serial::Laws::Consequences::waiting_bytes_law))]
 pub fn waiting_bytes()
     ensures { WaitingBytesLaw }
@@ -123,7 +123,7 @@ pub fn waiting_bytes()
 
 /// From any start, right after a character timeout no byte waits without an interrupt: if bytes are held and IER
 /// enables RDA, it is pending. If it was not pending before, the trigger is called once, and otherwise not at all. In a
-/// trace this needs that the trace is fitting.
+/// trace this holds if the trace is fitting.
 #[tactic(auto, using(crate::proofs::Lemmas::Serial::Laws::InterruptDriver::no_byte_waits_laws))]
 pub fn no_byte_waits()
     ensures pending { NoByteWaitsLaw }
@@ -133,21 +133,21 @@ pub fn no_byte_waits()
     by_lemmas();
 }
 
-/// From any start, for any driver that takes at least one held byte at each interrupt and ends its run with a read of
-/// IIR: if a character timeout follows the run, bytes are held and IER enables RDA, the interrupt is asked for again.
-/// After as many such runs as bytes are held, each with a timeout after it, all of these are taken, in order, whatever
-/// arrives meanwhile.
+/// From any start, suppose that a driver takes at least one held byte at each interrupt, and ends its run with a read
+/// of IIR. Then a character timeout after the run asks for the interrupt again if bytes are held and IER enables RDA.
+/// After as many such runs as bytes are held, each with a timeout after it, all of these bytes are taken, in order,
+/// whatever arrives meanwhile.
 #[tactic(auto, using(crate::proofs::Lemmas::Serial::Laws::InterruptDriver::interrupt_driver_laws))]
 pub fn interrupt_driver()
     ensures owed { InterruptAfterPassLaw }
     ensures taken { ReadOutAfterPassesLaw }
 {}
 
-/// From any start, an IER write that enables THRE, and each THR write outside loopback while IER enables it, raise
-/// THRE, and call the trigger once for it if it was not pending. The exception is an IER write whose call for RDA is
-/// refused. Then RDA is pending, and is among the conditions for which a retry calls the trigger, as is each that is
-/// pending and enabled. If a condition is pending after a read of IIR, a call for it was due since that read, and was
-/// made if the entry is fitting. The first two are about fitting entries.
+/// From any start, an IER write that enables THRE, and each THR write outside loopback while IER enables THRE, raise
+/// THRE. They call the trigger once for it if it was not pending. The exception is an IER write with a refused call for
+/// RDA. RDA is then pending and enabled, and a retry calls the trigger for each condition that is pending and enabled.
+/// If a condition is pending after a read of IIR, a call for it was due since that read, and the call was made if the
+/// entry is fitting. What is said of the two writes holds for fitting entries.
 pub fn transmitter_interrupt()
     ensures ier_write { IerWriteAsksLaw }
     ensures thr_write { ThrWriteAsksLaw }
@@ -156,28 +156,29 @@ pub fn transmitter_interrupt()
     ensures called { CalledSinceLaw }
 {}
 
-/// From any start, for a driver of a console that does the following. A run is what an interrupt makes the driver do,
-/// with all other calls up to the next run.
+/// The law of a console's driver, from any start. A run is what an interrupt makes the driver do, with all other calls
+/// up to the next run. The driver does the following:
 ///
 /// - In each run, the driver reads IIR, and takes at least one byte if one is held when the run begins. Nobody else
 ///   reads IIR.
 /// - Each run ends in one of two ways. Either the driver reads IIR at least twice, until nothing is pending, as Linux
-///   and Xen do, and nobody reads IIR or RBR after that. Or it ends in what the driver does after its last read of IIR,
-///   as that of a driver that reads IIR once.
-/// - It sends its bytes in order, by THR writes outside loopback while IER enables THRE. In the first way, it has none
-///   left, or flow control stops it, at some moment between its last two reads of IIR. In the second, it sends at least
-///   one after its last read, unless it has none left at some moment there, or is stopped.
+///   and Xen do, and nobody reads IIR or RBR after that. Or the run ends in what the driver does after its last read of
+///   IIR, as in a driver that reads IIR once.
+/// - It sends its bytes in order, by THR writes outside loopback while IER enables THRE. If a run ends in the first
+///   way, the driver has none left, or flow control stops it, at some moment between its last two reads of IIR. If a
+///   run ends in the second way, the driver sends at least one byte after its last read, unless it has none left at
+///   some moment there, or is stopped.
 /// - It gets bytes while it has none, or goes on after a stop, only at such a THR write, or at an IER write that
-///   enables THRE and whose call for RDA is not refused.
+///   enables THRE and has no refused call for RDA.
 ///
-/// And, for `asked_to_take` alone, for a monitor that makes a character timeout as the next call after each read of IIR
-/// that shows nothing pending, and one in a turn of its event loop after each run that ends in the second way. Nobody
-/// reads IIR or RBR between this one and the next run.
+/// The clause `asked_to_take` alone also needs a monitor. It makes a character timeout as the next call after each read
+/// of IIR that shows nothing pending, and one in a turn of its event loop after each run that ends in the second way.
+/// Nobody reads IIR or RBR between the latter timeout and the next run.
 ///
 /// Then the interrupt is asked for after each run if bytes are held and IER enables RDA, or if bytes are left to send
 /// and flow control does not stop the driver. Each run takes at least one more of the held bytes, in order, and each
-/// run without a stop sends at least one more. So a byte with i before it in its direction is through within i + 1 such
-/// runs, whatever arrives meanwhile, and whatever the driver is given.
+/// run without a stop sends at least one more. So a byte that has i bytes before it in its direction is through within
+/// i + 1 such runs, whatever arrives meanwhile, and whatever the driver is given.
 ///
 /// If a driver ends its run with a read of IIR that shows THRE, and has bytes left, it may not be asked again. A 16550A
 /// does not ask it either.
@@ -188,20 +189,21 @@ pub fn console_driver()
     ensures sent { SentInPassesLaw }
 {}
 
-/// From any start, for a handler like Linux's. It reads IIR until nothing is pending. After each read it sends, and it
-/// takes bytes until none is left or it has taken as many as a limit. It gets bytes to send, or goes on after a stop,
-/// as a driver of [`console_driver`] does. Then its runs are those of such a driver. When it reads that nothing is
+/// The law of a handler like Linux's, from any start. It reads IIR until nothing is pending. After each read it sends,
+/// and it takes bytes until none is left or it has taken as many as a limit. It gets bytes to send, or goes on after a
+/// stop, as a driver of [`console_driver`] does. Then its runs are runs of such a driver. When it reads that nothing is
 /// pending, it has sent all its bytes, unless it is stopped. If IER then enables RDA, it has also taken all bytes,
-/// unless its last turn came to the limit: the others wait for the character timeout.
+/// unless its last turn came to the limit: the bytes that it left wait for the character timeout.
 pub fn console_handler()
     ensures run { HandlerRunLaw }
     ensures ends { HandlerEndsLaw }
 {}
 
-/// One call in any state, and the level of the interrupt line. A call that calls the trigger leaves the line up, even
-/// if the trigger refuses. The line goes up only in such a call, or in an IER write that enables a condition that is
-/// already pending, for which the trigger is not called. It goes down only in a read of IIR or RBR, or in an IER write.
-/// From a start whose IIR is 1, 2, 4 or 6, it is up exactly while the trace has a condition pending that IER enables.
+/// What one call does to the level of the interrupt line, in any state. A call that calls the trigger leaves the line
+/// up, even if the trigger refuses. The line goes up only in such a call, or in an IER write that enables a condition
+/// that is already pending, for which the trigger is not called. It goes down only in a read of IIR or RBR, or in an
+/// IER write. From a start whose IIR is 1, 2, 4 or 6, it is up exactly while the trace has a condition pending that IER
+/// enables.
 #[tactic(auto, using(crate::proofs::Lemmas::Serial::Laws::Interrupts::interrupt_line_laws))]
 pub fn interrupt_line()
     ensures after { LineAfterLaw }
@@ -220,24 +222,24 @@ pub fn same_reads()
     ensures { SameReadsLaw }
 {}
 
-/// From any start, the bytes taken, then those held, are those held at the start, then those accepted.
+/// From any start, the bytes taken, followed by those held, are those held at the start, followed by those accepted.
 #[tactic(auto, using(crate::proofs::Lemmas::Serial::Laws::read_out_then_held))]
 pub fn read_out_then_held()
     ensures { ReadOutThenHeldLaw }
 {}
 
 /// From any start, if calls respond as the history says, the bytes that they give a guest from the FIFO are those that
-/// they take. So the bytes read, then those held, are those held at the start, then those accepted.
+/// they take. So the bytes read, followed by those held, are those held at the start, followed by those accepted.
 #[tactic(auto, using(crate::proofs::Lemmas::Serial::Laws::Reads::replies_are_read_out_laws))]
 pub fn replies_are_read_out()
     ensures taken { RepliesAreReadOutLaw }
     ensures held { ReadThenHeldLaw }
 {}
 
-/// From any start, if calls respond as the history says, and only a driver that polls reads data: the bytes that it
-/// got, then those held, are those held at the start, then those accepted. If LSR does not show data ready in the end,
-/// it got all of these bytes. A driver polls if it reads RBR only after a read of LSR has shown data ready since its
-/// previous RBR read. Other calls in between do not matter.
+/// From any start, suppose that calls respond as the history says, and that only a driver that polls reads data. Then
+/// the bytes that it got, followed by those held, are those held at the start, followed by those accepted. If LSR does
+/// not show data ready in the end, it got all of these bytes. A driver polls if it reads RBR only after a read of LSR
+/// has shown data ready since its previous RBR read. Other calls in between do not matter.
 #[tactic(auto, using(crate::proofs::Lemmas::Serial::Laws::Reads::polling_driver_laws))]
 pub fn polling_driver()
     ensures bytes { PollingDriverLaw }
@@ -251,10 +253,10 @@ pub fn output()
     ensures { OutputLaw }
 {}
 
-/// One call in any state: the bytes that it takes, then those held after, are those held before, then those it accepts.
-/// It gives a guest the byte that it takes. Received bytes, and an RBR read of a held byte, change only the FIFO, LSR
-/// and IIR. After an RBR read, LSR shows data ready if it did before and a byte is left. A THR write outside loopback
-/// sends its byte and changes only IIR. If it returns `Ok`, the byte is out.
+/// What one call does in any state. The bytes that it takes, followed by those held after it, are those held before it,
+/// followed by those that it accepts. It gives a guest the byte that it takes. Received bytes, and an RBR read of a
+/// held byte, change only the FIFO, LSR and IIR. After an RBR read, LSR shows data ready if it did before and a byte is
+/// left. A THR write outside loopback sends its byte and changes only IIR. If it returns `Ok`, the byte is out.
 #[tactic(auto, using(crate::proofs::Lemmas::Serial::Laws::OneCall::one_call_laws))]
 pub fn one_call()
     ensures taken { OneCallLaw }
@@ -272,8 +274,7 @@ pub fn outcome_events()
     ensures { OutcomeEventsLaw }
 {}
 
-/// One call in any state: it calls the trigger once for each of the two pending bits of IIR that it turns from clear to
-/// set.
+/// In any state, a call calls the trigger once for each of the two pending bits of IIR that it turns from clear to set.
 #[tactic(auto, using(crate::proofs::Lemmas::Serial::Laws::OneCall::turned_bits_law))]
 pub fn turned_bits()
     ensures { TurnedBitsLaw }
@@ -295,24 +296,24 @@ pub fn raw_bits_by_history()
     ensures { RawBitsByHistory }
 {}
 
-/// By the history, an alarm due in some seconds raises the interrupt at any access at that moment, if the guest writes
-/// nothing until then. Before that moment, the next access does only if it writes a match itself, and a read changes
-/// nothing, so the alarm stays due.
+/// By the history, an alarm that is due in some seconds raises the interrupt at any access at that moment, if the guest
+/// writes nothing until then. Before that moment, the next access raises it only if it writes a match itself. A read
+/// before that moment changes nothing, so the alarm stays due.
 #[tactic(auto, using(crate::proofs::Lemmas::Rtc::alarm_due_law))]
 pub fn alarm_due_by_history()
     ensures { AlarmDueByHistory }
 {}
 
-/// From any state, a clock that was set by a write of RTCLR shows the value written and as many seconds more as have
-/// passed since, if 32 bits hold both times.
+/// From any state, a clock that was set by a write of RTCLR shows the written value plus the seconds that have passed
+/// since, if both times fit in 32 bits.
 pub fn set_time()
     ensures { SetTimeLaw }
 {
     by_lemmas();
 }
 
-/// Laws whose lemmas the prover's search does not apply. The functions above that state these laws call this one, whose
-/// answers cite the lemmas.
+/// The prover's search does not apply the lemmas of these laws. So the functions above that state them call this one,
+/// and its answers cite the lemmas.
 fn by_lemmas()
     ensures interrupts { InterruptLaw }
     ensures steps { StepLaw }

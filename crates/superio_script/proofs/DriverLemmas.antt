@@ -114,7 +114,7 @@ ready-cleared : (left : List ℕ) (line_status : ℕ)
     ≡ without_bits line_status 0x01
 ready-cleared left line_status shows = grind (arith, without-clear)
 
--- the read of one byte and then of the others leave the same state as those of all
+-- a read of one byte and then reads of the others leave the same state as reads of all
 without_bytes-after_read : (s : State) → Coherent s → Coherent (rbr_read s) → without_bytes (rbr_read s) ≡ without_bytes s
 without_bytes-after_read s before after =
     ap (λ identification. record s {

@@ -75,7 +75,7 @@ all_out-append [] second = refl
 all_out-append (Out ∷ first) second = all_out-append first second
 all_out-append (Lost ∷ first) second = refl
 
--- no byte was lost exactly if all outcomes are those of bytes that went out
+-- no byte was lost exactly if all outcomes are outcomes of bytes that went out
 all_out-none_lost : (trace : Trace) → all_out (outcomes_of trace) ≡ none_lost trace
 all_out-none_lost [] = refl
 all_out-none_lost (entry ∷ trace) =
@@ -89,7 +89,7 @@ out_before_loss-all (Lost ∷ outcomes) out = absurd (false≢true out)
 one-outcome : (sent : Sent) (kind : DecodedOp) → IsTrue (beq (is_sent sent) (not_empty (sent_by kind))) → length (outcome_of_sent sent) ≡ length (sent_by kind)
 one-outcome sent kind fits = grind arith
 
--- in a fitting trace each outcome is that of a byte of the output
+-- in a fitting trace each outcome belongs to a byte of the output
 length-outcomes_of : (trace : Trace) → IsTrue (is_fitting fresh_state trace) → length (outcomes_of trace) ≡ length (output fresh_state [] trace)
 length-outcomes_of [] fits = refl
 length-outcomes_of (entry ∷ trace) fits =
@@ -389,7 +389,7 @@ restore-accepts steps old new state link events out mask trace at =
     (subst (λ (refused : Bool). IsAfter mask (if refused then trace else restore_entry ∷ trace) new) (sym accepted)
     (restored-after mask trace steps old new at state (after refl) events out))
 
--- one of whose calls was refused
+-- a restore that had a call refused
 pub restore-refuses : StepLaw → (old : SerialView Line Counts Output) (state : State) (after : Line) (error : Error LineRefused) →
     state ≡ old.state → length old.state.in_buffer ≤ 64 → RefusesRestore InterruptLineLink state error old.trigger after → error ≢ Memory →
     IsSerialLineStep line.Restore (response_reply (failure_response error)) old old

@@ -58,7 +58,7 @@ pub record SerialLineStep
   pub replied : reply ≡ serial_reply mask trace outcome printed line
   pub after : IsAfter mask (trace_after_line mask trace outcome line) new
 
--- so it is after every trace that leads to the port
+-- this holds after every trace that leads to the port
 abbrev pub IsSerialLineStep : (line : SerialCommand) (reply : List ℕ) (old new : SerialView Line Counts Output) → Type 0
 IsSerialLineStep line reply old new =
     (mask : ℕ) (trace : Trace) → IsAfter mask trace old → SerialLineStep mask trace line reply new

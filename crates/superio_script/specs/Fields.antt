@@ -11,7 +11,7 @@ abbrev pub prepend_to_first : (byte : ℕ) (pieces : List (List ℕ)) → List (
 prepend_to_first byte [] = (byte ∷ []) ∷ []
 prepend_to_first byte (piece ∷ pieces) = (byte ∷ piece) ∷ pieces
 
--- the pieces before, between and after the separators; if no byte remains, there are those of end
+-- the pieces before, between and after the separators; if no byte remains, there are the pieces `end`
 abbrev pub pieces_of : (separator : ℕ) (end : List (List ℕ)) (bytes : List ℕ) → List (List ℕ)
 pieces_of separator end [] = end
 pieces_of separator end (byte ∷ bytes) =
@@ -48,7 +48,7 @@ field_bytes_of field =
 
 -- ---- the first of the fields
 
--- so many bytes
+-- `count` bytes, from the first field
 abbrev pub first_array : (count : ℕ) (fields : List (List ℕ)) → Option (List ℕ)
 first_array count [] = None
 first_array count (field ∷ fields) = bytes_of count field
@@ -57,7 +57,7 @@ first_array count (field ∷ fields) = bytes_of count field
 abbrev pub first_number : (width : Width) (fields : List (List ℕ)) → Option ℕ
 first_number width fields = option_map (from_be_bytes width) (first_array (byte_len width) fields)
 
--- no bytes without a field
+-- the bytes of the first field, or no bytes if there is no field
 abbrev pub first_bytes : (fields : List (List ℕ)) → Option (List ℕ)
 first_bytes [] = Some []
 first_bytes (field ∷ fields) = field_bytes_of field

@@ -23,7 +23,7 @@ is_call_refused mask number = nat_lt number 64 && (bit_at mask number == 1)
 abbrev pub saturated : (count : ℕ) → ℕ
 saturated count = min count (2 ^ 64 - 1)
 
--- one more
+-- one more than a count, up to 2^64 - 1
 abbrev pub saturating_increment : (count : ℕ) → ℕ
 saturating_increment count = saturated (count + 1)
 

@@ -131,6 +131,6 @@ pub record StopsWithoutMemory (mask : ℕ) (lines : List (List ℕ)) (before aft
   pub all_good : IsTrue (list_all has_syntax earlier)
   pub text : PrintsLines mask earlier before after
 
--- the same of a run of this script
+-- a run of this script ended so
 abbrev pub EndsWithoutMemory : (script : List ℕ) (before after : Option (List ℕ)) → Type 0
 EndsWithoutMemory script before after = StopsWithoutMemory (body_of script).mask (body_of script).lines before after

@@ -38,7 +38,7 @@ is_event tx_lost_byte tx_lost_byte = true
 is_event in_buffer_empty in_buffer_empty = true
 is_event _ _ = false
 
--- how often each event was reported. A serial port reports none of the clock's
+-- how often each event was reported. A serial port reports none of the clock's events
 abbrev pub counts_of : (events : List Event) → Counts
 counts_of events = record {
   buffer_reads = saturated (count_by (is_event buffer_read) events);
@@ -82,7 +82,7 @@ abbrev pub next_printed : (printed : List (List ℕ)) → List ℕ
 next_printed [] = []
 next_printed (bytes ∷ printed) = bytes
 
--- each has at most as many bytes as the output has room for
+-- each has at most as many bytes as fit in the output
 abbrev pub all_short : (printed : List (List ℕ)) → Bool
 all_short printed = list_all (λ bytes. nat_le (length bytes) 256) printed
 
@@ -100,7 +100,7 @@ trigger_answers mask number (suc (suc more)) =
 abbrev pub sends : (trace : Trace) (op : Op) → Bool
 sends trace op = not_empty (sent_by (decode_at fresh_state trace op))
 
--- the outcome as an entry has it, which has none if no byte is sent
+-- the outcome that an entry has. It has none if no byte is sent
 abbrev pub sent_with : (sends : Bool) (outcome : Outcome) → Sent
 sent_with false outcome = Sent.Nothing
 sent_with true Out = Sent.Out
@@ -128,7 +128,7 @@ abbrev pub after_rbr_reads : (count : ℕ) (trace : Trace) → Trace
 after_rbr_reads zero trace = trace
 after_rbr_reads (suc count) trace = after_rbr_reads count (rbr_read_entry ∷ trace)
 
--- the bytes that a driver gets: with DLAB set none, else all that are held
+-- the bytes that a driver gets: none if DLAB is set, and otherwise all that are held
 abbrev pub drained_bytes : (trace : Trace) → List ℕ
 drained_bytes trace = if dlab_after fresh_state trace then [] else held_bytes fresh_state trace
 
@@ -142,8 +142,8 @@ is_restore_refused mask trace =
 
 -- ---- the lines
 
--- what a line that makes no call shows: of the port's state how many more bytes fit, of the interrupt line how often it
--- was called, or the counts of events. Of the other lines serial_reply says it
+-- what a line that makes no call shows: how many more bytes fit, how often the interrupt line was called, or the counts
+-- of events. For the other lines `serial_reply` says what they show
 abbrev pub shown : (line : SerialCommand) (state : State) (interrupt_line : Line) (counts : Counts) → List ℕ
 shown serial.Capacity state interrupt_line counts = digits_reply ((64 - length state.in_buffer) ∷ [])
 shown serial.Calls state interrupt_line counts = with_lf (count_digits interrupt_line.calls)
@@ -187,7 +187,7 @@ line_sends trace (serial.Write offset value) = sends trace (Write offset value)
 line_sends trace (serial.Enqueue bytes) = sends trace (Enqueue bytes)
 line_sends trace _ = false
 
--- whether it is an `so` after a loss
+-- whether a line is an `so` after a loss
 abbrev pub prints_after_loss : (trace : Trace) (line : SerialCommand) → Bool
 prints_after_loss trace serial.Output = not (none_lost trace)
 prints_after_loss trace _ = false

@@ -26,7 +26,7 @@ pub(crate) enum SerialCommand {
     Write { offset: u8, value: u8 },
     /// Bytes come in for the guest.
     Enqueue { bytes: FieldBytes },
-    /// How many more bytes the FIFO has room for.
+    /// How many more bytes fit in the FIFO.
     Capacity,
     /// A driver reads the bytes that the port holds.
     Drain,

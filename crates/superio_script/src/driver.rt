@@ -25,7 +25,7 @@ const LSR_DATA_READY_BIT: u8 = 0x01;
 /// ready. Returns the bytes, oldest first. If DLAB is set, RBR cannot be reached: it returns no byte and makes no
 /// further access.
 ///
-/// If the port is in a coherent state and DLAB is clear, these are all bytes that it holds. In any state the driver
+/// If the port is in a coherent state and DLAB is clear, the driver gets all bytes that the port holds. In any state it
 /// stops after at most 64 reads of RBR. It allocates no memory.
 pub fn drain<T: Trigger, EV: SerialEvents, W: Write>(
     serial: &mut Serial<T, EV, W>,

@@ -68,7 +68,7 @@ impl<'a> Lines<'a> {
 
 // ---- the fields of a line, by the kinds that a syntax has
 
-/// The bytes of a field, or none without a field. In contracts they are a list.
+/// The bytes of a field, or none if there is no field. Contracts see a list.
 #[derive(Drop)]
 pub(crate) struct FieldBytes {
     bytes: ArrayVec<u8, FIELD_LIMIT>,
@@ -162,7 +162,7 @@ impl<'a> Fields<'a> {
 
     // Each of these takes the next field, if it is of its kind. After `None` the line has no known syntax.
 
-    /// So many bytes, of two digits each.
+    /// `N` bytes, of two digits each.
     fn array<const N: usize>(&mut self) -> Option<[u8; N]>
         ensures value { result ≡ first_array N (remaining_fields self.old.rest) }
         ensures later { remaining_fields self.new.rest ≡ later_fields (remaining_fields self.old.rest) }

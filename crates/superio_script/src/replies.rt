@@ -1,5 +1,6 @@
 // SPDX-License-Identifier: Apache-2.0 OR BSD-3-Clause
-//! The reply to a line, with its LF, and the faults: why a line has none, and why a run of a script ended early.
+//! The reply to a line, with its LF, and the faults. They say why a line has no reply, and why a run of a script ended
+//! early.
 ghost use Rattle.std.specs.Prelude.{◌≡◌, ◌+◌, ◌*◌, ◌<◌, ◌≤◌, [], ◌∷◌, ◌++◌, length};
 ghost use Rattle.hex.specs.Hex.{encode_lower};
 ghost use Rattle.superio_script.specs.Reply.{with_lf, digits_reply, count_digits};

@@ -119,8 +119,8 @@ fn write_replies<W: Write>(
 ///   to the lines before it were written, but the writer was not flushed.
 /// - [`ScriptFault::TooLong`] if the reader gave more than 65,536 bytes. Nothing was written, and no byte after the
 ///   65,537th was read.
-/// - [`ScriptFault::Memory`] if memory is refused. For the script or the board: nothing was written. For a line `ss`:
-///   the replies to the lines before it were written.
+/// - [`ScriptFault::Memory`] if memory is refused. If it was for the script or the board, nothing was written. If it
+///   was for a line `ss`, the replies to the lines before it were written.
 /// - [`ScriptFault::Io`] if a read, a write or the flush failed. After a failed read, nothing was written. After a
 ///   failed write or flush, no contract states what was written.
 pub fn run_script<R: Read, W: Write>(

@@ -1,6 +1,6 @@
 // SPDX-License-Identifier: Apache-2.0 OR BSD-3-Clause
 //! Hostile guests, triggers and writers: every access at every offset, each refused call in turn, and each way in which
-//! a writer can fail. Replies are compared with those of the reference models, which search the past.
+//! a writer can fail. Replies are compared with the replies of the reference models, which search the past.
 use crate::objects::{Log, Object, Writing, in_order, port, port_over_vector};
 use crate::reference_model::{
     Access, Act, Answer, INVALID_OFFSETS, Record, clock_read, clock_takes_writes, due_answer,
@@ -334,7 +334,7 @@ fn reported(clock: &Rtc<Counts>) -> [u64; 2] {
     [counts.invalid_read_count(), counts.invalid_write_count()]
 }
 
-/// Makes the last of these accesses, and returns whether the bytes and the reports are those of the model.
+/// Makes the last of these accesses, and returns whether the bytes and the reports agree with the model.
 fn is_clock_as_modelled(clock: &mut Rtc<Counts>, accesses: &[Access]) -> bool {
     let Some((access, _)) = accesses.split_last() else {
         return true;
@@ -418,7 +418,7 @@ fn access(now: u64, made: (u16, Option<u32>)) -> Access {
     }
 }
 
-/// How many of these accesses a fresh clock has had when it first replies otherwise than its past says.
+/// How many of these accesses a fresh clock has had when a reply first differs from what its past says.
 fn first_unlike(accesses: &[Access]) -> Option<usize> {
     let mut clock = Rtc::with_events(Counts::new());
     for count in 1..=accesses.len() {

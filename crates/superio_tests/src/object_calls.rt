@@ -24,8 +24,8 @@ use vm_superio::{I8042Device, Rtc, Serial, Trigger};
 /// What a call returned that sent a byte.
 type Sent = Result<(), Error<LineRefused>>;
 
-/// Whether a call that sent a byte to a writer which does this returned its fault, and called `write` and `flush` no
-/// more than it has to.
+/// Whether a call that sent a byte returned the writer's fault, and called `write` and `flush` no more than it has to.
+/// The writer does what `writing` says.
 fn is_right(alloc: Global, log: &Log, writing: Writing, found: &Sent) -> Result<bool, Fail> {
     let returned = match found {
         Ok(()) => Ok(()),
@@ -329,7 +329,7 @@ fn a_script_calls_its_streams_no_more_than_it_has_to(rt: HostRuntime) -> Result<
     Ok(())
 }
 
-/// A script writes each reply as by std's `write_all`, and then flushes all.
+/// A script writes each reply as std's `write_all` does, and then flushes all.
 #[test]
 fn a_fault_of_a_stream_is_io(rt: HostRuntime) {
     for number in 0..FAULTS {
@@ -367,7 +367,7 @@ fn drop_port(port: TestSerial<'_>, way: u8) {
     }
 }
 
-/// Drops a port's objects as those of a port that was refused for this error.
+/// Drops a port's objects as if a port over them had been refused for this error.
 fn drop_refused(port: TestSerial<'_>, error: Error<LineRefused>) {
     let (trigger, events, out) = port.into_parts();
     let refused = Refused {

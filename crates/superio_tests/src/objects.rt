@@ -112,7 +112,7 @@ fn kind_of(number: i32) -> ErrorKind {
     }
 }
 
-/// A fault of this kind with a text of up to 80 characters, or with one that has others than those of ASCII.
+/// A fault of this kind with a text of up to 80 characters, or with a text that has characters outside ASCII.
 fn fault_with_text(kind: ErrorKind, seed: i32) -> io::Error {
     let seed = u64::from(seed.unsigned_abs());
     let mut text = [b' '; 80];

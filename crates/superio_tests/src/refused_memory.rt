@@ -1,7 +1,7 @@
 // SPDX-License-Identifier: Apache-2.0 OR BSD-3-Clause
 //! What is left if memory is refused. `tests/devices/test_refused_memory.py` runs each of these tests without its first
-//! allocation, without its second, and so on, until a run has them all. As a run goes without one at most, a call that
-//! was refused memory has to succeed when it is made again.
+//! allocation, without its second, and so on, until a run has them all. Each run goes without at most one allocation,
+//! so a call that was refused memory has to succeed when it is made again.
 use std::alloc::{AllocError, Global};
 use std::io::Write;
 use std::test::Fail;
@@ -188,7 +188,7 @@ fn a_state_is_converted_or_memory_is_refused(rt: HostRuntime) -> Result<(), Fail
 
 // ---- runs
 
-/// Calls with a restore among them.
+/// Calls that include a restore.
 fn calls(alloc: Global) -> Result<Vec<SerialCall>, AllocError> {
     let bytes = b"a".to_vec(alloc)?;
     Ok(vec![in alloc;

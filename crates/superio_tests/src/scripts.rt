@@ -327,7 +327,7 @@ fn a_line_without_a_form_is_bad_and_changes_nothing(rt: HostRuntime) -> Result<(
         b"cr 000000000003e8 0000",
         b"cw 00000000000003e8 0008 000064",
         b"sx",
-        // A form of the first line alone.
+        // Only a first line may have this syntax.
         b"refuse 0000000000000001",
     ] {
         assert!(rt;
@@ -355,7 +355,7 @@ fn a_line_without_a_form_is_bad_and_changes_nothing(rt: HostRuntime) -> Result<(
     Ok(())
 }
 
-/// Saved states and character timeouts are no lines of a script.
+/// A script has no lines for saved states and character timeouts.
 #[test]
 fn lines_beyond_the_format_are_bad(rt: HostRuntime) {
     let rows: [Row; 5] = [

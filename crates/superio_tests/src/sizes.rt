@@ -1,6 +1,6 @@
 // SPDX-License-Identifier: Apache-2.0 OR BSD-3-Clause
-//! Calls that may return that memory was refused do not, while there is memory. A body that gives up at some size meets
-//! each contract.
+//! Calls that may return that memory was refused do not do so while there is memory. No contract says this: a body that
+//! gives up at some size meets each of them.
 use crate::objects::{
     Log, Object, SIZES, SerialCall, TestSerial, drawn, drawn_state, port_over, port_over_vector,
     size_of,
@@ -46,7 +46,7 @@ fn is_restored_in_a_run<'a>(
     Ok(is_restored && port.state(alloc)? == state.clone(alloc)?)
 }
 
-/// Whether the state goes wherever a state goes.
+/// Whether each call that takes a state takes this one.
 fn is_taken(alloc: Global, state: &SerialState, object: Object<'_>) -> Result<bool, Fail> {
     Ok(
         is_converted(alloc, state)?

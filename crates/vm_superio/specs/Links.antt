@@ -1,6 +1,5 @@
 -- SPDX-License-Identifier: Apache-2.0 OR BSD-3-Clause
--- What the types of a device's objects state, its trigger, its events object and its writer: the relations, and the
--- answers of a trigger.
+-- What the types of a device's trigger, events object and writer state: their relations, and the answers of a trigger.
 pub mod ForAnyObject
 pub mod Writer
 use Rattle.std.specs.Prelude.{◌≡◌, ◌⊎◌, ℕ, List, [], ◌∷◌, Option, Result, Ok, Err, option_map, option_to_list}
@@ -19,8 +18,8 @@ Contents W = W → Option (List ℕ)
 abbrev pub TriggerAnswer : (E : Type 0) → Type 0
 TriggerAnswer E = Result (Unit {0}) E
 
--- the answers that a record stands for. A refusal among them is the one in the reply, which has one exactly in that
--- case
+-- the answers of a record. If one of them is a refusal, it is the refusal in the reply, and otherwise the reply has
+-- none
 abbrev pub answers_of : {E : Type 0} → (asked : Asked) (refusal : Option E) → List (TriggerAnswer E)
 answers_of Asked.Nothing refusal = []
 answers_of Asked.Took refusal = Ok tt ∷ []
@@ -34,7 +33,8 @@ module _ {E : Type 0} where
   all_ok [] = []
   all_ok (condition ∷ due) = Ok tt ∷ all_ok due
 
-  -- or once for each of the first conditions; only the last of these calls is refused, and ends the restore
+  -- a restore calls the trigger once for each of the first conditions; only the last of these calls is refused, and
+  -- ends the restore
   abbrev pub StopsAtRefusal : (due : List Condition) (refusal : E) (answers : List (TriggerAnswer E)) → Type 0
   StopsAtRefusal [] refusal answers = ⊥
   StopsAtRefusal (condition ∷ due) refusal [] = ⊥

@@ -4,7 +4,7 @@ use Rattle.std.specs.Prelude.{if◌then◌else◌, List, [], ◌∷◌}
 pub use Rattle.superio_core.specs.Rtc.{Access, read, write, clock_register_at, is_readable, is_writable}
 use Rattle.superio_core.specs.declared.rtc_pl031.encoding.RtcState.{RtcState}
 
--- a read, or a write, at an offset that has no such access
+-- a read at an offset that cannot be read, or a write at one that takes no write
 pub data RtcEvent : Type 0 where
   invalid_read : RtcEvent
   invalid_write : RtcEvent
@@ -20,7 +20,7 @@ pub record ClockDevice (EV : Type 0) : Type 0 where
 abbrev pub with_clock_events : {EV : Type 0} → (clock : ClockDevice EV) (object : EV) → ClockDevice EV
 with_clock_events clock object = record clock { events = object }
 
--- the events that an access reports: one if its register has no such access
+-- the events that an access reports: one if its register takes no such access
 abbrev pub clock_events : (access : Access) → List RtcEvent
 clock_events (read offset now) = if is_readable (clock_register_at offset) then [] else invalid_read ∷ []
 clock_events (write offset value now) = if is_writable (clock_register_at offset) then [] else invalid_write ∷ []

@@ -1,6 +1,6 @@
 -- SPDX-License-Identifier: Apache-2.0 OR BSD-3-Clause
--- Saved states: the state of one, what an error prints, and the version, which is that of the writer. A reader refuses
--- every other.
+-- Saved states: the state of one, what an error prints, and the version. It is the writer's version, and a reader
+-- refuses every other.
 use Rattle.std.specs.Prelude.{ℕ, List, codes, Option, Some, ◌≡◌, ◌≢◌, ◌∷◌, ◌++◌, slice_index}
 use Rattle.vm_superio.specs.declared.serial.encoding.SerialState.{SerialState}
 use Rattle.superio_core.specs.Serial.{State}
@@ -33,7 +33,7 @@ abbrev pub load_error_text : (error : LoadError) → Option (List ℕ)
 load_error_text (Invalid fault) = check.saved_state_error_text fault
 load_error_text Memory = Some (codes "Out of memory")
 
--- ---- the version in a saved state: each encoding has that of its writer, and a reader refuses every other
+-- ---- the version in a saved state: each encoding has the version of its writer, and a reader refuses others
 
 -- the version is at place 5 of each encoding
 abbrev pub SerialVersionLaw : Type 0
@@ -42,7 +42,7 @@ SerialVersionLaw = (state : State) → slice_index (serial_encoding state) 5 ≡
 abbrev pub ClockVersionLaw : Type 0
 ClockVersionLaw = (state : RtcState) → slice_index (clock_encoding state) 5 ≡ version
 
--- bytes of the device that have another version at this place are refused for it, whatever follows
+-- bytes of the device that have another version at this place are refused for their version, whatever follows
 abbrev IsRefusedForVersion : (fault : List ℕ → Option SavedStateError) (kind : ℕ) → Type 0
 IsRefusedForVersion fault kind = (other : ℕ) (rest : List ℕ) (low high : ℕ) → other ≢ version
     → fault (magic ++ kind ∷ other ∷ low ∷ high ∷ rest) ≡ Some (UnknownVersion other)

@@ -45,7 +45,7 @@ refusal_in_result (Err error) = refusal_in_error error
 
 -- ---- what an error of a serial port prints
 
--- given what the trigger's refusal prints. The text of a writer's fault is not known
+-- the text of an error, given what the trigger's refusal prints. The text of a writer's fault is not known
 abbrev pub serial_error_text : {E : Type 0} → (E → Option (List ℕ)) → Error E → Option (List ℕ)
 serial_error_text output (Trigger cause) =
     option_map (λ text. codes "Failed to trigger interrupt: " ++ text) (output cause)

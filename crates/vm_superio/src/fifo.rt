@@ -38,7 +38,7 @@ impl Fifo {
     ///
     /// # Errors
     ///
-    /// As for `new`.
+    /// Returns `AllocError` if allocation fails.
     pub(crate) fn from_slice(alloc: Global, bytes: &[u8]) -> Result<Self, AllocError>
         requires { length bytes.now ≤ 64 }
         ensures { IfOk result (λ fifo. fifo ≡ bytes.now) }

@@ -25,8 +25,8 @@ pub mod serial;
 /// An implementation declares its `link`, a relation of three things: its value before some calls, the answers to these
 /// calls, in order, and its value after them. A device's contract states which answers its trigger gave.
 pub trait Trigger {
-    /// Why a call was refused. If the type has no values, as `Infallible`, no call is ever refused, and contracts rule
-    /// out the errors for a refusal.
+    /// Why a call was refused. If the type has no values, like `Infallible`, no call is ever refused, and contracts
+    /// rule out the errors for a refusal.
     type E: Debug + Drop;
 
     /// Calls with these answers turn the first value into the second.

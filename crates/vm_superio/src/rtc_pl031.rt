@@ -86,7 +86,7 @@ impl Default for Rtc<NoEvents> {
     }
 }
 
-/// A clock of this state that ignores events.
+/// Makes a clock of this state that ignores events.
 impl From<RtcState> for Rtc<NoEvents> {
     ghost from_gives = { λ state clock. clock.state ≡ state };
 
@@ -138,7 +138,7 @@ impl<EV: RtcEvents> Rtc<EV> {
         Self::from_state(&RtcState::default(), rtc_events)
     }
 
-    /// A snapshot; `from_state` recreates the clock.
+    /// Returns a snapshot, from which `from_state` recreates the clock.
     pub fn state(&self) -> RtcState
         ensures { result ≡ self.now.state }
     {
@@ -170,16 +170,17 @@ impl<EV: RtcEvents> Rtc<EV> {
         &mut self.events
     }
 
-    /// Whether the interrupt line is up: bit 0 of RTCMIS, set if both the raw interrupt status and the mask have it.
-    /// Only an access changes it.
+    /// Whether the interrupt line is up. Bit 0 of RTCMIS says so: it is set if the raw interrupt status and the mask
+    /// both have it. Only an access changes it.
     pub fn interrupt_line(&self) -> bool
         ensures { result ≡ rtc_irq_level self.now.state }
     {
         self.clock.interrupt_line()
     }
 
-    /// The seconds from the moment `now`, in seconds since 1970, until an access finds the alarm reached, if the guest
-    /// makes none before. The result is less than 2^32, and 0 if an access at `now` finds it.
+    /// How many seconds after the moment `now` an access finds the alarm reached, if the guest makes no access before.
+    /// `now` is in seconds since 1970. The result is less than 2^32, and 0 if an access at `now` finds the alarm
+    /// reached.
     ///
     /// `None` means that no alarm is set, or that guest time never reaches the match. This can be so for a clock behind
     /// the host's: its time may be less than the match at every moment. The mask plays no part: a masked alarm is due
@@ -235,8 +236,8 @@ impl<EV: RtcEvents> Rtc<EV> {
     }
 
     /// Reads into `bytes`, lowest byte first, at `offset` from the clock's base address, at `now`, in seconds since
-    /// 1970. Only the low 32 bits of `now` count. A read changes a register only if it finds the alarm due, as a write
-    /// does first.
+    /// 1970. Only the low 32 bits of `now` count. A read first handles an alarm that guest time has reached, as a write
+    /// does. Apart from that, it changes no register.
     ///
     /// [`ClockRegister`] says what each register shows. A read at an offset that shows nothing leaves `bytes` unchanged
     /// and calls the events object's `invalid_read` once, before it returns. No read makes another call.

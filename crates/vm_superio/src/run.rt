@@ -59,7 +59,7 @@ pub enum Reply<T: Trigger, EV: SerialEvents, W: Write> {
     TimedOut(Result<(), Error<T::E>>),
     /// The restore succeeded. This is the old port, with its own objects.
     Restored(Serial<T, EV, W>),
-    /// The restore failed, and the port stayed. This is why, with the objects of the restore.
+    /// The restore failed, and the port stayed. This says why, and has the objects of the restore.
     NotRestored(Refused<T, EV, W>),
 }
 
@@ -84,12 +84,12 @@ pub struct Done<T: Trigger, EV: SerialEvents, W: Write> {
 ///
 /// From a coherent start the records are a trace: the start, the earlier calls and the trigger's answers determine each
 /// byte read. They also determine the final state and, given the outcome of the byte that a call sent, every other
-/// response, apart from that of a restore and from which error the writer had. Which objects get the calls after a
-/// restore depends on whether it succeeded, and so on memory too.
+/// response. Two things are left open: what a restore responds, and which error the writer had. Which objects get the
+/// calls after a restore depends on whether it succeeded, and so on memory too.
 ///
 /// # Errors
 ///
-/// Returns `AllocError` if allocating all records fails. It then makes no call and drops the calls.
+/// Returns `AllocError` if memory for all records is refused. No call is made then, and the calls are dropped.
 pub fn run<T: Trigger + Drop, EV: SerialEvents + Drop, W: Write + Drop>(
     alloc: Global,
     serial: &mut Serial<T, EV, W>,

@@ -71,7 +71,7 @@ impl<T: Trigger, W: Write> Serial<T, NoEvents, W> {
         ensures out { IfOk result (λ serial. serial.out ≡ out) }
         ensures coherent { IfOk result (λ serial. Coherent serial.state) }
 
-        // If memory was refused: the objects.
+        // The objects, if memory was refused.
         ensures only_memory { IfErr result (λ refused. refused.error ≡ Error.Memory) }
         ensures trigger_back { IfErr result (λ refused. refused.trigger ≡ trigger) }
         ensures out_back { IfErr result (λ refused. refused.out ≡ out) }
@@ -94,8 +94,8 @@ impl<T: Trigger, EV: SerialEvents, W: Write> Serial<T, EV, W> {
     ///
     /// # Errors
     ///
-    /// Each error returns the objects. Returns [`Error::FullFifo`] if the state holds more than 64 bytes, else
-    /// [`Error::Memory`] if allocating the FIFO fails, both without a trigger call. Returns [`Error::Trigger`] at the
+    /// Each error returns the objects. Returns [`Error::FullFifo`] if the state holds more than 64 bytes, and otherwise
+    /// [`Error::Memory`] if allocating the FIFO fails. Neither calls the trigger. Returns [`Error::Trigger`] at the
     /// first call that the trigger refuses.
     pub fn from_state(
         alloc: Global,
@@ -111,7 +111,7 @@ impl<T: Trigger, EV: SerialEvents, W: Write> Serial<T, EV, W> {
         ensures out { IfOk result (λ serial. serial.out ≡ out) }
         ensures coherent { IfOk result (λ serial. Coherent (state_of state.now) → Coherent serial.state) }
 
-        // If it is refused: why, and the objects.
+        // Why it is refused, and the objects then.
         ensures too_many { 64 < vec_len state.now.in_buffer → IsErr result }
         ensures refused { IfErr result (λ refused.
             RefusesRestore T.link (state_of state.now) refused.error trigger refused.trigger) }
@@ -140,7 +140,7 @@ impl<T: Trigger, EV: SerialEvents, W: Write> Serial<T, EV, W> {
     ///
     /// # Errors
     ///
-    /// As for `new`.
+    /// Returns [`Error::Memory`] if allocating the FIFO fails, and the objects as they were passed.
     #[tactic(auto, using(superio_core::proofs::Lemmas::Serial::fresh_coherent))]
     pub fn with_events(
         alloc: Global,
@@ -154,7 +154,7 @@ impl<T: Trigger, EV: SerialEvents, W: Write> Serial<T, EV, W> {
         ensures out { IfOk result (λ serial. serial.out ≡ out) }
         ensures coherent { IfOk result (λ serial. Coherent serial.state) }
 
-        // If memory was refused: the objects.
+        // The objects, if memory was refused.
         ensures only_memory { IfErr result (λ refused. refused.error ≡ Error.Memory) }
         ensures trigger_back { IfErr result (λ refused. refused.trigger ≡ trigger) }
         ensures events_back { IfErr result (λ refused. refused.events ≡ serial_evts) }
@@ -177,7 +177,7 @@ impl<T: Trigger, EV: SerialEvents, W: Write> Serial<T, EV, W> {
         })
     }
 
-    /// A snapshot; `from_state` recreates the port.
+    /// Returns a snapshot, from which `from_state` recreates the port.
     ///
     /// # Errors
     ///
@@ -280,7 +280,7 @@ impl<T: Trigger, EV: SerialEvents, W: Write> Serial<T, EV, W> {
         ensures silent { sends_byte self.old.state (Write offset value) ≡ false → self.new.out ≡ self.old.out }
         // What stands after an error.
         ensures fate { IfErr result (λ error. WriteFate offset value error self.old.state self.new.state) }
-        // What belongs to another offset stays.
+        // A write keeps what belongs to other offsets.
         ensures elsewhere { SameElsewhere offset self.old.state self.new.state }
         ensures transmitter { transmitter self.new.state ≡ transmitter self.old.state }
         ensures keeps_pending { pending_count self.new.state
@@ -290,7 +290,7 @@ impl<T: Trigger, EV: SerialEvents, W: Write> Serial<T, EV, W> {
         self.write_for_run(offset, value).reply
     }
 
-    /// Writes, for a run: with the trigger's answers and the outcome of the byte.
+    /// Writes for a run, and returns the trigger's answers and the outcome of the byte too.
     pub(crate) fn write_for_run(
         &mut self,
         offset: u8,
@@ -332,10 +332,10 @@ impl<T: Trigger, EV: SerialEvents, W: Write> Serial<T, EV, W> {
             0 < length self.old.state.in_buffer → result ∷ self.new.state.in_buffer ≡ self.old.state.in_buffer }
         ensures settings { SameSettings self.old.state self.new.state }
         ensures transmitter { transmitter self.new.state ≡ transmitter self.old.state }
-        // A read of IIR acknowledges at most both conditions, one of RBR at most one, and no other any.
+        // A read of IIR acknowledges at most both conditions, a read of RBR at most one, and another read none.
         ensures keeps_pending { pending_count self.old.state
             ≤ pending_count self.new.state + acknowledged_at offset }
-        // A read of any register but RBR and IIR.
+        // A read of any register except RBR and IIR changes nothing.
         ensures rest_unchanged { decode_in self.old.state (Read offset) ≡ Other → self.new ≡ self.old }
         ensures at_most_64 { length self.new.state.in_buffer ≤ 64 }
         ensures trigger { self.new.trigger ≡ self.old.trigger }
@@ -355,7 +355,7 @@ impl<T: Trigger, EV: SerialEvents, W: Write> Serial<T, EV, W> {
     /// A refused condition stays pending, and no access calls the trigger for it again until the guest has acknowledged
     /// it. If your trigger can refuse, repeat this call after a refusal until it returns `Ok`. While IER disables the
     /// condition, this call does not call the trigger for it, and may return `Ok`: then repeat it after each write at
-    /// offset 1. The guest may be interrupted again for a condition that it knows of.
+    /// offset 1. The guest may be interrupted again for a condition that it already knows.
     ///
     /// # Errors
     ///
@@ -381,15 +381,17 @@ impl<T: Trigger, EV: SerialEvents, W: Write> Serial<T, EV, W> {
         self.registers.interrupts_due()
     }
 
-    /// IER, as `state` has it. A driver that has tested the port and wants input leaves it with 0x01 and without 0x02.
+    /// Returns IER, as `state` has it. A driver that has tested the port and wants input leaves bit 0x01 set and bit
+    /// 0x02 clear.
     pub fn interrupt_enable(&self) -> u8
         ensures { result ≡ self.now.state.interrupt_enable }
     {
         self.registers.interrupt_enable
     }
 
-    /// Whether the interrupt line is up: while a condition is pending and enabled. If your interrupt controller takes
-    /// levels, set your line to it after every call, reads among them, and let the trigger do nothing.
+    /// Whether the interrupt line is up. It is up while a condition is both pending and enabled. If your interrupt
+    /// controller takes levels, set your line to this level after every call, reads included, and let the trigger do
+    /// nothing.
     pub fn interrupt_line(&self) -> bool
         ensures line { result ≡ irq_level self.now.state }
         ensures due { result ≡ not (length (conditions_due self.now.state) == 0) }
@@ -406,13 +408,13 @@ impl<T: Trigger, EV: SerialEvents, W: Write> Serial<T, EV, W> {
         FIFO_SIZE - self.in_buffer.len()
     }
 
-    /// Receives as many bytes for the guest as fit, first ones first. Returns how many.
+    /// Receives bytes for the guest: the first ones, as many as fit. Returns how many it accepted.
     ///
     /// In loopback it accepts no bytes and returns 0.
     ///
     /// # Errors
     ///
-    /// Returns [`Error::FullFifo`] if there are bytes, outside loopback, and 64 are held: nothing changes. Returns
+    /// Returns [`Error::FullFifo`] if bytes are passed outside loopback while 64 are held: nothing changes. Returns
     /// [`Error::Trigger`] if the trigger refuses: the bytes that fit are kept, so do not enqueue them again. To find
     /// out how many, compare `fifo_capacity` before and after.
     pub fn enqueue_raw_bytes(&mut self, input: &[u8]) -> Result<usize, Error<T::E>>
@@ -432,7 +434,7 @@ impl<T: Trigger, EV: SerialEvents, W: Write> Serial<T, EV, W> {
         self.enqueue_for_run(input).reply
     }
 
-    /// Enqueues, for a run: with the trigger's answers.
+    /// Enqueues for a run, and returns the trigger's answers too.
     pub(crate) fn enqueue_for_run(&mut self, input: &[u8]) -> Recorded<Result<usize, Error<T::E>>>
         ensures { IsSerialStep (serial_links T.link EV.link W.contents) (Enqueue input.now) result.asked result.sent
             (enqueue_response result.reply) (refusal_in_result result.reply) self.old self.new }
@@ -451,9 +453,9 @@ impl<T: Trigger, EV: SerialEvents, W: Write> Serial<T, EV, W> {
         }
     }
 
-    /// Tells the port that the time of a few characters has passed without a read or a new byte: it raises RDA again if
-    /// bytes are held. It calls the trigger if IER enables RDA and it is not pending already. So no byte waits without
-    /// an interrupt, even if the guest has read IIR and left bytes in the FIFO.
+    /// Tells the port that the time of a few characters has passed without a read or a new byte. If bytes are held, IER
+    /// enables RDA and RDA is not pending, the port raises RDA again and calls the trigger. So no byte waits without an
+    /// interrupt, even if the guest has read IIR and left bytes in the FIFO.
     ///
     /// # Errors
     ///
@@ -475,7 +477,7 @@ impl<T: Trigger, EV: SerialEvents, W: Write> Serial<T, EV, W> {
         self.timeout_for_run().reply
     }
 
-    /// Makes a character timeout, for a run: with the trigger's answers.
+    /// Makes a character timeout for a run, and returns the trigger's answers too.
     pub(crate) fn timeout_for_run(&mut self) -> Recorded<Result<(), Error<T::E>>>
         ensures no_byte { result.sent ≡ Sent.Nothing }
         ensures step { IsSerialStep (serial_links T.link EV.link W.contents) CharacterTimeout result.asked result.sent

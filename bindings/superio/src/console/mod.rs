@@ -3,9 +3,10 @@
 // These are the lines that the prover checks, without their contracts. Change them there.
 //! A serial port with the monitor's end of its line, without I/O.
 //!
-//! Whatever a monitor owes a 16550 besides passing accesses on, as one value: when input may go in and how much, output
-//! that waits for its reader, the character timeout, refused interrupts, and when the event loop has to come back. A
-//! call returns the work that is left, and [`Console::wants`] says what to poll for. No object, no heap, no time.
+//! A monitor owes a 16550 more than the accesses that it passes on, and a [`Console`] does the rest. It says when input
+//! may go in and how much, keeps output until its reader takes it, makes character timeouts, asks again for refused
+//! interrupts, and says when the event loop has to come back. Each call returns the work that is left for you, and
+//! [`Console::wants`] names what to poll. A console holds no objects, uses no heap and reads no time.
 
 pub mod output_ring;
 pub mod saved;
@@ -26,24 +27,24 @@ use crate::serial::registers::{
 #[repr(C)]
 #[derive(Clone, Copy, Debug, PartialEq, Eq)]
 pub struct Work {
-    /// If your interrupt controller takes edges: raise the interrupt so many times, 0 to 2. If one of them is refused,
-    /// leave out the others and call [`Console::refuse`].
+    /// How often to raise the interrupt, 0 to 2 times, if your interrupt controller takes edges. If one of them is
+    /// refused, raise no more and call [`Console::refuse`].
     pub interrupts: u8,
-    /// If your interrupt controller takes levels: set the line to this level.
+    /// The level of the interrupt line. Set the line to it if your interrupt controller takes levels.
     pub is_up: bool,
-    /// Wake the event loop: [`Console::wants`] names something that it did not name before.
+    /// Whether to wake the event loop: [`Console::wants`] names something that it did not name before.
     pub wakes: bool,
 }
 
-/// What the event loop waits for.
+/// What the event loop polls, and whether it has to come back soon.
 #[repr(C)]
 #[derive(Clone, Copy, Debug, PartialEq, Eq)]
 pub struct Wants {
-    /// Input, at most so many bytes, 0 to 64. While it is 0, do not read from the source of input.
+    /// How many bytes of input may go in, 0 to 64. While it is 0, do not read from the source of input.
     pub input: usize,
-    /// The reader of the output has room for more.
+    /// Whether output waits. If so, poll its reader for room.
     pub output: bool,
-    /// Some milliseconds, at most: then make a turn, whatever else happens or does not.
+    /// Whether to make a turn after some milliseconds at most, even if nothing else happens.
     pub turn: bool,
 }
 
@@ -63,14 +64,14 @@ pub struct ConsoleRead {
 #[repr(C)]
 #[derive(Clone, Copy, Debug, PartialEq, Eq)]
 pub struct ConsoleReceived {
-    /// How many of the bytes were accepted, from the first on.
+    /// How many bytes were accepted. They are the first ones.
     pub accepted: usize,
     /// What is left to do.
     pub work: Work,
 }
 
-/// A serial port, and the output of its guest, at most 4,096 bytes, that waits for its reader. Any contents are a valid
-/// console.
+/// A serial port with the monitor's end of its line. It keeps at most 4,096 bytes of the guest's output until their
+/// reader takes them. Any contents are a valid console.
 ///
 /// ```
 /// # use superio::console::Console;
@@ -94,16 +95,17 @@ pub struct Console {
     pub is_polled: u8,
     /// Not 0 if the guest's driver has shown that it is ready, since the last reset or suspend.
     pub is_ready: u8,
-    /// Not 0 if the guest sleeps in memory, and has not shown since that its driver is ready.
+    /// Not 0 if the guest sleeps in memory: from a suspend on, until a reset or until its driver shows that it is
+    /// ready.
     pub is_asleep: u8,
-    /// Not 0 if an interrupt was refused, and since then none was asked for again, and the guest has not read IIR.
+    /// Not 0 from a refused interrupt on, until a call asks again, the guest reads IIR, or its machine is reset.
     pub is_refused: u8,
 }
 
 impl Console {
-    /// A new port, with no output that waits. If `is_polled`, input goes in at once, as a guest needs it that polls the
-    /// port, such as a boot loader. Otherwise it waits until the guest's driver is ready: until a write of IER enables
-    /// RDA and not THRE.
+    /// Makes a console with a new port and no output. Set `is_polled` for a guest that polls the port, such as a boot
+    /// loader: input then goes in at once. Otherwise input waits until the guest's driver is ready, that is, until a
+    /// write of IER enables RDA and not THRE.
     // Clauses in crates/superio_console/src/lib.rt: state, coherent.
     pub fn new(is_polled: bool) -> Console {
         Console {
@@ -117,9 +119,10 @@ impl Console {
         }
     }
 
-    /// The guest reads the byte at `offset` from the port's base. From 8 on there is no register, and the byte is 0.
+    /// The guest reads the byte at `offset` from the port's base. At 8 and above there is no register, and the byte is
+    /// 0.
     ///
-    /// If IIR shows that nothing is pending, the character timeout that is due then is in this call.
+    /// If IIR shows that nothing is pending, this call also makes the character timeout that is due then.
     #[inline(always)]
     // Clauses in crates/superio_console/src/lib.rt: byte, work, at_most_1, state, coherent.
     pub fn read(&mut self, offset: u8) -> ConsoleRead {
@@ -135,10 +138,10 @@ impl Console {
         ConsoleRead { byte, work }
     }
 
-    /// The guest writes `value` at `offset` from the port's base. A byte that it sends waits for the reader, or is
-    /// dropped and counted if 4,096 wait: [`is_full`](Self::is_full) tells before the next one.
+    /// The guest writes `value` at `offset` from the port's base. A byte that it sends waits for the reader. If 4,096
+    /// bytes wait already, the byte is dropped and counted: [`is_full`](Self::is_full) tells before the write.
     ///
-    /// A write of IER asks again for what was refused.
+    /// A write of IER asks again for a refused interrupt.
     // Clauses in crates/superio_console/src/lib.rt: work, at_most_2, state, coherent.
     pub fn write(&mut self, offset: u8, value: u8) -> Work {
         if !may_change_wants(offset) {
@@ -156,7 +159,7 @@ impl Console {
         self.work(before, interrupts)
     }
 
-    /// What the event loop waits for now.
+    /// Returns what the event loop has to poll now.
     #[inline(always)]
     // Clauses in crates/superio_console/src/lib.rt: value, at_most_64.
     pub fn wants(&self) -> Wants {
@@ -167,11 +170,11 @@ impl Console {
         }
     }
 
-    /// Input arrives for the guest. The port accepts the first bytes, as many as `wants().input` says. Keep the others
-    /// until it wants more.
+    /// Passes input to the guest. The port accepts the first bytes, at most as many as `wants().input` says. Keep the
+    /// others until the console wants more.
     // Clauses in crates/superio_console/src/lib.rt: accepted, work, at_most_1, state, coherent.
     pub fn receive(&mut self, input: &[u8]) -> ConsoleReceived {
-        // Input leaves no more room, so it can make the event loop wait for a turn alone.
+        // Input never makes room, so all that the event loop may newly want is a turn.
         let owed_turn = self.owes_turn();
         let (accepted, interrupts) = self.receive_port(input);
         let work = Work {
@@ -182,35 +185,36 @@ impl Console {
         ConsoleReceived { accepted, work }
     }
 
-    /// The oldest output that waits, as many bytes as lie together: some, if any waits. Pass what the reader took of it
-    /// to [`consume`](Self::consume).
+    /// Returns the oldest output that waits, up to the end of the ring. It is empty only if no output waits. Pass the
+    /// number of bytes that the reader took to [`consume`](Self::consume).
     // Clauses in crates/superio_console/src/lib.rt: oldest, bound, some.
     pub fn output(&self) -> &[u8] {
         self.output.oldest()
     }
 
-    /// The reader has taken the first `count` bytes of the output that waits, or all if fewer wait. It leaves no work.
+    /// The reader has taken the first `count` bytes of the waiting output, or all of it if fewer wait. This leaves no
+    /// work.
     // Clauses in crates/superio_console/src/lib.rt: state, port.
     pub fn consume(&mut self, count: usize) {
         self.output.remove(count);
     }
 
-    /// Whether the output has no room, so that the next byte that the guest sends is dropped. To lose none, hold the
-    /// guest now, after its access and without the lock, until the reader has taken some.
+    /// Whether the output has no room, so that the next byte that the guest sends is dropped. To lose no byte, hold the
+    /// guest now, after its access and without your lock, until the reader has taken some.
     #[inline(always)]
     // Clauses in crates/superio_console/src/lib.rt: returns.
     pub fn is_full(&self) -> bool {
         self.output.count() == OUTPUT_SIZE
     }
 
-    /// How many bytes of output were dropped. The count stays at 2^64 - 1 once it is there.
+    /// How many bytes of output were dropped. The count stops at 2^64 - 1.
     // Clauses in crates/superio_console/src/lib.rt: returns.
     pub fn dropped(&self) -> u64 {
         self.dropped
     }
 
-    /// The event loop makes a turn: its poll has returned, for whatever reason. Bytes that the guest has left interrupt
-    /// it again, and so does what was refused.
+    /// The event loop makes a turn. Call this whenever its poll returns, for whatever reason. Bytes that the guest has
+    /// left interrupt it again, and a refused interrupt is asked for again.
     // Clauses in crates/superio_console/src/lib.rt: work, at_most_2, state, coherent.
     pub fn turn(&mut self) -> Work {
         let before = self.wants();
@@ -219,8 +223,8 @@ impl Console {
         self.work(before, interrupts)
     }
 
-    /// An interrupt that a call asked for was refused, or may be lost. Turns and writes of IER ask again for what is
-    /// pending and enabled, until one of them finds something.
+    /// Call this if an interrupt that a call asked for was refused, or may be lost. Turns and writes of IER then ask
+    /// once for each condition that is pending and enabled, until one of them finds such a condition.
     // Clauses in crates/superio_console/src/lib.rt: work, none, state, port.
     pub fn refuse(&mut self) -> Work {
         let before = self.wants();
@@ -228,8 +232,8 @@ impl Console {
         self.work(before, 0)
     }
 
-    /// The guest's machine is reset: the port is a new one, the bytes that it held are lost, and input waits again unless
-    /// the guest polls. Output that waits stays.
+    /// The guest's machine is reset. The port is then a new one, and the bytes that it held are lost. Input waits again
+    /// unless the guest polls. Output that waits stays.
     // Clauses in crates/superio_console/src/lib.rt: work, none, state, coherent.
     pub fn reset(&mut self) -> Work {
         let before = self.wants();
@@ -240,16 +244,16 @@ impl Console {
         self.work(before, 0)
     }
 
-    /// The guest's machine sleeps in memory. It is reset when it wakes, so input waits from now on, also if the guest
-    /// polls: until a reset, or until a write of IER shows that a driver is ready. It leaves no work.
+    /// The guest's machine goes to sleep in memory. It is reset when it wakes, so input waits from now on, even if the
+    /// guest polls, until a reset or until a write of IER shows that a driver is ready. This leaves no work.
     // Clauses in crates/superio_console/src/lib.rt: state, port.
     pub fn suspend(&mut self) {
         self.is_ready = 0;
         self.is_asleep = 1;
     }
 
-    /// Says from now on whether the guest polls, as [`new`](Self::new) does at first: a boot loader that polls and a
-    /// kernel that does not may be one guest.
+    /// Says whether the guest polls from now on, as [`new`](Self::new) says at first. One guest may do both: its boot
+    /// loader polls, and its kernel does not.
     // Clauses in crates/superio_console/src/lib.rt: work, none, state, port.
     pub fn set_polled(&mut self, is_polled: bool) -> Work {
         let before = self.wants();
@@ -257,8 +261,9 @@ impl Console {
         self.work(before, 0)
     }
 
-    /// Writes the console's encoding to the start of `bytes`, and returns its length; [`load`](Self::load) reads it back.
-    /// The other bytes do not change. The encoding has no byte that the guest has read, nor one that the reader took.
+    /// Writes the console's encoding to the start of `bytes`, and returns its length, at most 4,196. The bytes after it
+    /// do not change. [`load`](Self::load) reads the encoding back. It leaves out bytes that the guest has read or the
+    /// reader has taken.
     // Clauses in crates/superio_console/src/lib.rt: count, at_most_4196, encoding, rest_unchanged.
     pub fn save(&self, bytes: &mut [u8; CONSOLE_SAVED_MAX]) -> usize {
         let port = self.port.to_bytes();
@@ -272,15 +277,16 @@ impl Console {
         append(bytes, count, port)
     }
 
-    /// Reads a console back from saved bytes: each later call answers as it would have before. The port in it may be
-    /// incoherent, as [`Uart::is_coherent`] tells.
+    /// Reads a console back from its saved bytes. It answers each later call as the saved console would have. Its port
+    /// may be incoherent: [`Uart::is_coherent`] tells.
     ///
-    /// If your interrupt controller was not restored too, call [`refuse`](Self::refuse): it may have lost what it was
-    /// told before. In any case make a [`turn`](Self::turn) then.
+    /// If you did not restore your interrupt controller too, call [`refuse`](Self::refuse), because an earlier
+    /// interrupt may be lost. In any case, make a [`turn`](Self::turn) then.
     ///
     /// # Errors
     ///
-    /// The first check that fails, in the order of [`SavedStateError`]. No console has [`SavedStateError::InvalidArmed`].
+    /// Returns the first check that fails, in the order of [`SavedStateError`]. A console never fails with
+    /// [`SavedStateError::InvalidArmed`].
     // Clauses in crates/superio_console/src/lib.rt: encoding, at_most_64, read, fault.
     pub fn from_bytes(bytes: &[u8]) -> Result<Console, SavedStateError> {
         let (flags, dropped, output, port) = decode_console(bytes)?;
@@ -295,11 +301,11 @@ impl Console {
         })
     }
 
-    /// Becomes the console of saved bytes. If they are none, nothing changes.
+    /// Becomes the console that these bytes save. If they are refused, nothing changes.
     ///
     /// # Errors
     ///
-    /// As for [`from_bytes`](Self::from_bytes).
+    /// Returns the errors of [`from_bytes`](Self::from_bytes).
     // Clauses in crates/superio_console/src/lib.rt: fault, loaded, read, at_most_64, refused.
     pub fn load(&mut self, bytes: &[u8]) -> Result<(), SavedStateError> {
         *self = Console::from_bytes(bytes)?;
@@ -333,14 +339,13 @@ impl Console {
         !self.port.in_buffer.is_empty() && self.port.registers.enables(Condition::Rda)
     }
 
-    /// Whether the FIFO is full, and a read at this offset may make room. No other read changes what the event loop waits
-    /// for.
+    /// Whether the FIFO is full, and a read at this offset may make room. No other read changes the wants.
     #[inline(always)]
     fn may_end_full(&self, offset: u8) -> bool {
         offset == DATA_OFFSET && self.port.fifo_capacity() == 0
     }
 
-    /// Reads the port where that may make room in a full FIFO, as the event loop has to learn then.
+    /// Reads the port when its FIFO is full and the read may make room, so that the event loop has to learn of it.
     fn read_full(&mut self, offset: u8) -> ConsoleRead {
         let (byte, interrupts) = self.read_port(offset);
         let work = Work {
@@ -366,7 +371,7 @@ impl Console {
         (byte, self.port.character_timeout())
     }
 
-    /// The port accepts the first bytes of the input, as many as there is room for. Returns how many, and how often to
+    /// The port accepts the first bytes of the input, as many as may go in now. Returns how many, and how often to
     /// raise the interrupt.
     #[inline(always)]
     fn receive_port(&mut self, input: &[u8]) -> (usize, u8) {
@@ -408,7 +413,8 @@ impl Console {
         }
     }
 
-    /// How often to ask for the interrupt in a call whose step asks `raised` times, and which retries or does not.
+    /// How often a call asks for the interrupt, if its step asks `raised` times. After a refusal, a call that retries
+    /// asks once for each condition that is pending and enabled instead.
     #[inline(always)]
     fn retry(&mut self, retries: bool, raised: u8) -> u8 {
         if self.is_refused == 0 || !retries {
@@ -421,7 +427,7 @@ impl Console {
         due
     }
 
-    /// The work after a call: `before` are the wants before it.
+    /// The work that a call leaves. `before` are the wants before the call.
     #[inline(always)]
     fn work(&self, before: Wants, interrupts: u8) -> Work {
         let after = self.wants();
@@ -436,7 +442,7 @@ impl Console {
     }
 }
 
-/// Whether a write at this offset, that of THR, IER or MCR, may change what the event loop waits for.
+/// Whether a write at this offset may change the wants: it may at the offsets of THR, IER and MCR.
 #[inline(always)]
 fn may_change_wants(offset: u8) -> bool {
     matches!(offset, DATA_OFFSET | IER_OFFSET | MCR_OFFSET)

@@ -3,9 +3,16 @@
 // These are the lines that the prover checks, without their contracts. Change them there.
 //! A saved console as bytes.
 //!
-//! It is a header of eight bytes, as of each saved device; the four flags in one byte; the number of dropped bytes in
-//! eight; the number of bytes of output that wait in two, and these bytes; and then the port, as
-//! [`Uart::to_bytes`](crate::Uart) writes it. Numbers are little-endian.
+//! Its parts are, in order:
+//!
+//! - a header of eight bytes, which each saved device has,
+//! - the four flags in one byte,
+//! - the number of dropped bytes in eight bytes,
+//! - the number of bytes of output that wait, in two bytes,
+//! - these bytes of output, and
+//! - the port, as [`Uart::to_bytes`](crate::Uart) writes it.
+//!
+//! Numbers are little-endian.
 
 use super::Console;
 use super::output_ring::OUTPUT_SIZE;
@@ -29,7 +36,7 @@ pub(super) const REFUSED_BIT: u8 = 0x08;
 
 const ALL_BITS: u8 = 0x0F;
 
-/// Two consoles are equal if their saved states are: then each later call answers alike.
+/// Two consoles are equal if their saved states are equal. Any later calls then answer alike.
 impl PartialEq for Console {
     fn eq(&self, other: &Self) -> bool {
         let mut bytes = [0; CONSOLE_SAVED_MAX];
@@ -88,7 +95,7 @@ impl Console {
     }
 }
 
-/// A bit, if a flag is set.
+/// The bit if the flag is set, and otherwise 0.
 fn bit_if(flag: u8, bit: u8) -> u8 {
     if flag == 0 { 0 } else { bit }
 }
@@ -98,7 +105,7 @@ fn bit_if(flag: u8, bit: u8) -> u8 {
 ///
 /// # Errors
 ///
-/// Those of [`Console::from_bytes`], except for what [`Uart::from_bytes`] finds.
+/// Returns the errors of [`Console::from_bytes`], except for what [`Uart::from_bytes`] finds in the port.
 pub(super) fn decode_console(bytes: &[u8]) -> Result<(u8, u64, &[u8], &[u8]), SavedStateError> {
     match decode_header(CONSOLE_KIND, bytes)? {
         [flags, d0, d1, d2, d3, d4, d5, d6, d7, low, high, rest @ ..] => {
@@ -117,7 +124,7 @@ pub(super) fn decode_console(bytes: &[u8]) -> Result<(u8, u64, &[u8], &[u8]), Sa
     }
 }
 
-/// Writes `part` behind the first `count` bytes, and returns how many bytes come first then.
+/// Writes `part` after the first `count` bytes, and returns how many bytes there are then.
 pub(super) fn append(bytes: &mut [u8], count: usize, part: &[u8]) -> usize {
     let end = count + part.len();
     bytes[count..end].copy_from_slice(part);

@@ -27,7 +27,7 @@ pub trait RxFifo {
     // Clauses in crates/superio_core/src/fifo.rt: room, added, len_in_range.
     fn push(&mut self, byte: u8) -> bool;
 
-    /// Adds as many of these bytes as fit, first ones first, and returns how many.
+    /// Adds the first of these bytes, as many as fit, and returns how many it added.
     // Clauses in crates/superio_core/src/fifo.rt: count, added, len_in_range.
     fn fill(&mut self, bytes: &[u8]) -> usize;
 }
@@ -41,7 +41,7 @@ pub struct ArrayFifo {
     pub head: u8,
     /// How many bytes are held.
     pub len: u8,
-    /// The bytes. The first place follows the last.
+    /// The places of the ring. The first place follows the last.
     pub bytes: [u8; 64],
 }
 
@@ -84,7 +84,8 @@ impl ArrayFifo {
         }
     }
 
-    /// Puts these bytes into the places after the first `held`: those up to the last place, and then the others.
+    /// Puts these bytes into the places after the first `held`: first up to the last place, and then from the first
+    /// place on.
     #[inline(never)]
     fn put_all(&mut self, held: usize, bytes: &[u8]) {
         let room = FIFO_SIZE - self.place(held);
@@ -93,7 +94,7 @@ impl ArrayFifo {
         self.copy_in(held + to_end.len(), from_start);
     }
 
-    /// Copies these bytes into the places after the first `held`. The last of them is no later than the last place.
+    /// Copies these bytes into the places after the first `held`, none of them past the last place.
     #[inline(always)]
     fn copy_in(&mut self, held: usize, bytes: &[u8]) {
         let place = self.place(held);

@@ -9,8 +9,8 @@ const COMMAND_OFFSET: u8 = 4;
 /// The command that pulses the CPU's reset line.
 const CMD_RESET_CPU: u8 = 0xFE;
 
-/// Whether a write of `value` at `offset` is the reset command. For a monitor that resets the machine without a
-/// trigger.
+/// Whether a write of `value` at `offset` from the controller's base is the reset command: 0xFE at offset 4. Use this
+/// if your monitor resets the machine without a trigger.
 #[inline(always)]
 // Clauses in crates/superio_core/src/i8042.rt: returns.
 pub fn is_reset_command(offset: u8, value: u8) -> bool {

@@ -2,7 +2,7 @@
 // Made by the command tools/erase from crates/superio_core/src/lib.rt.
 // These are the lines that the prover checks, without their contracts. Change them there.
 //! The devices of a virtual machine monitor without I/O (sans-I/O): a call changes a device and returns what is left to
-//! do. No object, no heap, no dependency.
+//! do. The devices hold no objects, use no heap and have no dependencies.
 //!
 //! ```text
 //! let mut port = Uart::new();

@@ -3,8 +3,8 @@
 // These are the lines that the prover checks, without their contracts. Change them there.
 //! A real-time clock with the registers of an ARM PL031, without I/O.
 //!
-//! A call changes the clock and returns what the guest reads, or whether the access is invalid. The clock reads no
-//! clock of the host: you pass each access its moment, in seconds since 1970.
+//! A call changes the clock and returns what the guest reads, or whether the access is invalid. The clock never reads
+//! the host's clock: you pass the moment of each access, in seconds since 1970.
 
 mod alarm;
 pub mod encoding;
@@ -69,7 +69,8 @@ pub enum ClockRegister {
     /// RTCICR, the interrupt clear register at 0x01C. A write clears the bits of RTCRIS that the value has set. It
     /// shows nothing.
     Icr,
-    /// The identification at 0xFE0 to 0xFFF, each byte at four offsets, shows this byte. It takes no write.
+    /// A part of the identification at 0xFE0 to 0xFFF. It shows this byte, which is at four offsets, and takes no
+    /// write.
     Id(u8),
     /// No register. It shows nothing, and takes no write.
     Reserved,
@@ -138,7 +139,7 @@ impl Pl031 {
         }
     }
 
-    /// The clock of this state.
+    /// Makes a clock with this state.
     // Clauses in crates/superio_core/src/rtc_pl031.rt: returns.
     pub fn from_state(state: &RtcState) -> Pl031 {
         Pl031 {
@@ -151,7 +152,7 @@ impl Pl031 {
         }
     }
 
-    /// A snapshot; `from_state` recreates the clock.
+    /// Returns a snapshot, from which `from_state` recreates the clock.
     // Clauses in crates/superio_core/src/rtc_pl031.rt: returns.
     pub fn state(&self) -> RtcState {
         RtcState {
@@ -228,8 +229,8 @@ impl Pl031 {
     }
 
     /// The guest reads four bytes at `offset` from the clock's base, at the moment `now`, in seconds since 1970. Only
-    /// the low 32 bits of `now` count. Returns the number whose bytes it reads, lowest first, or `None` if there is
-    /// nothing to read at this offset. Even then the access may find the alarm reached.
+    /// the low 32 bits of `now` count. Returns the number that the guest reads, lowest byte first, or `None` if this
+    /// offset cannot be read. Even then the access may find the alarm reached.
     #[inline(always)]
     // Clauses in crates/superio_core/src/rtc_pl031.rt: response, state.
     pub fn read(&mut self, offset: u16, now: u64) -> Option<u32> {
@@ -237,9 +238,9 @@ impl Pl031 {
         self.read_register(ClockRegister::decode(offset), time)
     }
 
-    /// The guest writes `value`, as four bytes, lowest first, at `offset` from the clock's base, at the moment `now`,
-    /// in seconds since 1970. Returns whether this offset takes a write. If not, nothing is stored, but the access may
-    /// still find the alarm reached.
+    /// The guest writes `value` at `offset` from the clock's base, as four bytes, lowest first, at the moment `now`, in
+    /// seconds since 1970. Only the low 32 bits of `now` count. Returns whether this offset takes a write. If it does
+    /// not, nothing is stored, but the access may still find the alarm reached.
     #[inline(always)]
     // Clauses in crates/superio_core/src/rtc_pl031.rt: writable, state.
     pub fn write(&mut self, offset: u16, value: u32, now: u64) -> bool {
@@ -247,16 +248,16 @@ impl Pl031 {
         self.store(ClockRegister::decode(offset), value, time)
     }
 
-    /// Whether the interrupt line is up: bit 0 of RTCMIS, set if both RTCRIS and RTCIMSC have it. Set your line to it
-    /// after each access.
+    /// Whether the interrupt line is up. Bit 0 of RTCMIS says so: it is set if RTCRIS and RTCIMSC both have it. Set
+    /// your line to this level after each access.
     // Clauses in crates/superio_core/src/rtc_pl031.rt: returns.
     pub fn interrupt_line(&self) -> bool {
         self.ris & self.imsc & 1 == 1
     }
 
-    /// The seconds from the moment `now`, in seconds since 1970, until an access finds the alarm reached, if the guest
-    /// makes none before: less than 2^32, and 0 if an access at `now` finds it. `None` if no alarm is set, or if guest
-    /// time never reaches the match. The mask plays no part.
+    /// How many seconds after the moment `now` an access finds the alarm reached, if the guest makes no access before.
+    /// `now` is in seconds since 1970. The result is less than 2^32, and 0 if an access at `now` finds the alarm
+    /// reached. It is `None` if no alarm is set, or if guest time never reaches the match. The mask plays no part.
     // Clauses in crates/superio_core/src/rtc_pl031.rt: due, bound.
     pub fn alarm_due(&self, now: u64) -> Option<u64> {
         if self.armed == 0 {

@@ -6,8 +6,8 @@
 //! A call changes the port and returns what is left to do: a byte to send, interrupts to raise, or events to report.
 //! The port owns no objects and allocates no memory, so a monitor keeps it where it likes, in any language.
 //!
-//! At the end are the steps of its calls, as methods of the registers. A step that uses the received bytes takes the
-//! FIFO as an argument, so the same code serves every receive FIFO.
+//! The steps of the calls stand at the end of this file, as methods of the registers. A step that uses the received
+//! bytes takes the FIFO as an argument, so the same code serves every receive FIFO.
 
 pub mod encoding;
 pub mod registers;
@@ -42,7 +42,8 @@ pub struct Uart {
 }
 
 impl Uart {
-    /// A fresh port: divisor 12, 8 bits a character, OUT2 set, and nothing enabled, pending or held.
+    /// Makes a fresh port: the divisor is 12, a character has 8 bits, OUT2 is set, and nothing is enabled, pending or
+    /// held.
     // Clauses in crates/superio_core/src/serial.rt: state, coherent.
     pub fn new() -> Uart {
         Uart {
@@ -51,10 +52,10 @@ impl Uart {
         }
     }
 
-    /// The guest reads the byte at `offset` from the port's base. A read asks for no interrupt. From 8 on there is no
-    /// register, and the byte is 0.
+    /// The guest reads the byte at `offset` from the port's base. At 8 and above there is no register, and the byte is
+    /// 0. A read asks for no interrupt.
     ///
-    /// If `offset` is 2 (IIR) and the byte has bit 0x01, nothing is pending: make a `character_timeout` afterwards.
+    /// If `offset` is 2 (IIR) and the byte has bit 0x01, nothing is pending: then call `character_timeout`.
     #[inline(always)]
     // Clauses in crates/superio_core/src/serial.rt: step, coherent.
     pub fn read(&mut self, offset: u8) -> ReadEffects {
@@ -62,12 +63,12 @@ impl Uart {
         self.registers.read(&mut self.in_buffer, register)
     }
 
-    /// The guest writes `value` at `offset` from the port's base. At 2, 5 and 6 (IIR, LSR and MSR), and from 8 on, a
-    /// write has no effect.
+    /// The guest writes `value` at `offset` from the port's base. A write at 2, 5 or 6 (IIR, LSR or MSR), or at 8 and
+    /// above, has no effect.
     ///
-    /// Afterwards send the byte if `sends` is true, and then ask for the interrupt `interrupts` times. If one of these
-    /// fails, the port need not know. A refused interrupt stays pending: ask again later, as often as `interrupts_due`
-    /// says.
+    /// Afterwards, send the byte if `sends` is true. Then ask for the interrupt `interrupts` times. You need not tell
+    /// the port if either of these fails. A refused interrupt stays pending: ask again later, as often as
+    /// `interrupts_due` says.
     #[inline(always)]
     // Clauses in crates/superio_core/src/serial.rt: step, at_most_2, coherent.
     pub fn write(&mut self, offset: u8, value: u8) -> WriteEffects {
@@ -82,22 +83,23 @@ impl Uart {
         FIFO_SIZE - self.in_buffer.len()
     }
 
-    /// Input arrives for the guest. The port accepts as many bytes as fit, from the first on, and none in loopback.
-    /// Offer the others again when a read reports `in_buffer_empty`, or when the guest leaves loopback.
+    /// Passes input to the guest. The port accepts the first bytes, as many as fit; in loopback it accepts none. Offer
+    /// the rest again when a read reports `in_buffer_empty`, or when the guest leaves loopback.
     ///
-    /// Then ask for the interrupt as often as `interrupts` says. Even if it is refused, the port keeps what it
-    /// accepted.
+    /// Then ask for the interrupt `interrupts` times. The port keeps what it accepted, even if the interrupt is
+    /// refused.
     #[inline(always)]
     // Clauses in crates/superio_core/src/serial.rt: step, at_most_1, coherent.
     pub fn enqueue_raw_bytes(&mut self, input: &[u8]) -> EnqueueEffects {
         self.registers.enqueue(&mut self.in_buffer, input)
     }
 
-    /// Raises RDA again if bytes are held, IER enables RDA and RDA is not pending. Otherwise nothing changes. Returns
-    /// how often to ask for the interrupt: 0 or 1 times.
+    /// Raises RDA (received data available) again if bytes are held, IER enables RDA and RDA is not pending. Otherwise
+    /// nothing changes. Returns how often to ask for the interrupt: 0 or 1 times.
     ///
-    /// A read of RBR or IIR ends RDA even if bytes are left, which then wait without an interrupt. So make this call
-    /// after each guest read of offset 2 whose byte has bit 0x01, and in each turn of your event loop.
+    /// A read of RBR or IIR ends RDA even if bytes are left. Those bytes then wait without an interrupt. So make this
+    /// call in two places: once per turn of your event loop, and right after a guest reads offset 2 and the byte has
+    /// bit 0x01.
     #[must_use = "an interrupt may have to be raised"]
     #[inline(always)]
     // Clauses in crates/superio_core/src/serial.rt: step, at_most_1, pending, coherent.
@@ -112,8 +114,8 @@ impl Uart {
         self.registers.interrupts_due()
     }
 
-    /// Whether the interrupt line is up: while a condition is pending and enabled. If your interrupt controller takes
-    /// levels, set your line to it after every call, reads among them, and ask for no interrupt.
+    /// Whether the interrupt line is up. It is up while a condition is both pending and enabled. If your interrupt
+    /// controller takes levels, set your line to this level after every call, reads included, and ask for no interrupt.
     #[inline(always)]
     // Clauses in crates/superio_core/src/serial.rt: line, due.
     pub fn interrupt_line(&self) -> bool {
@@ -128,10 +130,11 @@ impl Uart {
             && self.registers.is_coherent(!self.in_buffer.is_empty())
     }
 
-    /// The port as bytes; `from_bytes` reads them back. Any struct has an encoding: a port never holds more than 64
-    /// bytes. The encoding has no byte that the guest has read.
+    /// Saves the port as 17 to 81 bytes, which `from_bytes` reads back. Any struct has an encoding, since a `len` above
+    /// 64 counts as 64. The encoding leaves out bytes that the guest has read.
     ///
-    /// It is a header of eight bytes, the registers in the order of the fields, and the received bytes, oldest first.
+    /// It consists of a header of eight bytes, the nine registers in the order of their fields, and the received bytes,
+    /// oldest first.
     // Clauses in crates/superio_core/src/serial.rt: encoding, at_most_81.
     pub fn to_bytes(&self) -> SerialEncoding {
         let (older, newer) = self.in_buffer.as_slices();
@@ -140,12 +143,12 @@ impl Uart {
         SerialEncoding { bytes, count }
     }
 
-    /// Reads a port back from these bytes, whatever its registers hold. It may be incoherent:
+    /// Reads a port back from its saved bytes, whatever its registers hold. The port may be incoherent:
     /// [`is_coherent`](Self::is_coherent) tells.
     ///
     /// # Errors
     ///
-    /// Returns the first check that fails, in the order of [`SavedStateError`]. No port has
+    /// Returns the first check that fails, in the order of [`SavedStateError`]. A port never fails with
     /// [`SavedStateError::InvalidArmed`] or [`SavedStateError::InvalidFlags`].
     // Clauses in crates/superio_core/src/serial.rt: encoding, at_most_64, read, fault.
     pub fn from_bytes(bytes: &[u8]) -> Result<Uart, SavedStateError> {
@@ -159,7 +162,7 @@ impl Uart {
     }
 }
 
-/// The byte of a read, and the events to report. If there are both, report `in_buffer_empty` first.
+/// What a read returns: the byte, and the events to report. If both events are true, report `in_buffer_empty` first.
 #[repr(C)]
 #[derive(Clone, Copy, Debug, PartialEq, Eq)]
 #[must_use = "the byte is the guest's"]
@@ -183,20 +186,20 @@ pub struct WriteEffects {
     pub interrupts: u8,
 }
 
-/// What an enqueue did, and leaves for you to do.
+/// What an enqueue did, and what it leaves for you to do.
 #[repr(C)]
 #[derive(Clone, Copy, Debug, PartialEq, Eq)]
 #[must_use = "bytes may be left, and an interrupt may have to be raised"]
 pub struct EnqueueEffects {
-    /// How many of the bytes were accepted, from the first on.
+    /// How many bytes were accepted. They are the first ones.
     pub accepted: usize,
-    /// There were bytes, outside loopback, and 64 were held already: nothing changed.
+    /// Bytes were passed outside loopback while 64 were held: nothing changed.
     pub fifo_full: bool,
     /// How often to ask for the interrupt: 0 or 1 times.
     pub interrupts: u8,
 }
 
-/// What the trigger answered, in order, when one call of the port called it.
+/// What the trigger answered during one call of the port, in order.
 #[derive(Clone, Copy, Debug, PartialEq, Eq)]
 pub enum Asked {
     /// The trigger was not called.
@@ -259,7 +262,7 @@ impl Registers {
         self.interrupt_identification = if others == 0 { IIR_NONE_BIT } else { others };
     }
 
-    /// An IER write: stores the bits that it keeps, raises RDA if bytes are held, then raises THRE. Returns how often
+    /// An IER write: stores the bits that IER keeps, raises RDA if bytes are held, then raises THRE. Returns how often
     /// to call the trigger.
     #[inline(always)]
     fn write_ier<F: RxFifo>(&mut self, fifo: &F, value: u8) -> u8 {
@@ -267,7 +270,7 @@ impl Registers {
         if fifo.is_empty() {
             return u8::from(self.raise(Condition::Thre));
         }
-        // Both are decided before one is set, which takes fewer instructions.
+        // Deciding both before setting one takes fewer instructions.
         match (
             self.becomes_pending(Condition::Rda),
             self.becomes_pending(Condition::Thre),
@@ -289,8 +292,8 @@ impl Registers {
         }
     }
 
-    /// Call this if two trigger calls were due and the trigger refused the first: it lowers THRE, since a refusal ends
-    /// an IER write before THRE is raised. Otherwise it changes nothing.
+    /// Lowers THRE if two trigger calls were due and the trigger refused the first, since a refusal ends an IER write
+    /// before THRE is raised. Otherwise nothing changes.
     // Clauses in crates/superio_core/src/serial.rt: registers.
     pub fn cancel_thre(&mut self, due: u8, asked: Asked) {
         if due == 2 && matches!(asked, Asked::Refused) {
@@ -305,8 +308,8 @@ impl Registers {
         self.raise(Condition::Rda)
     }
 
-    /// Adds as many of these bytes as fit after the held ones, first ones first. Returns how many it added, and whether
-    /// to call the trigger.
+    /// Adds the first of these bytes after the held ones, as many as fit. Returns how many it added, and whether to
+    /// call the trigger.
     #[inline(always)]
     // Clauses in crates/superio_core/src/serial.rt: count, due, state, len_in_range.
     pub fn rx_push<F: RxFifo>(&mut self, fifo: &mut F, bytes: &[u8]) -> (usize, bool) {
@@ -317,7 +320,7 @@ impl Registers {
         (count, self.rx_ready())
     }
 
-    /// Receives as many of these bytes as fit, first ones first. In loopback it accepts none.
+    /// Receives the first of these bytes, as many as fit. In loopback it accepts none.
     #[inline(always)]
     // Clauses in crates/superio_core/src/serial.rt: step, at_most_1, len_in_range.
     pub fn enqueue<F: RxFifo>(&mut self, fifo: &mut F, input: &[u8]) -> EnqueueEffects {
@@ -436,7 +439,7 @@ impl Registers {
     #[inline(always)]
     // Clauses in crates/superio_core/src/serial.rt: line, due.
     pub fn interrupt_line(&self) -> bool {
-        // Both are looked at, which takes fewer instructions.
+        // Testing both takes fewer instructions.
         self.is_asserted(Condition::Thre) | self.is_asserted(Condition::Rda)
     }
 }

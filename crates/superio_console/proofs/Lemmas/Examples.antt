@@ -102,7 +102,7 @@ polls_then_drives :
 unfolding has_bits with_bits only_bits
 polls_then_drives = refl
 
--- a guest that sleeps gets none, also if it polls, until a reset or until its driver is ready
+-- a guest that sleeps gets none, even if it polls, until a reset or until its driver is ready
 sleeps :
     (in_each received_at (Suspends ∷ Receives (0x61 ∷ []) ∷ SetsPolled true ∷ Receives (0x62 ∷ []) ∷ []) (after_calls opened fresh) ≡ [])
     × (in_each received_at (SetsPolled true ∷ Suspends ∷ Receives (0x61 ∷ []) ∷ Resets ∷ Receives (0x62 ∷ []) ∷ []) fresh ≡ 0x62 ∷ [])

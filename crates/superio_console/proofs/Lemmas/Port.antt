@@ -1,5 +1,5 @@
 -- SPDX-License-Identifier: Apache-2.0 OR BSD-3-Clause
--- The port under a console's calls is that of its trace.
+-- The port under a console's calls is the port to which its trace leads.
 use Rattle.std.proofs.Common.{◌≡◌, Bool, false, ◌||◌, List, [], ◌∷◌, ◌++◌, refl, sym, ap, ◌∙◌, arith}
 use Rattle.superio_laws.specs.Serial.{State, Op, Trace, Asked, step}
 use Rattle.superio_laws.specs.Serial.Laws.{state_after}

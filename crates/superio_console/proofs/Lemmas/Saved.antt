@@ -226,7 +226,7 @@ rest-of contents = take_all (length contents - 11) (drop 11 contents) (omega (ar
 pub split-back : (n : ℕ) (front back rest : List ℕ) → front ≡ take n rest → back ≡ drop n rest → front ++ back ≡ rest
 split-back n front back rest is_front is_back = ap (λ l. l ++ back) is_front ∙ ap (λ l. take n rest ++ l) is_back ∙ take-append-drop n rest
 
--- they are those of the encoding
+-- they are the parts of the encoding
 pub parts-back : (contents output port : List ℕ) (dropped : ℕ) → 11 ≤ length contents → ((i : ℕ) → slice_index contents i < 256)
     → dropped ≡ from_le_bytes w64 (number_of_8 contents) → length output ≡ output_count contents → output ++ port ≡ drop 11 contents
     → contents ≡ slice_index contents 0 ∷ to_le_bytes w64 dropped ++ to_le_bytes w16 (length output) ++ (output ++ port)

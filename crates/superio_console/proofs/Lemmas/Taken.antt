@@ -8,7 +8,7 @@ use Rattle.superio_console.specs.Console.{ConsoleState, Call}
 use Rattle.superio_console.specs.Laws.{after_calls, in_each, left_at, left_in_runs, EachTakes, TakenLaw}
 use Rattle.superio_console.proofs.Lemmas.Input.{input_law}
 
--- what left, then what is held, begins with what was held
+-- what left, followed by what is held, begins with what was held
 record Leaves (left : List ℕ) (old new : ConsoleState) : Type 0 where
   arrived : List ℕ
   in_order : left ++ new.port.in_buffer ≡ old.port.in_buffer ++ arrived

@@ -28,7 +28,7 @@ offset-back offset rest fits =
     ap (cast_signed w64) (from_le_bytes-to_le_bytes_8 (cast_unsigned w64 offset) (offset-bits offset fits))
     ∙ to_z-of_z w64 offset fits
 
--- so the numbers are those of the state that has this encoding
+-- so the numbers are the numbers of the state that has this encoding
 pub numbers_in-encoding : (state : RtcState) → IsClock state → numbers_in (clock_encoding state) ≡ state
 numbers_in-encoding state fits = search (number-back, offset-back, flag-back)
 

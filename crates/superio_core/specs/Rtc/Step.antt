@@ -1,6 +1,6 @@
 -- SPDX-License-Identifier: Apache-2.0 OR BSD-3-Clause
--- The step of one access to the clock, in any state: its response and the state that it leaves. And when the alarm is
--- due.
+-- The step of one access to the clock, in any state: its response and the state that it leaves. Then also when the
+-- alarm is due.
 use Rattle.std.specs.Prelude.{ℕ, ◌%◌, pos, ◌+ℤ◌, ◌==◌, ◌&&◌, Bool, nat_le, false, if◌then◌else◌, List, [], ◌∷◌, Option, None, ◌≡◌, ◌+◌, ◌^◌, ◌<◌, ◌≤◌, ℤ, true, Some, bit_and}
 use Rattle.superio_core.specs.Rtc.{RtcState, Access, read, write, clock_register_at, host_time, guest_time, guest_time_in, clock_register_read, after_write}
 use Rattle.superio_core.specs.Bits.{with_bits}
@@ -41,7 +41,7 @@ state_after_accesses start (access ∷ trace) = clock_step (state_after_accesses
 abbrev pub rtc_irq_level : (state : RtcState) → Bool
 rtc_irq_level state = bit_and state.ris state.imsc % 2 == 1
 
--- the alarm is due so many seconds after a moment: an access then finds it reached, and none does sooner
+-- the alarm is due so many seconds after a moment: an access then finds it reached, and no access before does
 pub record IsDueIn (state : RtcState) (now seconds : ℕ) : Type 0 where
   pub reached : is_alarm_reached state (host_time (now + seconds)) ≡ true
   pub not_sooner : (sooner : ℕ) → sooner < seconds → is_alarm_reached state (host_time (now + sooner)) ≡ false
@@ -55,11 +55,11 @@ IsAlarmDue state now None = (later : ℕ) → is_alarm_reached state (host_time 
 abbrev pub Reached : (offset : ℤ) (value time : ℕ) → Type 0
 Reached offset value time = value ≤ guest_time (pos time +ℤ offset) time
 
--- it has not
+-- guest time has not reached the value, at a host's time
 abbrev pub NotReached : (offset : ℤ) (value time : ℕ) → Type 0
 NotReached offset value time = guest_time (pos time +ℤ offset) time < value
 
--- the first host's time from one on, up to the largest, at which guest time has reached a value
+-- the first of the host's times from `from` up to the largest at which guest time has reached a value
 pub record IsFirst (offset : ℤ) (value from first : ℕ) : Type 0 where
   pub in_order : from ≤ first
   pub in_range : first < 2 ^ 32
@@ -70,7 +70,7 @@ abbrev pub FirstAtOrAfter : (offset : ℤ) (value from : ℕ) (found : Option �
 FirstAtOrAfter offset value from (Some first) = IsFirst offset value from first
 FirstAtOrAfter offset value from None = (time : ℕ) → from ≤ time → time < 2 ^ 32 → NotReached offset value time
 
--- the same in seconds after a moment, past the largest host's time too
+-- guest time first reaches a value so many seconds after a moment, even if the host's time has to wrap to 0 before
 pub record IsComeIn (offset : ℤ) (value now seconds : ℕ) : Type 0 where
   pub come : Reached offset value (host_time (now + seconds))
   pub not_sooner : (sooner : ℕ) → sooner < seconds → NotReached offset value (host_time (now + sooner))

@@ -96,7 +96,7 @@ bytes_sent (Write offset value) Sent.Nothing = []
 bytes_sent (Write offset value) _ = value ∷ []
 bytes_sent _ _ = []
 
--- its outcome, if there is one
+-- the outcome of the byte that a call sent, if there is one
 abbrev pub outcome_of : (sent : Sent) → List Sent
 outcome_of Sent.Nothing = []
 outcome_of sent = sent ∷ []

@@ -1,8 +1,8 @@
 -- SPDX-License-Identifier: Apache-2.0 OR BSD-3-Clause
 -- The step of a call in any state, coherent or not: what it responds, the state that it leaves, the events that it
 -- reports and the trigger calls that it makes, given the trigger's answers and the outcome of a byte. Then which
--- answers and outcomes can come, and the step of a port without objects: the effects that a call returns for its caller
--- to carry out.
+-- answers and outcomes can come, and the step of a port without objects: the effects that a call returns, and its
+-- caller carries out.
 use Rattle.std.specs.Prelude.{ℕ, ◌+◌, ◌-◌, Bool, not, ◌==◌, ◌&&◌, ◌||◌, nat_le, if◌then◌else◌, List, [], ◌∷◌, ◌++◌, length, take, drop, ◌≡◌}
 use Rattle.std.specs.Bool.{beq}
 use Rattle.superio_core.specs.Serial.Operations.{Asked, Sent, Op, Read, Write, Enqueue, CharacterTimeout, Restore, Response, ByteRead, EnqueueOk, TimeoutOk, TriggerRefused, FifoFull, NoResponse, Event, buffer_read, out_byte, tx_lost_byte, in_buffer_empty, is_refused_at_once, recorded_write_response, count_if, is_sent, DecodedOp, IerWrite, ThrWrite, RxInput, Timeout, decode, sent_by, events_of_read}
@@ -49,7 +49,7 @@ raise_rda_while_held held enable identification =
 
 -- ---- receiving bytes
 
--- the first bytes, as many as have room beside the held ones: the FIFO holds at most 64
+-- the first bytes, as many as fit beside the held ones: the FIFO holds at most 64
 abbrev pub bytes_that_fit : (held bytes : List ℕ) → List ℕ
 bytes_that_fit held bytes = take (64 - length held) bytes
 
@@ -81,7 +81,7 @@ enqueue_step_response s bytes asked =
 abbrev pub timeout_step_response : (asked : Asked) → Response
 timeout_step_response asked = if is_refused_at_once asked then TriggerRefused else TimeoutOk
 
--- any call: a read shows the register at its offset
+-- the response to any call: a read shows the register at its offset
 abbrev pub step_response : (s : State) (op : Op) (asked : Asked) (sent : Sent) → Response
 step_response s (Read offset) asked sent =
     ByteRead (register_read (register_at (is_dlab s.line_control) offset) s)
@@ -102,7 +102,7 @@ rbr_read s =
       line_status = if not_empty left then s.line_status else without_bits s.line_status lsr_dr_bit;
     }
 
--- an RBR read; an IIR read, after which nothing is pending; no other read changes anything
+-- an RBR read takes a byte, and after an IIR read nothing is pending; no other read changes anything
 abbrev pub read_step : (register : Register) (s : State) → State
 read_step Data s = rbr_read s
 read_step Iir s = record s { interrupt_identification = iir_none_bit }
@@ -144,7 +144,7 @@ character_timeout s = record s {
       raise_rda_while_held s.in_buffer s.interrupt_enable s.interrupt_identification;
 }
 
--- any call: an enqueue receives what it accepts, and a restore keeps the state
+-- the state after any call: an enqueue receives what it accepts, and a restore keeps the state
 abbrev pub step : (s : State) (op : Op) (asked : Asked) → State
 step s (Read offset) asked = read_step (register_at (is_dlab s.line_control) offset) s
 step s (Write offset value) asked = write_step (register_at (is_dlab s.line_control) offset) value asked s
@@ -154,7 +154,7 @@ step s Restore asked = s
 
 -- ---- the events
 
--- an RBR read reports that no byte is left, if none is, and then that it read
+-- an RBR read reports first that no byte is left, if none is, and then that the guest read
 abbrev pub read_events : (register : Register) (held : List ℕ) → List Event
 read_events Data held = (if not_empty (drop 1 held) then [] else in_buffer_empty ∷ []) ++ buffer_read ∷ []
 read_events _ held = []
@@ -165,7 +165,7 @@ sent_events Sent.Nothing = []
 sent_events Sent.Out = out_byte ∷ []
 sent_events Sent.Lost = tx_lost_byte ∷ []
 
--- any call
+-- the events that any call reports
 abbrev pub step_events : (s : State) (op : Op) (sent : Sent) → List Event
 step_events s (Read offset) sent = read_events (register_at (is_dlab s.line_control) offset) s.in_buffer
 step_events s (Write offset value) sent = sent_events sent
@@ -177,18 +177,18 @@ step_events s _ sent = []
 abbrev pub decode_in : (s : State) (op : Op) → DecodedOp
 decode_in s op = decode (is_dlab s.line_control) (is_loopback s.modem_control) op
 
--- received bytes: one, if RDA becomes pending
+-- received bytes make one call if RDA becomes pending
 abbrev pub arrival_calls : (bytes : List ℕ) (s : State) → ℕ
 arrival_calls [] s = 0
 arrival_calls (byte ∷ bytes) s = count_if (becomes_pending Rda s.interrupt_enable s.interrupt_identification)
 
--- an IER write: one for RDA, then one for THRE
+-- an IER write makes one call for RDA, then one for THRE
 abbrev pub ier_write_calls : (enable : ℕ) (s : State) → ℕ
 ier_write_calls enable s =
     count_if (rda_becomes_pending s.in_buffer enable s.interrupt_identification)
     + count_if (becomes_pending Thre enable (raise_rda_while_held s.in_buffer enable s.interrupt_identification))
 
--- a character timeout: one, if RDA becomes pending
+-- a character timeout makes one call if RDA becomes pending
 abbrev pub timeout_calls : (s : State) → ℕ
 timeout_calls s = count_if (rda_becomes_pending s.in_buffer s.interrupt_enable s.interrupt_identification)
 
@@ -222,7 +222,7 @@ answers_fit s op asked sent =
     answers_all (step_calls s op) asked && beq (is_sent sent) (sends_byte s op)
 
 -- ---- one call of a port, as its contract states it: the effects that the caller has to carry out, and the state
--- after it, which is that of a step without a refusal, whatever the caller finds when it does
+-- after it. This is the state after a step without a refusal, whatever happens when the caller carries out the effects
 
 -- a read gives the byte, and which events it reports; it asks for no interrupt
 pub record IsUartRead (offset : ℕ) (effects : ReadEffects) (old new : State) : Type 0 where

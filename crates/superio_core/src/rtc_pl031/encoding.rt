@@ -16,9 +16,10 @@ pub const SAVED_SIZE: usize = 33;
 /// The number of bytes after the header.
 const CONTENTS_SIZE: usize = 25;
 
-/// The contents of a clock's registers: enough to recreate the clock.
+/// The contents of a clock's registers, from which the clock can be recreated.
 ///
-/// Any values may be restored, and reads show them unchanged. The default is all zeros, and no alarm.
+/// Any values may be restored, and reads show them unchanged. In the default state all numbers are 0, and no alarm is
+/// set.
 #[derive(Clone, Copy, Debug, Default, Eq, PartialEq)]
 pub struct RtcState {
     /// The load register, RTCLR: the last loaded value, or 0 after a reset.
@@ -36,7 +37,7 @@ pub struct RtcState {
 }
 
 impl RtcState {
-    /// A state with these five fields, as saved by a clock without an alarm. No alarm is set.
+    /// Makes a state of these five fields, as a program without alarms saves them. No alarm is set.
     pub fn from_five(lr: u32, offset: i64, mr: u32, imsc: u32, ris: u32) -> RtcState
         ensures { result ≡ record { lr = lr; offset = offset; mr = mr; imsc = imsc; ris = ris; armed = false } }
     {
@@ -50,7 +51,7 @@ impl RtcState {
         }
     }
 
-    /// The five fields that `from_five` takes, for a program without alarms. `None` if an alarm is set.
+    /// Returns the five fields that `from_five` takes, for a program without alarms, or `None` if an alarm is set.
     pub fn to_five(&self) -> Option<(u32, i64, u32, u32, u32)>
         ensures fields { IfSome result (λ five. self.now ≡ record {
           lr = five.0;
@@ -70,7 +71,7 @@ impl RtcState {
     }
 }
 
-/// Two clocks are equal if their states are: then no guest can tell them apart.
+/// Two clocks are equal if their states are equal. No guest can tell such clocks apart.
 impl PartialEq for Pl031 {
     ghost use Rattle.superio_core.specs.Rtc.{state_of_clock};
     ghost use Rattle.superio_core.specs.Saved.{clock_encoding};
@@ -94,10 +95,10 @@ impl Eq for Pl031 {
 impl RtcState {
     ghost use Rattle.superio_core.specs.Saved.{clock_encoding};
 
-    /// The state as bytes; `from_bytes` reads them back.
+    /// Saves the state as 33 bytes, which `from_bytes` reads back.
     ///
-    /// They are a header of eight bytes, `lr`, `mr`, `imsc` and `ris` of four bytes each, `offset` of eight, and 1 if
-    /// an alarm is set, else 0. Numbers are little-endian.
+    /// They are a header of eight bytes; `lr`, `mr`, `imsc` and `ris` in four bytes each; `offset` in eight bytes; and
+    /// a last byte that is 1 if an alarm is set, and otherwise 0. Numbers are little-endian.
     #[tactic(auto, using(crate::proofs::Lemmas::Saved::bytes_of_arrays))]
     pub fn to_bytes(&self) -> [u8; SAVED_SIZE]
         ensures { result ≡ clock_encoding self.now }
@@ -116,11 +117,11 @@ impl RtcState {
         ]
     }
 
-    /// Reads the state back from these bytes.
+    /// Reads the state back from its saved bytes.
     ///
     /// # Errors
     ///
-    /// Returns the first check that fails, in the order of [`SavedStateError`]. No clock has
+    /// Returns the first check that fails, in the order of [`SavedStateError`]. A clock never fails with
     /// [`SavedStateError::TooManyBytes`] or [`SavedStateError::InvalidFlags`].
     #[tactic(auto, using(crate::proofs::Lemmas::Saved::clock_encoding_read))]
     pub fn from_bytes(bytes: &[u8]) -> Result<RtcState, SavedStateError>
@@ -131,7 +132,7 @@ impl RtcState {
         Self::parse(bytes)
     }
 
-    /// As `from_bytes`.
+    /// Does what `from_bytes` does.
     fn parse(bytes: &[u8]) -> Result<RtcState, SavedStateError>
         ensures encoding { IfOk result (λ state. bytes.now ≡ clock_encoding state) }
         ensures numbers { IfOk result IsClock }

@@ -58,7 +58,7 @@ impl Eq for SerialEncoding {
     ghost laws = { nat_list_eq_equiv };
 }
 
-/// Two ports are equal if their saved states are: then no guest can tell them apart.
+/// Two ports are equal if their saved states are equal. No guest can tell such ports apart.
 impl PartialEq for Uart {
     ghost eq = { λ a b. pointwise nat_eq (serial_encoding (state_of_uart a)) (serial_encoding (state_of_uart b)) };
 
@@ -87,8 +87,8 @@ fn copy_both(target: &mut [u8], first: &[u8], second: &[u8])
 }
 
 impl Registers {
-    /// Writes the encoding of a port with these registers and received bytes, in two slices, to the start of an array,
-    /// and returns its length. The other bytes do not change.
+    /// Writes the encoding of a port with these registers and these received bytes, given in two slices, to the start
+    /// of an array. Returns its length. The bytes after it do not change.
     pub(super) fn encode_serial(
         &self,
         older: &[u8],
@@ -143,7 +143,7 @@ impl Registers {
 ///
 /// # Errors
 ///
-/// As for [`Uart::from_bytes`].
+/// Returns the errors of [`Uart::from_bytes`].
 pub(super) fn decode_serial(bytes: &[u8]) -> Result<(Registers, &[u8]), SavedStateError>
     ensures encoding { IfOk result (λ found. bytes.now ≡ serial_encoding (state_with found.0 found.1.now)) }
     ensures at_most_64 { IfOk result (λ found. length found.1.now ≤ 64) }

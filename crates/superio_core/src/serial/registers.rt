@@ -123,7 +123,7 @@ pub enum Condition {
 impl Condition {
     ghost use Rattle.superio_core.specs.Serial.RegisterMap.{ier_bit, iir_bit};
 
-    /// The bit of IER that enables it.
+    /// The bit of IER that enables the condition.
     #[inline(always)]
     pub(super) fn ier_bit(self) -> u8
         ensures { result ≡ ier_bit self }
@@ -134,7 +134,7 @@ impl Condition {
         }
     }
 
-    /// The bit of IIR that shows it pending.
+    /// The bit of IIR that shows that the condition is pending.
     #[inline(always)]
     pub(super) fn iir_bit(self) -> u8
         ensures { result ≡ iir_bit self }
@@ -159,7 +159,7 @@ pub struct Registers {
     pub baud_divisor_high: u8,
     /// IER. 0x01 enables RDA, received data available, and 0x02 THRE, transmitter holding register empty.
     pub interrupt_enable: u8,
-    /// IIR without bits 0xC0. 0x04: RDA is pending, 0x02: THRE is, 0x01: neither is.
+    /// IIR without bits 0xC0. 0x04 shows that RDA is pending, 0x02 that THRE is pending, and 0x01 that neither is.
     pub interrupt_identification: u8,
     /// LCR. 0x80 is DLAB.
     pub line_control: u8,
@@ -237,8 +237,9 @@ impl Registers {
         has_bits(self.modem_control, MCR_LOOP_BIT)
     }
 
-    /// Whether these registers are coherent with a FIFO that holds bytes or none, and at most 64: LSR shows data ready
-    /// exactly if it holds some, IIR is 1, 2, 4 or 6, and RDA is pending only if it holds some.
+    /// Whether these registers are coherent with a FIFO of at most 64 bytes, which holds some if `holds_bytes` is true,
+    /// and otherwise none: LSR shows data ready exactly if it holds some, IIR is 1, 2, 4 or 6, and RDA is pending only
+    /// if it holds some.
     pub fn is_coherent(&self, holds_bytes: bool) -> bool
         ensures { (bytes : List ℕ) → not_empty bytes ≡ holds_bytes → length bytes ≤ 64 →
             IsTrue result ↔ Coherent (state_with self.now bytes) }
@@ -247,8 +248,8 @@ impl Registers {
             && shows_conditions(self.interrupt_identification, holds_bytes)
     }
 
-    /// MSR as read. In loopback its high four bits show MCR's outputs: DTR as DSR, RTS as CTS, OUT1 as RI and OUT2 as
-    /// DCD.
+    /// What a read of MSR shows. In loopback its high four bits show MCR's outputs: DTR as DSR, RTS as CTS, OUT1 as RI
+    /// and OUT2 as DCD.
     pub(super) fn read_msr(&self) -> u8
         ensures { result ≡ msr_read self.now.modem_control self.now.modem_status }
     {

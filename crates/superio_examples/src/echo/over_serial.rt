@@ -106,7 +106,7 @@ fn finds_interrupt<EV: SerialEvents, W: Write>(serial: &mut Serial<Counter, EV, 
 }
 
 /// The handler: reads IIR until nothing is pending, and echoes at most `bound` bytes after each read that shows an
-/// interrupt. As nothing is pending then, the monitor makes a character timeout.
+/// interrupt. Since nothing is pending then, the monitor makes a character timeout.
 fn run_handler<EV: SerialEvents, W: Write>(
     serial: &mut Serial<Counter, EV, W>,
     bound: usize,
@@ -161,7 +161,7 @@ fn serve<EV: SerialEvents, W: Write>(
     Ok(())
 }
 
-/// A piece of input comes. Returns how many of its bytes there was room for. The trigger was called if there are any.
+/// A piece of input comes. Returns how many of its bytes fit. The trigger was called if any do.
 fn receive<EV: SerialEvents, W: Write>(
     serial: &mut Serial<Counter, EV, W>,
     piece: &[u8],
@@ -183,7 +183,7 @@ fn receive<EV: SerialEvents, W: Write>(
     serial.enqueue_raw_bytes(piece)
 }
 
-/// A piece of input comes, and the driver echoes it. Returns how many of its bytes there was room for.
+/// A piece of input comes, and the driver echoes it. Returns how many of its bytes fit.
 #[tactic(auto)]
 fn echo_piece<EV: SerialEvents, W: Write>(
     serial: &mut Serial<Counter, EV, W>,
@@ -210,7 +210,7 @@ fn echo_piece<EV: SerialEvents, W: Write>(
     Ok(taken)
 }
 
-/// The first `most` bytes of the input come, and the driver echoes as many as there is room for. Returns the rest.
+/// The first `most` bytes of the input come, and the driver echoes as many as fit. Returns the rest.
 #[tactic(auto)]
 fn echo_next<'a, EV: SerialEvents, W: Write>(
     serial: &mut Serial<Counter, EV, W>,
@@ -240,7 +240,7 @@ fn echo_next<'a, EV: SerialEvents, W: Write>(
     Ok(rest)
 }
 
-/// All input comes: first in pieces of at most these sizes, and then as much at a time as there is room for.
+/// All input comes: first in pieces of at most these sizes, and then as much at a time as fits.
 #[tactic(auto)]
 fn echo_input<EV: SerialEvents, W: Write>(
     serial: &mut Serial<Counter, EV, W>,
@@ -267,9 +267,9 @@ fn echo_input<EV: SerialEvents, W: Write>(
     Ok(())
 }
 
-/// A guest opens a new port, and echoes the input, which comes in pieces of at most these sizes and then as there is
-/// room. Its handler takes at most `bound` bytes at each interrupt. Returns the writer, which took exactly the input,
-/// in order.
+/// A guest opens a new port, and echoes the input, which comes first in pieces of at most these sizes, and then as much
+/// at a time as fits. Its handler takes at most `bound` bytes at each interrupt. Returns the writer, which took exactly
+/// the input, in order.
 ///
 /// # Errors
 ///

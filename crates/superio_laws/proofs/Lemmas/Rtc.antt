@@ -22,7 +22,7 @@ use Rattle.superio_core.proofs.Lemmas.{bit_at-without, without-twice, without-of
 pub counter-offset : (start : RtcState) (trace : List Access) (time : ℕ) → pos time +ℤ counter start trace 0 ≡ counter start trace time
 counter-offset start trace time = grind (arith, ints)
 
--- so guest time is that of the history
+-- so guest time is as the history says
 pub guest_time-history : (start : RtcState) (trace : List Access) (time : ℕ) → guest_time_in (clock_of_history start trace) time ≡ guest_time (counter start trace time) time
 guest_time-history start trace time = ap (λ counter. guest_time counter time) (counter-offset start trace time)
 
@@ -200,7 +200,7 @@ begins start =
     ∙ ap (λ armed. record start { offset = pos 0 +ℤ start.offset; ris = bit_or (without_bits start.ris 0) 0; armed = armed })
     (and-not-false start.armed)
 
--- over any accesses the state is that of the history
+-- over any accesses the state is as the history says
 pub states : (start : RtcState) (trace : List Access) → state_after_accesses start trace ≡ clock_of_history start trace
 states start [] = begins start
 states start (access ∷ trace) = ap (λ state. clock_step state access) (states start trace) ∙ goes_on start trace access
@@ -231,7 +231,7 @@ bit_at-raised true (suc bit) =
     bit_at_ones_above 1 (suc bit) (omega arith) ∙ apart
 bit_at-raised false bit = bit_at-zero bit ∙ none (bit == 0)
 
--- a raw bit is that of the start, unless an access of the trace cleared it, or the alarm's
+-- a raw bit is as at the start unless an access of the trace cleared it, or it is the alarm's
 pub raw_bits : (start : RtcState) (trace : List Access) (bit : ℕ) → bit_at (clock_of_history start trace).ris bit
     ≡ (if (bit == 0) && is_alarm_raised start trace then 1 else (if is_cleared trace bit then 0 else bit_at start.ris bit))
 unfolding with_bits

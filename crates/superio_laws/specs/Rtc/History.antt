@@ -9,7 +9,7 @@ use Rattle.superio_core.specs.Rtc.{Access, read, write, clock_register_at, host_
 use Rattle.std.specs.Int.{bit_at}
 use Rattle.superio_core.specs.Bits.{with_bits, without_bits}
 
--- the value of the newest access that `find` gives one for
+-- the value that `find` gives for the newest access that has one
 abbrev pub newest_found : {A : Type 0} → (find : Access → Option A) (trace : List Access) → Option A
 newest_found find [] = None
 newest_found find (access ∷ trace) = option_or (find access) (newest_found find trace)
@@ -52,7 +52,7 @@ load_by None start = start.lr
 
 -- ---- the interrupt bits
 
--- the bits that an access clears: those of a write to RTCICR, at 0x01C
+-- the bits that an access clears: a write to RTCICR, at 0x01C, clears the bits of its value
 abbrev pub cleared_by : (access : Access) → ℕ
 cleared_by access = unwrap_or (value_written 0x01C access) 0
 
@@ -94,7 +94,7 @@ guest_times_since_match start (access ∷ trace) =
     if is_some (match_written access) then []
     else guest_time_at start trace access ∷ guest_times_since_match start trace
 
--- one of these is at the match or past it
+-- one of these guest times is at the match or past it
 abbrev pub is_reached : (start : RtcState) (trace : List Access) → Bool
 is_reached start trace =
     list_any (λ guest. nat_le (match_value start trace) guest) (guest_times_since_match start trace)
@@ -117,9 +117,9 @@ is_alarm_raised start (access ∷ trace) =
 
 -- ---- the clock
 
--- the offset is how far the counter is ahead of the host's time, so the counter at host's time 0; the mask is bit 0 of
--- the last write to RTCIMSC, at 0x010; a raw bit is set if the start has it and no write to RTCICR had it, and bit 0
--- also if the alarm raised it
+-- the offset is how far the counter is ahead of the host's time, which is the counter when the host's time is 0. The
+-- mask is bit 0 of the last write to RTCIMSC, at 0x010. A raw bit is set if the start has it and no write to RTCICR had
+-- it, and bit 0 is set also if the alarm raised it
 abbrev pub clock_of_history : (start : RtcState) (trace : List Access) → RtcState
 clock_of_history start trace = record {
   lr = load_by (newest_found setting_of trace) start;

@@ -44,7 +44,7 @@ enqueue_history_response start trace bytes asked =
     else (if is_refused_at_once asked then TriggerRefused
     else EnqueueOk (length (accepted_by (decode_at start trace (Enqueue bytes)) (held_bytes start trace)))))
 
--- what any call responds: a write by the trigger's answers and the outcome of its byte
+-- what any call responds. The response to a write follows from the trigger's answers and the outcome of its byte
 abbrev pub history_response :
     (start : State) (trace : Trace) (op : Op) (asked : Asked) (sent : Sent) → Response
 history_response start trace (Read offset) asked sent = ByteRead (guest_read start trace offset)
@@ -86,8 +86,8 @@ none_lost newest = list_all (λ (entry : TraceEntry). not (is_lost entry.sent)) 
 -- ---- what a call does to the port's objects at each point of a trace: the events reported, and the trigger calls
 -- made
 
--- an RBR read reports that no byte is left, if none is, and then that it read. A byte that was sent is reported as
--- out or as lost
+-- an RBR read reports first that no byte is left, if none is, and then that the guest read. A byte that was sent is
+-- reported as out or as lost
 abbrev pub decoded_events : (kind : DecodedOp) (left : List ℕ) (sent : Sent) → List Event
 decoded_events RbrRead left sent = (if not_empty left then [] else in_buffer_empty ∷ []) ++ buffer_read ∷ []
 decoded_events kind left Sent.Nothing = []

@@ -52,12 +52,12 @@ InterruptLaw = (start : State) (trace : Trace) (thre rda : Bool)
 abbrev pub CoherenceLaw : Type 0
 CoherenceLaw = (s : State) (op : Op) (asked : Asked) → Coherent s → Coherent (step s op asked)
 
--- from a coherent start, the state is that of the history
+-- from a coherent start, the history gives the state
 abbrev pub StateLaw : Type 0
 StateLaw = (start : State) (trace : Trace) → Coherent start
     → state_after start trace ≡ state_of_history start trace
 
--- and a call responds as the history says: a read with the guest read
+-- a call responds as the history says: a read responds with the guest read
 abbrev pub ResponseLaw : Type 0
 ResponseLaw = (start : State) (trace : Trace) (entry : TraceEntry) → Coherent start
     → step_response (state_after start trace) entry.op entry.asked entry.sent
@@ -76,7 +76,7 @@ pub record StepAgrees (start : State) (trace : Trace) (entry : TraceEntry) : Typ
   pub output :
       bytes_sent entry.op entry.sent ≡ sent_by (decode_at start trace entry.op)
 
--- the trigger calls that a call makes, as long as none is refused, are those of the history, and so are a restore's
+-- the history gives the trigger calls that a call makes as long as none is refused, and the trigger calls of a restore
 pub record PrefixAgrees (start : State) (trace : Trace) : Type 0 where
   pub calls : (op : Op) → step_calls (state_of_history start trace) op ≡ calls_due start trace op
   pub restoring : conditions_due (state_of_history start trace) ≡ conditions_due_after start trace
@@ -90,14 +90,15 @@ StepLaw = (start : State) (trace : Trace) → Coherent start
 
 -- ---- one call of a port whose state is that of a history
 
--- it is fitting there, replies as the history says, and leaves the state of the trace with its entry added
+-- the call is fitting there, replies as the history says, and leaves the state of the trace with its entry added
 pub record CallAgrees
     (start : State) (trace : Trace) (entry : TraceEntry) (reply : Response) (new : State) : Type 0 where
   pub fitting : IsTrue (is_fitting_entry start trace entry)
   pub response : reply ≡ history_response start trace entry.op entry.asked entry.sent
   pub state : new ≡ state_of_history start (entry ∷ trace)
 
--- by what its contract says about the step: which answers were possible, the reply, and the state after it
+-- this follows from what its contract says about the step: which answers were possible, the reply, and the state after
+-- it
 abbrev pub CallLaw : Type 0
 CallLaw = (start : State) (trace : Trace) (entry : TraceEntry) (reply : Response) (old new : State)
     → Coherent start → old ≡ state_of_history start trace
@@ -105,8 +106,8 @@ CallLaw = (start : State) (trace : Trace) (entry : TraceEntry) (reply : Response
     → reply ≡ step_response old entry.op entry.asked entry.sent → new ≡ step old entry.op entry.asked
     → CallAgrees start trace entry reply new
 
--- a retry in that state: the trigger calls are those of a restore there, and it counts as one. Its
--- entry is fitting, responds nothing, and the state is that of the trace with this entry added
+-- a retry in that state makes the trigger calls of a restore there, and counts as a restore. Its entry is fitting and
+-- responds nothing, and it leaves the state of the trace with this entry added
 pub record RetryAgrees (start : State) (trace : Trace) (s : State) : Type 0 where
   pub calls : conditions_due s ≡ conditions_due_after start trace
   pub counted :

@@ -12,7 +12,7 @@ abbrev pub SameWithoutCall : {Object Call : Type 0} → (old : Object) (calls : 
 SameWithoutCall old [] new = old ≡ new
 SameWithoutCall old (call ∷ calls) new = ⊤
 
--- an object that was not called is the same. Nothing is stated of one that was
+-- an object that was not called is the same. Nothing is stated about one that was called
 pub record AnyCalls {Object Call : Type 0} (old : Object) (calls : List Call) (new : Object) : Type 0 where
   pub same : SameWithoutCall old calls new
 

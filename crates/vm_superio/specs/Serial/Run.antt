@@ -93,7 +93,7 @@ module _ {T E EV W : Type 0} where
 -- ---- how often the trigger is called, restores apart
 
 module _ {T E EV W : Type 0} where
-  -- the answers of the trigger in some records. That of a restore has none
+  -- the answers of the trigger in some records. The record of a restore has none
   abbrev pub answers_in_records : (records : List (Done T EV W E)) → ℕ
   answers_in_records records = sum_by (λ (done : Done T EV W E). answer_count done.asked) records
 

@@ -8,7 +8,7 @@ use Rattle.vm_superio.specs.Links.{Link, TriggerAnswer, Contents, answers_of, Re
 use Rattle.vm_superio.specs.Links.Writer.{SerialLinks, serial_links, WriterLink}
 
 -- a call takes a port from `old` to `new` by one step, with these answers of the trigger and this outcome of a byte. A
--- refusal is that of the trigger's last call
+-- refusal is the answer to the trigger's last call
 pub record IsSerialStep
     {T E EV W : Type 0} (links : SerialLinks T E EV W) (op : Op) (asked : Asked) (sent : Sent) (reply : Response)
     (refusal : Option E) (old new : SerialView T EV W) : Type 0 where
@@ -28,7 +28,7 @@ with_writer port writer = record port { out = writer }
 abbrev pub with_trigger : {T EV W : Type 0} → (port : SerialView T EV W) (trigger : T) → SerialView T EV W
 with_trigger port trigger = record port { trigger = trigger }
 
--- the port with another events object, likewise
+-- the port with another events object, and nothing else changed
 abbrev pub with_events : {T EV W : Type 0} → (port : SerialView T EV W) (object : EV) → SerialView T EV W
 with_events port object = record port { events = object }
 
@@ -77,7 +77,7 @@ module _ {T E EV W : Type 0} (trigger : Link T (TriggerAnswer E)) (events : Link
         (write_response result) (refusal_in_result result) old new
     pub calls : length (answers_of asked (refusal_in_result result)) ≡ turned_on_count old.state new.state
 
-  -- an enqueue, likewise
+  -- an enqueue. There is one answer of the trigger for each pending bit of IIR that it turns on
   pub record IsSerialEnqueue
       (bytes : List ℕ) (result : Result ℕ (Error E)) (old new : SerialView T EV W) : Type 0 where
     pub asked : Asked
@@ -87,7 +87,7 @@ module _ {T E EV W : Type 0} (trigger : Link T (TriggerAnswer E)) (events : Link
         (enqueue_response result) (refusal_in_result result) old new
     pub calls : length (answers_of asked (refusal_in_result result)) ≡ turned_on_count old.state new.state
 
-  -- a character timeout, likewise
+  -- a character timeout. There is one answer of the trigger for each pending bit of IIR that it turns on
   pub record IsSerialTimeout (result : Result (Unit {0}) (Error E)) (old new : SerialView T EV W) : Type 0 where
     pub asked : Asked
     pub step :
@@ -118,8 +118,8 @@ abbrev pub ShowsMore : (old new : State) → Type 0
 ShowsMore old new = 0 < turned_on_count old new
 
 module _ {E : Type 0} where
-  -- a write. If the trigger refused a call, IIR shows the condition nonetheless. If the output failed, the byte was one
-  -- to send, and the registers are as after `Ok`. It fails for no other reason
+  -- a write. If the trigger refused a call, IIR shows the condition nonetheless. If the output failed, the byte had to
+  -- be sent, and the registers are as after `Ok`. It fails for no other reason
   abbrev pub WriteFate : (offset value : ℕ) (error : Error E) (old new : State) → Type 0
   WriteFate offset value (Trigger refusal) old new = ShowsMore old new
   WriteFate offset value (IOError fault) old new =

@@ -97,7 +97,7 @@ pub(super) fn report_read<EV: SerialEvents>(events: &mut EV, effects: ReadEffect
     }
 }
 
-/// Sends the byte if due, and reports its outcome. Returns that and the writer's fault.
+/// Sends the byte if one is due, and reports its outcome. Returns the outcome and the writer's fault.
 pub(super) fn send_where_due<EV: SerialEvents, W: Write>(
     events: &mut EV,
     out: &mut W,

@@ -12,7 +12,7 @@ use superio_core::serial::Uart;
 pub use superio_core::serial::encoding::{SAVED_MAX, SerialEncoding};
 use superio_core::serial::registers::Registers;
 
-/// A serial port's contents except its objects: enough to recreate the port, also on another machine.
+/// A serial port's contents without its objects. The port can be recreated from it, on another machine too.
 ///
 /// Any registers may be restored, with at most 64 bytes held.
 #[derive(Debug, Drop, Eq, PartialEq)]
@@ -44,7 +44,7 @@ impl SerialState {
     ghost use Rattle.superio_core.specs.Serial.{state_with};
     ghost use Rattle.superio_core.specs.Serial.{state_of_uart};
 
-    /// The state of a new port. Allocates no memory.
+    /// Returns the state of a new port. Allocates no memory.
     pub fn default(alloc: Global) -> SerialState
         ensures { state_of result ≡ fresh_state }
     {
@@ -65,7 +65,7 @@ impl SerialState {
         })
     }
 
-    /// The state of a port without I/O.
+    /// Returns the state of a port without I/O.
     ///
     /// # Errors
     ///
@@ -82,8 +82,8 @@ impl SerialState {
         Ok(SerialState::of(&port.registers, in_buffer))
     }
 
-    /// The port of this state without I/O. Allocates no memory, and calls no trigger: ask the port which interrupts are
-    /// due.
+    /// Makes a port without I/O of this state. Allocates no memory, and calls no trigger: ask the port which interrupts
+    /// are due.
     ///
     /// # Errors
     ///
@@ -102,8 +102,9 @@ impl SerialState {
         Ok(port)
     }
 
-    /// Whether the state is coherent, as that of any port that `new` made: at most 64 bytes are held, data ready shows
-    /// whether any is, IIR is 1, 2, 4 or 6, and RDA is pending only while a byte is held. Other fields are free.
+    /// Whether the state is coherent, like the state of any port that `new` made: at most 64 bytes are held, data ready
+    /// is set exactly while a byte is held, IIR is 1, 2, 4 or 6, and RDA is pending only while a byte is held. Other
+    /// fields are free.
     ///
     /// A port made from a coherent state stays coherent. From another state each call still meets its contract, but the
     /// laws that derive a guest's reads from the history do not apply.
@@ -151,10 +152,10 @@ impl SerialState {
 }
 
 impl SerialState {
-    /// The state as bytes; `from_bytes` reads them back. Allocates no memory.
+    /// Saves the state as bytes, which `from_bytes` reads back. Allocates no memory.
     ///
-    /// They are a header of eight bytes, the registers in the order of the fields, and the received bytes, oldest
-    /// first.
+    /// They are a header of eight bytes, the nine registers in the order of their fields, and the received bytes,
+    /// oldest first.
     ///
     /// # Errors
     ///
@@ -167,14 +168,14 @@ impl SerialState {
         Ok(self.to_uart()?.to_bytes())
     }
 
-    /// Reads the state back from these bytes, whatever its registers hold. It may be incoherent:
+    /// Reads the state back from its saved bytes, whatever its registers hold. The state may be incoherent:
     /// [`is_coherent`](Self::is_coherent) tells.
     ///
     /// # Errors
     ///
-    /// Returns the first check that fails, in the order of [`SavedStateError`]. No port has
-    /// [`SavedStateError::InvalidArmed`] or [`SavedStateError::InvalidFlags`].
-    /// Then returns [`LoadError::Memory`] if allocating the received bytes fails.
+    /// Returns the first check that fails, in the order of [`SavedStateError`]. A port never fails with
+    /// [`SavedStateError::InvalidArmed`] or [`SavedStateError::InvalidFlags`]. If no check fails, returns
+    /// [`LoadError::Memory`] if allocating the received bytes fails.
     pub fn from_bytes(alloc: Global, bytes: &[u8]) -> Result<SerialState, LoadError>
         ensures encoding { IfOk result (λ state. bytes.now ≡ serial_encoding (state_of state)) }
         ensures read { (state : State) → length state.in_buffer ≤ 64 → bytes.now ≡ serial_encoding state →

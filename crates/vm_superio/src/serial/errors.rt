@@ -51,7 +51,7 @@ impl<E> From<AllocError> for Error<E> {
     }
 }
 
-/// Lets `?` do the same if the refusal returns the value that did not fit, as that of [`Vec::push`] does.
+/// Lets `?` do the same with a refusal that returns the value that did not fit, such as one of [`Vec::push`].
 impl<V: Drop, E> From<AllocFailed<V>> for Error<E> {
     ghost use Rattle.vm_superio.specs.declared.serial.errors.Error.TheVariants.{Memory};
 

@@ -12,8 +12,8 @@ pub(super) fn guest_time(offset: i64, time: u32) -> u32 {
     }
 }
 
-/// The first host's time, from `from` up to the largest, at which guest time is `value` or more. Guest time reaches the
-/// value when the counter does or, while the counter does not fit in 32 bits, when the host's time does.
+/// The first time of the host, from `from` up to the largest, at which guest time is `value` or more. Guest time is the
+/// counter while the counter fits in 32 bits, and otherwise the host's time.
 fn first_at_or_after(offset: i64, value: u32, from: u32) -> Option<u32> {
     if guest_time(offset, from) >= value {
         return Some(from);

@@ -12,9 +12,10 @@ pub const SAVED_SIZE: usize = 33;
 /// The number of bytes after the header.
 const CONTENTS_SIZE: usize = 25;
 
-/// The contents of a clock's registers: enough to recreate the clock.
+/// The contents of a clock's registers, from which the clock can be recreated.
 ///
-/// Any values may be restored, and reads show them unchanged. The default is all zeros, and no alarm.
+/// Any values may be restored, and reads show them unchanged. In the default state all numbers are 0, and no alarm is
+/// set.
 #[derive(Clone, Copy, Debug, Default, Eq, PartialEq)]
 pub struct RtcState {
     /// The load register, RTCLR: the last loaded value, or 0 after a reset.
@@ -32,7 +33,7 @@ pub struct RtcState {
 }
 
 impl RtcState {
-    /// A state with these five fields, as saved by a clock without an alarm. No alarm is set.
+    /// Makes a state of these five fields, as a program without alarms saves them. No alarm is set.
     // Clauses in crates/superio_core/src/rtc_pl031/encoding.rt: returns.
     pub fn from_five(lr: u32, offset: i64, mr: u32, imsc: u32, ris: u32) -> RtcState {
         RtcState {
@@ -45,7 +46,7 @@ impl RtcState {
         }
     }
 
-    /// The five fields that `from_five` takes, for a program without alarms. `None` if an alarm is set.
+    /// Returns the five fields that `from_five` takes, for a program without alarms, or `None` if an alarm is set.
     // Clauses in crates/superio_core/src/rtc_pl031/encoding.rt: fields, some.
     pub fn to_five(&self) -> Option<(u32, i64, u32, u32, u32)> {
         if self.armed {
@@ -56,7 +57,7 @@ impl RtcState {
     }
 }
 
-/// Two clocks are equal if their states are: then no guest can tell them apart.
+/// Two clocks are equal if their states are equal. No guest can tell such clocks apart.
 impl PartialEq for Pl031 {
     fn eq(&self, other: &Self) -> bool {
         self.state().to_bytes() == other.state().to_bytes()
@@ -66,10 +67,10 @@ impl PartialEq for Pl031 {
 impl Eq for Pl031 {}
 
 impl RtcState {
-    /// The state as bytes; `from_bytes` reads them back.
+    /// Saves the state as 33 bytes, which `from_bytes` reads back.
     ///
-    /// They are a header of eight bytes, `lr`, `mr`, `imsc` and `ris` of four bytes each, `offset` of eight, and 1 if
-    /// an alarm is set, else 0. Numbers are little-endian.
+    /// They are a header of eight bytes; `lr`, `mr`, `imsc` and `ris` in four bytes each; `offset` in eight bytes; and
+    /// a last byte that is 1 if an alarm is set, and otherwise 0. Numbers are little-endian.
     // Clauses in crates/superio_core/src/rtc_pl031/encoding.rt: returns.
     pub fn to_bytes(&self) -> [u8; SAVED_SIZE] {
         let [m0, m1, m2, m3, kind, version, low, high] = header(CLOCK_KIND, CONTENTS_SIZE as u16);
@@ -86,18 +87,18 @@ impl RtcState {
         ]
     }
 
-    /// Reads the state back from these bytes.
+    /// Reads the state back from its saved bytes.
     ///
     /// # Errors
     ///
-    /// Returns the first check that fails, in the order of [`SavedStateError`]. No clock has
+    /// Returns the first check that fails, in the order of [`SavedStateError`]. A clock never fails with
     /// [`SavedStateError::TooManyBytes`] or [`SavedStateError::InvalidFlags`].
     // Clauses in crates/superio_core/src/rtc_pl031/encoding.rt: encoding, read, fault.
     pub fn from_bytes(bytes: &[u8]) -> Result<RtcState, SavedStateError> {
         Self::parse(bytes)
     }
 
-    /// As `from_bytes`.
+    /// Does what `from_bytes` does.
     fn parse(bytes: &[u8]) -> Result<RtcState, SavedStateError> {
         let contents = decode_header(CLOCK_KIND, bytes)?;
         if contents.len() != CONTENTS_SIZE {

@@ -38,7 +38,7 @@ impl PartialEq for SerialEncoding {
 impl Eq for SerialEncoding {
 }
 
-/// Two ports are equal if their saved states are: then no guest can tell them apart.
+/// Two ports are equal if their saved states are equal. No guest can tell such ports apart.
 impl PartialEq for Uart {
     fn eq(&self, other: &Self) -> bool {
         self.to_bytes() == other.to_bytes()
@@ -59,8 +59,8 @@ fn copy_both(target: &mut [u8], first: &[u8], second: &[u8]) {
 }
 
 impl Registers {
-    /// Writes the encoding of a port with these registers and received bytes, in two slices, to the start of an array,
-    /// and returns its length. The other bytes do not change.
+    /// Writes the encoding of a port with these registers and these received bytes, given in two slices, to the start
+    /// of an array. Returns its length. The bytes after it do not change.
     pub(super) fn encode_serial(
         &self,
         older: &[u8],
@@ -106,7 +106,7 @@ impl Registers {
 ///
 /// # Errors
 ///
-/// As for [`Uart::from_bytes`].
+/// Returns the errors of [`Uart::from_bytes`].
 pub(super) fn decode_serial(bytes: &[u8]) -> Result<(Registers, &[u8]), SavedStateError> {
     match decode_header(SERIAL_KIND, bytes)? {
         [dll, dlm, ier, iir, lcr, lsr, mcr, msr, scr, in_buffer @ ..] => {

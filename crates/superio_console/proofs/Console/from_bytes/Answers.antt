@@ -1,5 +1,5 @@
 -- SPDX-License-Identifier: Apache-2.0 OR BSD-3-Clause
--- The parts are those of one state.
+-- The parts are the parts of one state.
 use Rattle.std.proofs.Common.{bit_and, length, refl, ap, sym, ◌∙◌, arith}
 use Rattle.superio_console.specs.Console.{Console, state_of}
 use Rattle.superio_console.proofs.Lemmas.Saved.{flags-back, at-most-64, encoded, read-back, not-refused}

@@ -1,5 +1,5 @@
 -- SPDX-License-Identifier: Apache-2.0 OR BSD-3-Clause
--- A write at another offset than those of THR, IER and MCR wakes for nothing.
+-- A write at another offset than THR's, IER's and MCR's never wakes the event loop.
 use Rattle.std.proofs.Common.{ap, sym, ◌∙◌}
 use Rattle.superio_laws.specs.Serial.{irq_level}
 use Rattle.superio_console.specs.Console.{ConsoleState, Writes, state_of}

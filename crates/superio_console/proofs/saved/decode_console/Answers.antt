@@ -1,5 +1,5 @@
 -- SPDX-License-Identifier: Apache-2.0 OR BSD-3-Clause
--- The contents are the parts, and their checks are those of the specification.
+-- The contents are the parts, and their checks are the checks of the specification.
 use Rattle.std.proofs.Common.{◌≡◌, ◌-◌, length, take, drop, ap, ◌∙◌, arith}
 use Rattle.superio_core.specs.Saved.{encoding, console_kind}
 use Rattle.superio_console.specs.Saved.{output_count}

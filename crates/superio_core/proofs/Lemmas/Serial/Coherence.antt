@@ -53,7 +53,7 @@ abbrev enabled : List ℕ → ℕ → Asked → ℕ → ℕ
 enabled held_bytes value asked old =
     enabled_if (rda_becomes_pending held_bytes (only_bits value ier_bits) old && is_refused_at_once asked) held_bytes value old
 
--- from IIR of two conditions to that of the next two
+-- from the IIR of two conditions to the IIR of the next two
 pub pending_by_kind : (k : DecodedOp) (asked : Asked) (s : State) (thre rda : Bool)
     → s.interrupt_identification ≡ identification_of thre rda
     → (by_kind k asked s).interrupt_identification

@@ -1,5 +1,5 @@
 -- SPDX-License-Identifier: Apache-2.0 OR BSD-3-Clause
--- A write whose first trigger call of two was refused: to lower THRE afterwards is not to have raised it.
+-- If the first of a write's two trigger calls was refused, lowering THRE afterwards is the same as not raising it.
 use Rattle.std.proofs.Common.{◌≡◌, ℕ, ◌+◌, Bool, true, false, not, ◌==◌, ◌&&◌, bit_and, refl, ap, arith, if◌then◌else◌, bit_or}
 use Rattle.std.proofs.lemmas.Bool.Decides.{nat_tests}
 use Rattle.std.proofs.lemmas.Nat.{and_le_l, and_or_self, and_or_apart}

@@ -1,5 +1,6 @@
 -- SPDX-License-Identifier: Apache-2.0 OR BSD-3-Clause
--- What was sent, then what is to come, is what was sent at first, then the input. Between pieces nothing is held.
+-- What was sent, followed by what is to come, is what was sent at first, followed by the input. Between pieces nothing
+-- is held.
 use Rattle.std.specs.Prelude.{◌≡◌, ◌++◌, [], length}
 use Rattle.superio_core.specs.Serial.{CoherentUart, state_of_uart}
 use Rattle.superio_examples.specs.Echo.{IsOpen, held, pending}

@@ -1,5 +1,6 @@
 -- SPDX-License-Identifier: Apache-2.0 OR BSD-3-Clause
--- What was sent, then what is held, are the bytes that were there, in order. A byte was taken if the loop has begun.
+-- What was sent, followed by what is held, are the bytes that were there, in order. A byte was taken if the loop has
+-- begun.
 use Rattle.std.specs.Prelude.{◌≡◌, ◌<◌, ◌++◌, length}
 use Rattle.superio_core.specs.Serial.{CoherentUart, state_of_uart}
 use Rattle.superio_examples.specs.Echo.{IsOpen, held, pending}

@@ -73,7 +73,7 @@ register_law start (entry ∷ trace) =
       scratch = more (λ _ op. value_written_at 7 op) entry trace _ _ _ before.scratch step.scratch;
     }
 
--- but for IIR, LSR and the bytes, the state of the history is the state after the trace
+-- except for IIR, LSR and the bytes, the state of the history is the state after the trace
 pub state_of_history-by_state :
     (start : State) (trace : List TraceEntry) (identification line_status : ℕ) (bytes : List ℕ) →
     record (state_of_history start trace) {

@@ -43,7 +43,8 @@ rda_raised start trace entry =
 abbrev pub rda_pending : (start : State) (trace : Trace) → Bool
 rda_pending start trace = pending_since Rda start (rda_raised start) trace
 
--- the same for either condition: `is_raised Rda` is `rda_raised`, and `is_pending Rda` is `rda_pending`
+-- whether either condition is raised and is pending: `is_raised Rda` is `rda_raised`, and `is_pending Rda` is
+-- `rda_pending`
 abbrev pub is_raised : (condition : Condition) (start : State) (trace : Trace) (entry : TraceEntry) → Bool
 is_raised Rda start trace entry = rda_raised start trace entry
 is_raised Thre start trace entry =
@@ -122,8 +123,8 @@ abbrev pub has_waiting_bytes : (start : State) (trace : Trace) → Bool
 has_waiting_bytes start trace =
     has_bits (ier_after start trace) (ier_bit Rda) && not_empty (held_bytes start trace)
 
--- after each character timeout that finds such bytes, RDA is pending. The trigger was called once for it if RDA was not
--- pending before, and otherwise not at all; a refused call counts
+-- after each character timeout that finds bytes held and RDA enabled, RDA is pending. The trigger was called once for
+-- it if RDA was not pending before, and otherwise not at all; a refused call counts
 abbrev pub RdaFollowsTimeouts : (start : State) (trace : Trace) → Type 0
 RdaFollowsTimeouts start trace =
     (after before : Trace) (entry : TraceEntry) → trace ≡ after ++ entry ∷ before → entry.op ≡ CharacterTimeout

@@ -78,7 +78,7 @@ decode_at start trace op = decode (dlab_after start trace) (loopback_after start
 
 -- ---- received bytes
 
--- of the bytes that come in, the first are accepted, as many as have room beside the held ones in a FIFO of 64
+-- of the bytes that come in, the first are accepted, as many as fit beside the held ones in a FIFO of 64
 abbrev pub accepted_by : (kind : DecodedOp) (held : List ℕ) → List ℕ
 accepted_by (RxInput bytes) held = take (64 - length held) bytes
 accepted_by _ held = []
@@ -88,7 +88,8 @@ abbrev pub read_out_by : (kind : DecodedOp) (held : List ℕ) → List ℕ
 read_out_by RbrRead held = take 1 held
 read_out_by _ held = []
 
--- the bytes that remain: those at the start, then those accepted, without as many of the first as were taken
+-- the bytes that remain: the bytes at the start, followed by those accepted, without as many of the first ones as were
+-- taken
 abbrev pub remaining_bytes : (first accepted taken : List ℕ) → List ℕ
 remaining_bytes first accepted taken = drop (length taken) (first ++ accepted)
 

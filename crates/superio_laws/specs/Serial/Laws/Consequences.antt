@@ -49,7 +49,8 @@ SameReadsLaw = (start : State) (one other : Trace) → ops_and_asked one ≡ ops
 
 -- ---- bytes
 
--- no byte is lost or made up: those taken, then those held, are those held at the start, then those accepted
+-- no byte is lost or made up: those taken, followed by those held, are those held at the start, followed by those
+-- accepted
 abbrev pub ReadOutThenHeldLaw : Type 0
 ReadOutThenHeldLaw = (start : State) (trace : Trace)
     → read_out_bytes start trace ++ held_bytes start trace ≡ start.in_buffer ++ accepted_bytes start trace
@@ -60,7 +61,7 @@ RepliesAreReadOutLaw = (start : State) (trace : Trace) (calls : List (TraceEntry
     → ResponsesAre start trace calls
     → read_out_bytes start trace ++ bytes_read start trace calls ≡ read_out_bytes start (trace_after trace calls)
 
--- so the bytes read, then those held, are those held at the start, then those accepted
+-- so the bytes read, followed by those held, are those held at the start, followed by those accepted
 abbrev pub ReadThenHeldLaw : Type 0
 ReadThenHeldLaw = (start : State) (calls : List (TraceEntry × Response)) → ResponsesAre start [] calls
     → bytes_read start [] calls ++ held_bytes start (trace_after [] calls)
@@ -97,15 +98,15 @@ polls start trace (call ∷ later) =
     (not (is_rbr_read (decode_at start trace call.0.op)) || has_bits (guest_read start trace 5) lsr_dr_bit)
     && polls start (call.0 ∷ trace) later
 
--- what the driver has got, then what is held, is what was held at the start, then what was accepted: it loses none, and
--- gets no other
+-- what the driver has got, followed by what is held, is what was held at the start, followed by what was accepted: it
+-- loses no byte, and gets no other
 abbrev pub PollingDriverLaw : Type 0
 PollingDriverLaw = (start : State) (calls : List (TraceEntry × Response)) → ResponsesAre start [] calls
     → IsTrue (polls start [] calls)
     → driver_bytes start [] calls ++ held_bytes start (trace_after [] calls)
     ≡ start.in_buffer ++ accepted_bytes start (trace_after [] calls)
 
--- and if LSR does not show data ready in the end, it has got all of them
+-- if LSR does not show data ready in the end, the driver has got all of these bytes
 abbrev pub DriverGetsAllLaw : Type 0
 DriverGetsAllLaw = (start : State) (calls : List (TraceEntry × Response)) → ResponsesAre start [] calls
     → IsTrue (polls start [] calls) → has_bits (guest_read start (trace_after [] calls) 5) lsr_dr_bit ≡ false
@@ -127,7 +128,7 @@ polls_after_data_ready start trace seen (call ∷ later) =
     (not reads || seen)
     && polls_after_data_ready start (call.0 ∷ trace) (not reads && (seen || shows_data_ready call.0.op call.1)) later
 
--- nothing but an RBR read takes a byte, so data ready still shows then
+-- only an RBR read takes a byte, so data ready still shows at the next one
 abbrev pub PollsAfterDataReadyLaw : Type 0
 PollsAfterDataReadyLaw = (start : State) (calls : List (TraceEntry × Response)) → ResponsesAre start [] calls
     → IsTrue (polls_after_data_ready start [] false calls) → IsTrue (polls start [] calls)

@@ -30,7 +30,7 @@ sent driver start (entry ∷ trace) =
     sent driver start trace
     ++ (if driver.sends_own trace entry then sent_by (decode_at start trace entry.op) else [])
 
--- the bytes left to send: those given without as many of the first as were sent
+-- the bytes left to send: the bytes given, without as many of the first ones as were sent
 abbrev pub left : (driver : Driver) (start : State) (trace : Trace) → List ℕ
 left driver start trace = drop (length (sent driver start trace)) (given driver trace)
 
@@ -42,8 +42,7 @@ SentInOrder driver start trace = given driver trace ≡ sent driver start trace 
 abbrev pub has_to_send : (driver : Driver) (start : State) (trace : Trace) → Bool
 has_to_send driver start trace = not_empty (left driver start trace) && not (driver.is_stopped trace)
 
--- an IER write that enables THRE, and whose call for RDA, if one is due, is not refused. After a refusal a retry asks
--- (`RefusedWriteLaw`)
+-- an IER write that enables THRE and has no refused call for RDA. After a refusal a retry asks (`RefusedWriteLaw`)
 abbrev pub EnablesThre : (start : State) (before : Trace) (entry : TraceEntry) → Type 0
 EnablesThre start before entry =
     (value : ℕ) × (decode_at start before entry.op ≡ IerWrite value) × IsTrue (has_bits value (ier_bit Thre))
@@ -55,8 +54,8 @@ SendsEnabled start before entry =
     (value : ℕ) × (decode_at start before entry.op ≡ ThrWrite value)
     × IsTrue (has_bits (ier_after start before) (ier_bit Thre))
 
--- in these entries after `before`, newest first: whoever gives the driver bytes while it has none, or lets it go on
--- after a stop, enables THRE or sends a byte. It comes to have bytes to send only at such an entry
+-- in these entries after `before`, newest first, whoever gives the driver bytes while it has none, or lets it go on
+-- after a stop, enables THRE or sends a byte. The driver comes to have bytes to send only at such an entry
 abbrev pub AsksWhenGiven : (driver : Driver) (start : State) (before newest : Trace) → Type 0
 AsksWhenGiven driver start before newest =
     (later earlier : Trace) (entry : TraceEntry) → newest ≡ later ++ entry ∷ earlier
@@ -100,8 +99,8 @@ pub record IsTurn (driver : Driver) (start : State) (before turn : Trace) : Type
 abbrev pub ShowsNone : (start : State) (trace : Trace) → Type 0
 ShowsNone start trace = (is_pending Thre start trace ≡ false) × (is_pending Rda start trace ≡ false)
 
--- a run that reads IIR until it shows nothing pending, as Linux's and Xen's: this read ends its last turn, and
--- neither IIR nor RBR is read later
+-- a run that reads IIR until it shows nothing pending, as in Linux and Xen: this read ends its last turn, and neither
+-- IIR nor RBR is read later
 pub record EndsAtNone (driver : Driver) (start : State) (before run : Trace) : Type 0 where
   pub tail : Trace
   pub none : TraceEntry
@@ -115,7 +114,7 @@ pub record EndsAtNone (driver : Driver) (start : State) (before run : Trace) : T
   pub shows_none : ShowsNone start (turn ++ (iir ∷ earlier ++ before))
   pub untouched : NoIirOrRbrRead start tail (none ∷ (turn ++ (iir ∷ earlier ++ before)))
 
--- a run that ends in a turn, as of a driver that reads IIR once
+-- a run that ends in a turn, as in a driver that reads IIR once
 pub record EndsInTurn (driver : Driver) (start : State) (before run : Trace) : Type 0 where
   pub turn : Trace
   pub iir : TraceEntry
@@ -124,8 +123,8 @@ pub record EndsInTurn (driver : Driver) (start : State) (before run : Trace) : T
   pub reads : decode_at start (earlier ++ before) iir.op ≡ IirRead
   pub is_turn : IsTurn driver start (iir ∷ earlier ++ before) turn
 
--- entries after `before`, newest first: those of a driver's run, and of others meanwhile, such as the host. The
--- driver takes a byte if one is held at first, and ends in one of the two ways
+-- entries after `before`, newest first, of a driver's run, and of others meanwhile, such as the host. The driver takes
+-- a byte if one is held at first, and ends in one of the two ways
 pub record IsConsoleRun (driver : Driver) (start : State) (before run : Trace) : Type 0 where
   pub takes :
       IsTrue (not_empty (held_bytes start before))
@@ -150,8 +149,8 @@ pub record EndsInTimeout (start : State) (before newest : Trace) : Type 0 where
   pub place : newest ≡ later ++ timeout_entry asked ∷ earlier
   pub unread : NoIirOrRbrRead start later (timeout_entry asked ∷ earlier ++ before)
 
--- the monitor makes the first, and in a turn of its event loop the second, after a run that does not end where IIR
--- shows nothing pending
+-- the monitor makes both kinds of timeout. It makes the second in a turn of its event loop, after a run that does not
+-- end where IIR shows nothing pending
 pub record IsMonitored (driver : Driver) (start : State) (before run : Trace) : Type 0 where
   pub after_none : TimeoutAfterNone start before run
   pub in_loop : EndsAtNone driver start before run ⊎ EndsInTimeout start before run
@@ -169,8 +168,8 @@ pub record IsAskedFor (condition : Condition) (start : State) (before run : Trac
       IsTrue (has_bits (ier_after start (run ++ before)) (ier_bit condition))
       → IsRetried condition start (run ++ before)
 
--- for RDA after each run, if bytes are held and IER enables it, and the monitor makes its timeouts. No other of these
--- laws needs them
+-- the interrupt is asked for after each run for RDA, if bytes are held and IER enables RDA, and the monitor makes its
+-- timeouts. No other of these laws needs the timeouts
 abbrev pub InterruptToReadLaw : Type 0
 InterruptToReadLaw = (driver : Driver) (start : State) (before run : Trace) → IsConsoleRun driver start before run
     → IsMonitored driver start before run
@@ -178,7 +177,7 @@ InterruptToReadLaw = (driver : Driver) (start : State) (before run : Trace) → 
     → IsTrue (has_bits (ier_after start (run ++ before)) (ier_bit Rda))
     → IsAskedFor Rda start before run
 
--- for THRE after each run, if the driver has bytes left and is not stopped
+-- the interrupt is asked for after each run for THRE, if the driver has bytes left and is not stopped
 abbrev pub InterruptToSendLaw : Type 0
 InterruptToSendLaw = (driver : Driver) (start : State) (before run : Trace) → IsConsoleRun driver start before run
     → IsTrue (has_to_send driver start (run ++ before)) → IsAskedFor Thre start before run
@@ -191,7 +190,7 @@ AreConsoleRuns driver start before [] = ⊤
 AreConsoleRuns driver start before (run ∷ later) =
     IsConsoleRun driver start before run × AreConsoleRuns driver start (run ++ before) later
 
--- the trace after them
+-- the trace after some runs
 abbrev pub after_runs : (before : Trace) (runs : List Trace) → Trace
 after_runs before [] = before
 after_runs before (run ∷ later) = after_runs (run ++ before) later

@@ -16,7 +16,7 @@ NoByteWaitsLaw = (start : State) (trace : Trace) (asked : Asked)
     → IsTrue (has_bits (ier_after start (timeout_entry asked ∷ trace)) (ier_bit Rda))
     → IsTrue (is_pending Rda start (timeout_entry asked ∷ trace))
 
--- and if it was not pending before, the trigger is called
+-- if RDA was not pending before the timeout, the trigger is called
 abbrev pub TimeoutCallsLaw : Type 0
 TimeoutCallsLaw = (start : State) (trace : Trace) (asked : Asked)
     → IsTrue (not_empty (held_bytes start trace))
@@ -24,15 +24,15 @@ TimeoutCallsLaw = (start : State) (trace : Trace) (asked : Asked)
     → is_pending Rda start trace ≡ false
     → IsTrue (is_call_due Rda start trace (timeout_entry asked))
 
--- the same for every timeout of a fitting trace, with the answers that it records
+-- both hold for every timeout of a fitting trace, with the answers that the trace records
 abbrev pub RdaFollowsTimeoutsLaw : Type 0
 RdaFollowsTimeoutsLaw =
     (start : State) (trace : Trace) → IsTrue (is_fitting start trace) → RdaFollowsTimeouts start trace
 
 -- ---- a driver that is run by interrupts, whatever else it does: no byte waits for ever
 
--- entries after `before`, newest first: those of a driver's run, and of others meanwhile, such as the host. They take a
--- byte if one is held at first, and the last reads IIR
+-- entries after `before`, newest first, of a driver's run, and of others meanwhile, such as the host. They take a byte
+-- if one is held at first, and the last reads IIR
 pub record HandlerPass (start : State) (before run : Trace) : Type 0 where
   pub earlier : Trace
   pub last : TraceEntry
@@ -42,7 +42,7 @@ pub record HandlerPass (start : State) (before run : Trace) : Type 0 where
       IsTrue (not_empty (held_bytes start before))
       → length (read_out_bytes start before) < length (read_out_bytes start (run ++ before))
 
--- a character timeout after it asks for the interrupt again if bytes are held and IER enables RDA
+-- a character timeout after such a run asks for the interrupt again if bytes are held and IER enables RDA
 abbrev pub InterruptAfterPassLaw : Type 0
 InterruptAfterPassLaw = (start : State) (before run : Trace) (asked : Asked) → HandlerPass start before run
     → IsTrue (not_empty (held_bytes start (run ++ before)))
@@ -63,7 +63,7 @@ ReadOutAfterPassesLaw = (start : State) (runs : ℕ) (before after : Trace) → 
     → (more : List ℕ)
     × (read_out_bytes start after ≡ read_out_bytes start before ++ held_bytes start before ++ more)
 
--- ---- the level of the interrupt line and the trigger: the one rises where the other is called. This holds in any
+-- ---- the level of the interrupt line and the trigger: the line rises where the trigger is called. This holds in any
 -- state, coherent or not.
 
 -- the trigger was called, whatever it answered
@@ -75,8 +75,8 @@ abbrev pub is_line_up_under : (value : ℕ) (s : State) → Bool
 is_line_up_under value s = irq_level (record s { interrupt_enable = only_bits value ier_bits })
 
 -- the level after a call, by what the call means and whether it called the trigger: an IIR read leaves the line down;
--- an RBR read leaves it up for THRE alone; an IER write by the new value, or if the trigger was called; every other
--- call leaves it up if it was up, or if the trigger was called
+-- an RBR read leaves it up for THRE alone; after an IER write it is up by the new value, or if the trigger was called;
+-- every other call leaves it up if it was up, or if the trigger was called
 abbrev pub line_after : (kind : DecodedOp) (called : Bool) (s : State) → Bool
 line_after IirRead called s = false
 line_after RbrRead called s = is_asserted Thre s
@@ -92,7 +92,7 @@ abbrev pub UpAfterCallLaw : Type 0
 UpAfterCallLaw = (s : State) (op : Op) (asked : Asked) (sent : Sent) → IsTrue (answers_fit s op asked sent)
     → IsTrue (is_called asked) → IsTrue (irq_level (step s op asked))
 
--- an IER write enables a condition that is pending already. The trigger is not called for it again
+-- an IER write enables a condition that is pending already. The trigger is not called again for the condition
 abbrev pub EnablesPending : (kind : DecodedOp) (s : State) → Type 0
 EnablesPending kind s = (value : ℕ) × (kind ≡ IerWrite value) × IsTrue (is_line_up_under value s)
 
@@ -109,7 +109,7 @@ may_lower_line RbrRead = true
 may_lower_line (IerWrite value) = true
 may_lower_line kind = false
 
--- no other call lowers the line
+-- a call that is neither a read of IIR or RBR nor an IER write never lowers the line
 abbrev pub StaysUpLaw : Type 0
 StaysUpLaw = (s : State) (op : Op) (asked : Asked) (sent : Sent) → IsTrue (answers_fit s op asked sent)
     → IsFalse (may_lower_line (decode_in s op)) → IsTrue (irq_level s) → IsTrue (irq_level (step s op asked))

@@ -5,20 +5,21 @@ use Rattle.superio_laws.specs.Serial.{Asked, Sent, Op, Read, Write, Response, By
 use Rattle.superio_laws.specs.Serial.{turned_on_count}
 use Rattle.superio_laws.specs.Serial.History.{byte_read, accepted_by, read_out_by}
 
--- the bytes that a call takes, then those held after it, are those held before it, then those it accepts
+-- the bytes that a call takes, followed by those held after it, are those held before it, followed by those that it
+-- accepts
 abbrev pub OneCallLaw : Type 0
 OneCallLaw = (s : State) (op : Op) (asked : Asked)
     → read_out_by (decode_in s op) s.in_buffer ++ (step s op asked).in_buffer
     ≡ s.in_buffer ++ accepted_by (decode_in s op) s.in_buffer
 
--- the byte that a call gives a guest from the FIFO, then the bytes held after the call, are those held before it, then
--- those it accepts
+-- the byte that a call gives a guest from the FIFO, followed by the bytes held after the call, are those held before
+-- it, followed by those that it accepts
 abbrev pub OneReadLaw : Type 0
 OneReadLaw = (s : State) (op : Op) (asked : Asked) (sent : Sent)
     → byte_read (decode_in s op) s.in_buffer (step_response s op asked sent) ++ (step s op asked).in_buffer
     ≡ s.in_buffer ++ accepted_by (decode_in s op) s.in_buffer
 
--- received bytes follow those held, and nothing else changes but LSR and IIR
+-- received bytes follow the held ones, and nothing else changes except LSR and IIR
 abbrev pub ReceivedLaw : Type 0
 ReceivedLaw = (s : State) (bytes : List ℕ)
     → receive_bytes bytes s ≡ record s {
@@ -27,7 +28,7 @@ ReceivedLaw = (s : State) (bytes : List ℕ)
       interrupt_identification = (receive_bytes bytes s).interrupt_identification;
     }
 
--- an RBR read in a state that holds bytes gives the oldest and leaves the others. Nothing else changes but LSR and
+-- an RBR read in a state that holds bytes gives the oldest and leaves the others. Nothing else changes except LSR and
 -- IIR
 pub record GivesOldest (s new : State) (byte : ℕ) : Type 0 where
   pub bytes : byte ∷ new.in_buffer ≡ s.in_buffer

@@ -13,7 +13,7 @@ pub record AsksForMore (start : State) (before : Trace) (entry : TraceEntry) : T
       answer_count entry.asked
       ≡ count_if (is_call_due Rda start before entry) + count_if (not (is_pending Thre start before))
 
--- so does an IER write that enables THRE, unless the trigger refused its call for RDA
+-- an IER write that enables THRE asks for more, unless the trigger refused its call for RDA
 abbrev pub IerWriteAsksLaw : Type 0
 IerWriteAsksLaw = (start : State) (before : Trace) (entry : TraceEntry) (value : ℕ)
     → IsTrue (is_fitting_entry start before entry)
@@ -21,7 +21,7 @@ IerWriteAsksLaw = (start : State) (before : Trace) (entry : TraceEntry) (value :
     → (is_call_due Rda start before entry && is_refused_at_once entry.asked) ≡ false
     → AsksForMore start before entry
 
--- and each THR write outside loopback while IER enables THRE
+-- each THR write outside loopback asks for more while IER enables THRE
 abbrev pub ThrWriteAsksLaw : Type 0
 ThrWriteAsksLaw = (start : State) (before : Trace) (entry : TraceEntry) (value : ℕ)
     → IsTrue (is_fitting_entry start before entry)
@@ -36,7 +36,7 @@ abbrev pub IsRetried : (condition : Condition) (start : State) (trace : Trace) �
 IsRetried condition start trace =
     (first later : List Condition) × (conditions_due_after start trace ≡ first ++ condition ∷ later)
 
--- it does so as long as the condition is pending and enabled
+-- a retry calls the trigger for a condition as long as it is pending and enabled
 abbrev pub RetriedLaw : Type 0
 RetriedLaw = (condition : Condition) (start : State) (trace : Trace)
     → IsTrue (is_pending condition start trace) → IsTrue (has_bits (ier_after start trace) (ier_bit condition))
@@ -61,7 +61,7 @@ pub record CallsFor (condition : Condition) (start : State) (before newest : Tra
   pub due : IsTrue (is_call_due condition start (earlier ++ before) entry)
   pub called : IsTrue (is_fitting_entry start (earlier ++ before) entry) → IsTrue (is_called entry.asked)
 
--- so it is for what is pending after a read of IIR
+-- a condition that is pending after a read of IIR was called for since
 abbrev pub CalledSinceLaw : Type 0
 CalledSinceLaw = (condition : Condition) (start : State) (after before : Trace) (iir : TraceEntry)
     → decode_at start before iir.op ≡ IirRead → IsTrue (is_pending condition start (after ++ iir ∷ before))

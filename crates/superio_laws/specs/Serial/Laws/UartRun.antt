@@ -22,7 +22,7 @@ IsUartCall (UartEnqueue bytes effects) old new = IsUartEnqueue bytes effects old
 IsUartCall (UartTimeout interrupts) old new = IsUartTimeout interrupts old new
 IsUartCall (UartRestore interrupts) old new = (interrupts ≡ length (conditions_due old)) × (new ≡ old)
 
--- such calls, oldest first, lead from one state to another
+-- calls that met their contracts, oldest first, lead from one state to another
 abbrev pub UartCallsFollow : (s : State) (calls : List UartCall) (end : State) → Type 0
 UartCallsFollow s [] end = end ≡ s
 UartCallsFollow s (call ∷ later) end =
@@ -98,7 +98,7 @@ abbrev pub bytes_to_send : (calls : List UartCall) → List ℕ
 bytes_to_send [] = []
 bytes_to_send (call ∷ later) = byte_to_send call ++ bytes_to_send later
 
--- they are the output of the history: the values of the THR writes outside loopback
+-- the bytes to send are the output of the history: the values of the THR writes outside loopback
 abbrev pub UartOutputLaw : Type 0
 UartOutputLaw = (start end : State) (calls : List UartCall) → Coherent start
     → UartCallsFollow start calls end
@@ -118,7 +118,7 @@ abbrev pub interrupts_to_raise : (calls : List UartCall) → ℕ
 interrupts_to_raise [] = 0
 interrupts_to_raise (call ∷ later) = interrupts_of call + interrupts_to_raise later
 
--- at most twice, plus twice for each IIR read and once for each RBR read
+-- the caller is told to ask at most twice, plus twice for each IIR read and once for each RBR read
 abbrev pub UartBoundLaw : Type 0
 UartBoundLaw = (start end : State) (calls : List UartCall) → Coherent start
     → UartCallsFollow start calls end

@@ -18,7 +18,7 @@ use Rattle.superio_laws.proofs.Lemmas.Serial.Laws.Consequences.{call_written}
 use Rattle.superio_laws.proofs.Lemmas.Serial.Laws.Interrupts.{up_after_call}
 use Rattle.superio_core.proofs.Lemmas.Serial.Coherence.{coherence_law}
 
--- received bytes leave every setting, IER among them
+-- received bytes change no setting, not even IER
 pub settings_kept : (bytes : List ℕ) (s : State) → SameSettings s (receive_bytes bytes s)
 settings_kept bytes s = grind arith
 

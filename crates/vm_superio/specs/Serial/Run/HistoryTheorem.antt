@@ -1,7 +1,8 @@
 -- SPDX-License-Identifier: Apache-2.0 OR BSD-3-Clause
 -- The history theorem: what a run from a coherent start shows, by the history alone. It says what every call responds,
 -- which bytes are read and held, when the trigger is called, which calls each object has, and the state at the end. The
--- records say which restores succeed. One can fail for want of memory; the old objects then have the calls after it.
+-- records say which restores succeed. A restore can fail if memory is refused; the old objects then have the calls
+-- after it.
 use Rattle.std.specs.Prelude.{◌≡◌, List, [], ◌++◌, IsTrue}
 use Rattle.std.specs.List.{AllByRecursion}
 use Rattle.vm_superio.specs.Serial.{SerialView, State, TraceEntry, Trace, Coherent, sent_by}
@@ -27,13 +28,14 @@ pub record HistoryTheorem
   pub records_of_calls : RecordsOf calls records
   -- every byte that a guest reads is a function of the start, the earlier calls and the trigger's answers
   pub reads : ReadsAre start.state [] records
-  -- so is every other response: that of a write and of an enqueue, given the outcome of the byte that a write sends
+  -- so is every other response, to a write and to an enqueue, given the outcome of the byte that a write sends
   pub responses : ResponsesAre start.state [] (entries_of records)
-  -- the bytes that a guest reads from the FIFO, then those held, are those held at the start, then those accepted
+  -- the bytes that a guest reads from the FIFO, followed by those held, are those held at the start, followed by those
+  -- accepted
   pub read_bytes :
       bytes_read start.state [] (entries_of records) ++ end.state.in_buffer
       ≡ start.state.in_buffer ++ accepted_bytes start.state (trace_of records)
-  -- the bytes taken, then those held, are that list too
+  -- the bytes taken, followed by those held, are that list too
   pub received_bytes :
       read_out_bytes start.state (trace_of records) ++ end.state.in_buffer
       ≡ start.state.in_buffer ++ accepted_bytes start.state (trace_of records)
@@ -45,8 +47,9 @@ pub record HistoryTheorem
   pub waiting : RdaCoversWaitingBytes start.state (trace_of records)
   -- a character timeout makes RDA pending while bytes are held and enabled, and calls the trigger once for it
   pub timeouts : RdaFollowsTimeouts start.state (trace_of records)
-  -- each object of a segment had the calls that the history says, in order, and no other; the trigger of a restore
-  -- first those that are due. The old port comes back in its state. A refused restore hands back its own objects
+  -- each object of a segment had the calls that the history says, in order, and no other. The trigger of a restore
+  -- first had the calls that are due. The old port comes back in its state. A refused restore hands back its own
+  -- objects
   pub objects : SegmentsAre links (by_history start.state) start calls records end
   -- so a writer of known contents took the output of its segment, byte for byte, while none is recorded lost
   pub known_output :

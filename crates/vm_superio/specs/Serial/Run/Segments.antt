@@ -1,6 +1,6 @@
 -- SPDX-License-Identifier: Apache-2.0 OR BSD-3-Clause
 -- A run, split at the restores that succeed. Each part is a segment, which the same three objects serve. One line for
--- each object says by which calls it went from its value at the start of a segment to that at its end. Whether a
+-- each object says by which calls it went from its value at the start of a segment to its value at the end. Whether a
 -- restore succeeds decides which objects have the later calls, and a restore needs memory. What a refused restore hands
 -- back stands here too. Nothing here names a step.
 use Rattle.std.specs.Prelude.{◌≡◌, not, ℕ, Bool, true, false, if◌then◌else◌, List, [], ◌∷◌, ◌++◌, flat_map, ⊤, IsTrue}
@@ -99,7 +99,7 @@ module _ {T E EV W : Type 0} where
   abbrev pub answers_in : (records : List (Done T EV W E)) → List (TriggerAnswer E)
   answers_in records = flat_map (λ (done : Done T EV W E). answers_of done.asked (refusal_in_reply done.reply)) records
 
-  -- the outcomes of the bytes that these sent
+  -- the outcomes of the bytes that these records sent
   abbrev pub outcomes_in : (records : List (Done T EV W E)) → List Sent
   outcomes_in records = flat_map (λ (done : Done T EV W E). outcome_of done.sent) records
 
@@ -110,8 +110,9 @@ module _ {T E EV W : Type 0} where
   in_order adds trace (done ∷ later) = adds trace (entry_of done) ++ in_order adds (entry_of done ∷ trace) later
 
 module _ {T E EV W : Type 0} (links : SerialLinks T E EV W) where
-  -- each object of a segment had these calls and no other, in order: the trigger first those of the restore, after
-  -- which it is `made`. The port at the end of the segment has the state of that point, also if a restore hands it back
+  -- each object of a segment had these calls and no other, in order. The trigger first had the calls of the restore,
+  -- after which it is `made`. The port at the end of the segment has the state of that point, even if a restore hands
+  -- it back
   pub record IsServed (account : Account) (segment : Segment T E EV W) : Type 0 where
     pub made : T
     pub restored : links.trigger segment.trigger segment.restoring made
@@ -134,7 +135,8 @@ module _ {T E EV W : Type 0} (links : SerialLinks T E EV W) where
 
   -- ---- restores that are refused
 
-  -- why, and the three objects that come back: the trigger called up to and with the refusal, the others as handed in
+  -- why a restore was refused, and the three objects that come back: the trigger after its calls, of which the last was
+  -- refused, and the others as handed in
   abbrev pub IsRefusalAt :
       (account : Account) (trace : Trace) (call : Call T EV W) (reply : Reply T EV W E) → Type 0
   IsRefusalAt account trace (Call.Restore trigger events out) (NotRestored refused) =

@@ -1,5 +1,6 @@
 -- SPDX-License-Identifier: Apache-2.0 OR BSD-3-Clause
--- What the writer took, then what is to come, stays. Between pieces nothing is held, and the trigger was not called.
+-- What the writer took, followed by what is to come, stays the same. Between pieces nothing is held, and the trigger
+-- was not called.
 use Rattle.std.specs.Prelude.{◌≡◌, [], length}
 use Rattle.std.specs.Io.KnownBytes.{Keeps, append_known}
 use Rattle.vm_superio.specs.Claims.{held, Coherent}

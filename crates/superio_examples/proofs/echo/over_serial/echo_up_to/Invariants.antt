@@ -1,5 +1,5 @@
 -- SPDX-License-Identifier: Apache-2.0 OR BSD-3-Clause
--- What the writer took, then what is held, stays, in order. A byte was taken if the loop has begun.
+-- What the writer took, followed by what is held, stays the same, in order. A byte was taken if the loop has begun.
 use Rattle.std.specs.Prelude.{◌≡◌, ◌<◌, length}
 use Rattle.std.specs.Io.KnownBytes.{Keeps, append_known}
 use Rattle.vm_superio.specs.Claims.{held, Coherent}

@@ -91,7 +91,7 @@ accepted_grows start (entry ∷ run) before =
 
 -- ---- how many bytes are taken
 
--- all bytes: those at the start, then those accepted
+-- all bytes: the bytes at the start, followed by those accepted
 abbrev pub all_bytes : (start : State) (trace : Trace) → List ℕ
 all_bytes start trace = start.in_buffer ++ accepted_bytes start trace
 

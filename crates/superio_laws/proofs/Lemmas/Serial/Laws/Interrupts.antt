@@ -29,7 +29,7 @@ thre_next k held_bytes enable asked thre rda =
 abbrev pub rda_next : DecodedOp → List ℕ → ℕ → Bool → Bool
 rda_next k held_bytes enable rda = raises_rda k held_bytes enable || (not (acknowledges Rda k) && rda)
 
--- from IIR of two conditions to that of the next two
+-- from the IIR of two conditions to the IIR of the next two
 pending_by_kind : (k : DecodedOp) (asked : Asked) (s : State) (thre rda : Bool)
     → s.interrupt_identification ≡ identification_of thre rda
     → (by_kind k asked s).interrupt_identification
@@ -38,7 +38,7 @@ pending_by_kind : (k : DecodedOp) (asked : Asked) (s : State) (thre rda : Bool)
 pending_by_kind RbrRead asked s thre rda e = pending_after RbrRead asked s thre rda e
 pending_by_kind k asked s thre rda e = pending_after k asked s thre rda e
 
--- the calls that are due are those of the conditions that become pending, the second if the first is not refused
+-- a call is due for each condition that becomes pending, and the second of two only if the first is not refused
 pub due_is : (k : DecodedOp) (s : State) (thre rda : Bool)
     → s.interrupt_identification ≡ identification_of thre rda
     → decoded_calls k s

@@ -1,6 +1,6 @@
 -- SPDX-License-Identifier: Apache-2.0 OR BSD-3-Clause
--- The state after a trace is that of the history, and a call responds as the history says. So whole runs are as it says,
--- and those of a port without objects.
+-- The history gives the state after a trace and the response of each call. So whole runs are as it says, and so are
+-- whole runs of a port without objects.
 use Rattle.std.proofs.Common.{arith, sym, ◌≡◌, ℕ, Bool, false, List, [], refl, ap, ◌∙◌, ◌+◌, not, ◌&&◌, ◌∷◌, subst, IsTrue, ◌++◌, length, append_assoc, append-nil, if◌then◌else◌}
 use Rattle.std.proofs.lemmas.Bool.{and_parts}
 use Rattle.std.specs.Bool.{beq}
