@@ -1,5 +1,6 @@
 # SPDX-License-Identifier: Apache-2.0 OR BSD-3-Clause
 """Writes types as Coq."""
+import re
 from pathlib import Path
 from typing import Iterator, NoReturn
 
@@ -50,7 +51,8 @@ class TypeWriter:
         return WIDTHS.get(str(type_), 64)
 
     def comment(self, doc: list[str]) -> str:
-        text = "\n   ".join(doc).replace("(*", "( *").replace("*)", "* )").replace('"', "''")
+        text = re.sub(r"\n*```.*?```", "", "\n".join(doc), flags=re.S)  # without its examples
+        text = text.replace("\n", "\n   ").replace("(*", "( *").replace("*)", "* )").replace('"', "''")
         return f"(* {text} *)\n" if doc else ""
 
     # -- declarations
