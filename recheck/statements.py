@@ -1,7 +1,7 @@
 # SPDX-License-Identifier: Apache-2.0 OR BSD-3-Clause
-"""What is proved, as Coq says it, in two files that a person reads: claims.txt has what README claims, and
+"""What is proved, as Coq says it, in two files that a person reads: claims.txt has the six claims of docs/PROOFS.md, and
 statements.txt the rest. The sentences, the claims and the topics are the comments of Claims.v, and the words of a claim
-are README's."""
+are the page's."""
 import difflib
 import hashlib
 import re
@@ -30,12 +30,12 @@ IMPORTED = ("Prelude", "Machine", "Definitions", "Code", "Acts", "ShellCode", "C
 KEYWORD = r"(?:Theorem|Definition|Fixpoint|Inductive|CoInductive|Variant|Record)"
 SCHEME = re.compile(r"\w+_(?:ind|sind|rec|rect)")
 SEPARATOR = "I\n     : True\n"  # what `Check I.` prints
-CLAIMS = """What is proved again of README's claims, as Coq prints it, below sentences that say it. A name that begins
-    with `rs_` is a function of Rust, and `Some` of a result says that the call returns it: it does not panic or hang.
-    `valid_Uart` and its like hold of every struct that Rust can make, and `inhabited` of a record of facts if they
-    do."""
-JUDGED = """These are README's claims, all of them. What follows are the definitions that they use, each after those that it
-    uses itself: judge these too. There is no more to read of the claims."""
+CLAIMS = """The six claims of docs/PROOFS.md, proved again. Below each sentence stands the theorem that says it, as Coq
+    prints it. A name that begins with `rs_` is a function of Rust. `Some` of a result says that the call returns it, so
+    the call does not panic or hang. `valid_Uart` and its like hold of every struct that Rust can make. `inhabited` of a
+    record of facts holds if all these facts hold."""
+JUDGED = """These are all theorems of the six claims. Below are the definitions that they use, each after the definitions
+    that it uses itself. Judge these too. There is no more to read of the claims."""
 OTHERS = """What is proved beside claims.txt, as Coq prints it: the other theorems, by topic; laws that have conditions,
     used once each; and the definitions that are not in claims.txt."""
 
@@ -70,10 +70,11 @@ def topics(folder: Path) -> dict[str, list[str]]:
     return found
 
 
-def readme_claims(readme: str) -> dict[int, str]:
-    """The words of README's claims, without links."""
-    rows = re.findall(r"^\| (\d)\. (.*?) \| .* \|$", readme, re.M)
-    return {int(number): re.sub(r"\[([^]]*)\]\([^)]*\)", r"\1", words) for number, words in rows}
+def claims_of(page: str) -> dict[int, str]:
+    """The words of the claims of docs/PROOFS.md, without links: what stands below a claim's heading, above its
+    contracts."""
+    parts = re.findall(r"^### Claim (\d)\n\n((?:(?!#).*\n)*?)\*\*Contracts?:\*\*", page, re.M)
+    return {int(number): re.sub(r"\[([^]]*)\]\([^)]*\)", r"\1", " ".join(words.split())) for number, words in parts}
 
 
 class Statements:
@@ -180,15 +181,15 @@ class Statements:
         found = re.fullmatch(r"\S+\s+: (Definitions\.\w+)", self.full[theorem])
         return found[1] if found and found[1] in self.text else None
 
-    def files(self, readme: str) -> dict[str, str]:
+    def files(self, page: str) -> dict[str, str]:
         """What claims.txt and statements.txt have to be."""
         comments = {file: sentences(self.folder, file) for file in SHOWN}
-        claims, words = self.claims(), readme_claims(readme)
+        claims, words = self.claims(), claims_of(page)
         named = {number for numbers in claims for number in numbers}
-        if faults := [f"no theorem is for claim {number} of README.md" for number in sorted(words.keys() - named)]:
+        if faults := [f"no theorem is for claim {number} of docs/PROOFS.md" for number in sorted(words.keys() - named)]:
             raise Failed("\n".join(faults))
         if others := sorted(named - words.keys()):
-            raise Failed(f"README.md has no claim {others[0]}")
+            raise Failed(f"docs/PROOFS.md has no claim {others[0]}")
         of_claims = [theorem for theorems in claims.values() for theorem in theorems]
         read = self.closure(of_claims)
         parts = {"claims.txt": [paragraph(CLAIMS)], "statements.txt": [paragraph(OTHERS)]}
@@ -200,7 +201,7 @@ class Statements:
                 shown.update(names, filter(None, map(self.law_of, names)))
         for numbers, theorems in claims.items():
             said = [f"Claim{'s' * (len(numbers) > 1)} {' and '.join(map(str, numbers))}."]
-            said += [words.pop(number) + "." for number in numbers if number in words]
+            said += [words.pop(number) for number in numbers if number in words]
             add("claims.txt", " ".join(said), theorems)
         parts["claims.txt"].append(paragraph(JUDGED))
         for topic, theorems in topics(self.folder).items():
@@ -232,7 +233,7 @@ def differences(kept: dict[str, str], found: dict[str, str]) -> list[str]:
 
 def compare(folder: Path, writes: bool = False) -> None:
     """Whether the files say what is proved, after they are written if this `writes` them."""
-    found = Statements(folder).files((HERE / "README.md").read_text())
+    found = Statements(folder).files((HERE / "docs" / "PROOFS.md").read_text())
     if writes:
         for file, text in found.items():
             (HERE / "recheck" / file).write_text(text)

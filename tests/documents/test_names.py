@@ -18,7 +18,7 @@ from contracts import functions_of, without_generics
 from documents import BUILT, CODE, Document, documents
 from harness import ROOT, at_least, check
 
-CLAIMS = ["docs/PROOFS.md", "docs/SCRIPT.md", "crates/superio_examples/README.md"]
+CLAIMS = ["docs/CONTRACTS.md", "docs/SCRIPT.md", "crates/superio_examples/README.md"]
 LIBRARIES = ["superio_core", "superio_laws", "superio_console", "vm_superio"]
 CRATES = [*LIBRARIES, "superio_c", "superio_script", "superio_examples"]
 CITATION = re.compile(r"(\w+(?:::\w+)*(?:, \w+(?:::\w+)*)*): ([a-z]\w*(?:, \w+)*)")
@@ -139,7 +139,7 @@ def test_clause(function, clause):
     """A document cites each clause."""
     is_of_c = function.startswith("superio_c::")
     is_cited = (function, clause) in CITED or is_of_c and clause in {it for _, it in CITED}
-    assert is_cited, "docs/PROOFS.md does not name it"
+    assert is_cited, "docs/CONTRACTS.md does not name it"
 
 
 @pytest.mark.parametrize("name", at_least(17, sorted(CONSOLE)))

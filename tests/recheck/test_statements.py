@@ -11,10 +11,24 @@ import statements
 
 pytestmark = pytest.mark.needs("coq")
 
-README = """| Claim | Contract |
-|---|---|
-| 1. A new port [fits](docs/THEOREM.md), always | `new: fits` |
-| 2. A write is `kept` | `write: kept` |
+PAGE = """## The claims
+
+### Claim 1
+
+A new port [fits](THEOREM.md), always.
+
+**Contract:** `new: fits`
+
+### Claim 2
+
+A write
+is `kept`.
+
+It has room.
+
+**Contracts:** `write: kept`, `write: room`
+
+It is no part of the claim that claims have contracts.
 """
 FILES = {
     "Prelude": """
@@ -113,8 +127,8 @@ REFUSED = {
     "a sentence above an empty line": ("Claims", r"(?<=read\. \*\)\n)", "\n", r"^no sentence above Claims\.zero$"),
     "a sentence of no theorem": ("Claims", r"(?=\(\* ---- numbers)", "(* Claim 1. A port is small. *)\n\n",
                                  r"^no theorem below: Claim 1\. A port is small\.$"),
-    "a claim without a theorem": ("Claims", "Claims 1 and 2. ", "Claim 1. ", r"^no theorem is for claim 2 of README\.md$"),
-    "a claim that README does not make": ("Claims", "Claims 1 and 2. ", "Claims 2 and 3. ", r"^README\.md has no claim 3$"),
+    "a claim without a theorem": ("Claims", "Claims 1 and 2. ", "Claim 1. ", r"^no theorem is for claim 2 of docs/PROOFS\.md$"),
+    "a claim that the page does not make": ("Claims", "Claims 1 and 2. ", "Claims 2 and 3. ", r"^docs/PROOFS\.md has no claim 3$"),
     "a theorem above all headings": ("Claims", r"\(\* ---- the port \*\)\n", "", r"^no heading above port_new$"),
     "a module": ("Calls", "(?=Definition writes)", "Module Hidden.\nDefinition n := 0.\nEnd Hidden.\n", r"^a module in Calls\.v$"),
     "an axiom": ("Witnesses", "Definition used_doubles := doubles 3", "Axiom all : False.\nDefinition used_doubles := all",
@@ -134,7 +148,7 @@ def small(tmp_path_factory):
     for name, text in FILES.items():
         (folder / f"{name}.v").write_text(text)
     coq.check(folder, 1)
-    return folder, statements.Statements(folder).files(README)
+    return folder, statements.Statements(folder).files(PAGE)
 
 
 def changed(small, folder, file, old, new):
@@ -146,7 +160,7 @@ def changed(small, folder, file, old, new):
     while more := {name for name, required in needs.items() if required & names} - names:
         names |= more
     coq.check(folder, 1, names - {"Statements"})
-    return statements.Statements(folder).files(README)
+    return statements.Statements(folder).files(PAGE)
 
 
 @pytest.mark.parametrize("name", CHANGES)
@@ -171,11 +185,11 @@ def test_refused(name, small, tmp_path):
 
 
 def test_what_a_reviewer_reads(small):
-    """README's claims come first, in its order and by its words, and then the definitions, each after those that it uses."""
+    """The page's claims come first, in its order and by its words, and then the definitions, each after those that it uses."""
     claims = small[1]["claims.txt"]
     parts = ["==== Claim 1. A new port fits, always.", "A new port fits.\nport_new\n     : exists",
-             "==== Claims 1 and 2. A write is `kept`.", "A write is kept, and no call panics.\nport_write\n",
-             "These are README's claims, all of them", "A port, and how many bytes it holds.\nRecord Port",
+             "==== Claims 1 and 2. A write is `kept`. It has room.\n", "A write is kept, and no call panics.\nport_write\n",
+             "These are all theorems of the six claims", "A port, and how many bytes it holds.\nRecord Port",
              "a FIFO holds as many\nmost = 64", "no more are held than have room\nFits =", "writes ="]
     places = [claims.index(part) for part in parts]
     assert places == sorted(places)
