@@ -1,5 +1,5 @@
 # SPDX-License-Identifier: Apache-2.0 OR BSD-3-Clause
-"""What is proved, as Coq says it, in two files that a person reads: claims.txt has the six claims of docs/PROOFS.md, and
+"""What is proved, as Coq says it, in two files that a person reads: claims.txt has the claims of docs/PROOFS.md, and
 statements.txt the rest. The sentences, the claims and the topics are the comments of Claims.v, and the words of a claim
 are the page's."""
 import difflib
@@ -34,8 +34,8 @@ CLAIMS = """The six claims of docs/PROOFS.md, proved again. Below each sentence 
     prints it. A name that begins with `rs_` is a function of Rust. `Some` of a result says that the call returns it, so
     the call does not panic or hang. `valid_Uart` and its like hold of every struct that Rust can make. `inhabited` of a
     record of facts holds if all these facts hold."""
-JUDGED = """These are all theorems of the six claims. Below are the definitions that they use, each after the definitions
-    that it uses itself. Judge these too. There is no more to read of the claims."""
+JUDGED = """These are all the theorems of the six claims. Below are the definitions that they use, each after the
+    definitions that it uses itself. Judge these too. There is no more to read of the claims."""
 OTHERS = """What is proved beside claims.txt, as Coq prints it: the other theorems, by topic; laws that have conditions,
     used once each; and the definitions that are not in claims.txt."""
 

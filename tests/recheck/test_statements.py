@@ -189,7 +189,7 @@ def test_what_a_reviewer_reads(small):
     claims = small[1]["claims.txt"]
     parts = ["==== Claim 1. A new port fits, always.", "A new port fits.\nport_new\n     : exists",
              "==== Claims 1 and 2. A write is `kept`. It has room.\n", "A write is kept, and no call panics.\nport_write\n",
-             "These are all theorems of the six claims", "A port, and how many bytes it holds.\nRecord Port",
+             "These are all the theorems of the six claims", "A port, and how many bytes it holds.\nRecord Port",
              "a FIFO holds as many\nmost = 64", "no more are held than have room\nFits =", "writes ="]
     places = [claims.index(part) for part in parts]
     assert places == sorted(places)
