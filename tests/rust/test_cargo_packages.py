@@ -53,15 +53,41 @@ def files_of(folder):
             if path.parts[0] != "target" and path.name not in WRITTEN}
 
 
+@pytest.fixture(scope="module")
+def pages(packed):
+    """Beside each crate, the pages that rustdoc makes of it, by their paths. It has nothing else to say."""
+    made = {}
+    for crate in PACKAGES:
+        cargo = packed[crate][0]
+        cargo.check("doc", "--no-deps", "--quiet", RUSTDOCFLAGS="-D warnings")
+        [top] = [it.parent for it in (Path(cargo.environment["CARGO_TARGET_DIR"]) / "doc").glob("*/all.html")
+                 if it.parent.name == packed[crate][1]["targets"][0]["name"]]
+        made[crate] = {it.relative_to(top).as_posix(): it.read_text(encoding="utf-8") for it in top.rglob("*.html")}
+    return made
+
+
 @pytest.mark.parametrize("crate", PACKAGES)
-def test_documented(packed, crate):
-    """rustdoc has nothing to say, and on the page of each type the call that makes one comes first."""
-    cargo = packed[crate][0]
-    cargo.check("doc", "--no-deps", "--quiet", RUSTDOCFLAGS="-D warnings")
-    pages = [*(Path(cargo.environment["CARGO_TARGET_DIR"]) / "doc").rglob("struct.*.html")]
-    calls = {page.name: re.findall(r'id="method\.(\w+)"', page.read_text("utf-8")) for page in pages}
+def test_documented(pages, crate):
+    """On the page of each type the call that makes one comes first."""
+    calls = {path: re.findall(r'id="method\.(\w+)"', page) for path, page in pages[crate].items() if "struct." in path}
     assert crate == PACKAGES[-1] or {"new"} < {name for names in calls.values() for name in names}
-    assert not [(page, names) for page, names in calls.items() if "new" in names[1:]]
+    assert not [(path, names) for path, names in calls.items() if "new" in names[1:]]
+
+
+@pytest.mark.parametrize("crate, left", [(PACKAGES[0], r".*/"), (PACKAGES[1], "sansio/")])
+def test_calls_are_linked(packed, pages, crate, left):
+    """A call that a page names, other than an argument, is a link there. What stands in the proved sources is left."""
+    sources = [it.read_text("utf-8") for name in PACKAGES[:2] for it in (packed[name][0].folder / "src").rglob("*.rs")]
+    calls = {name for page in pages[crate].values() for name in re.findall(r'id="(?:ty)?method\.(\w+)"', page)}
+    calls &= {name for source in sources for name in re.findall(r"\bfn (\w+)", source)}
+    tried = {path: re.sub(r"(?s)<pre.*?</pre>", "", page) for path, page in pages[crate].items()
+             if not re.match(left, path) and not re.match(r"(struct|fn|all)\b", path)}
+    named = {path: {it.split("::")[-1] for it in re.findall(r"<code>([\w:]+)(?:\(\))?</code>", page)} & calls
+             for path, page in tried.items()}
+    linked = {path: {*re.findall(r'href="[^"]*method\.(\w+)"[^>]*><code>', page)} for path, page in tried.items()}
+    assert linked["index.html"] >= {"interrupt_line", "alarm_due", "character_timeout"}
+    assert not {(path, name) for path, names in named.items() for name in names - linked[path]
+                if not re.search(rf"\b{name}: ", pages[crate][path])}
 
 
 @pytest.mark.parametrize("crate", PACKAGES)

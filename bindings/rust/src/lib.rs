@@ -1,5 +1,15 @@
 // SPDX-License-Identifier: Apache-2.0 OR BSD-3-Clause
 #![doc = include_str!("../README.md")]
+//!
+//! ## Calls that this page names
+//!
+//! - Of a port: [`retry_interrupts`](Serial::retry_interrupts),
+//!   [`character_timeout`](serial::timeout::CharacterTimeout::character_timeout) and
+//!   [`interrupt_line`](serial::line::InterruptLine::interrupt_line).
+//! - Of a clock: [`read`](Rtc::read), [`write`](Rtc::write), [`read_at`](Rtc::read_at), [`write_at`](Rtc::write_at),
+//!   [`interrupt_line`](Rtc::interrupt_line), [`alarm_due`](Rtc::alarm_due) and [`snapshot`](Rtc::snapshot).
+//! - Of saved states: [`SerialState::to_bytes`], [`SerialState::is_coherent`] and
+//!   [`RtcSnapshot::to_bytes`](rtc_pl031::RtcSnapshot::to_bytes).
 #![forbid(unsafe_code)]
 #![deny(missing_docs)]
 #![deny(missing_copy_implementations)]
@@ -17,7 +27,7 @@ pub mod serial;
 /// use vm_superio::sansio::Uart;
 ///
 /// let mut port = Uart::new();
-/// port.write(1, 0x01); // the guest enables the interrupt of received data
+/// assert_eq!(port.write(1, 0x01).interrupts, 0); // the guest enables the interrupt of received data
 /// assert_eq!(port.enqueue_raw_bytes(b"hi").interrupts, 1); // raise it once
 /// ```
 pub mod sansio {

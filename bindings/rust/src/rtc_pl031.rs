@@ -105,7 +105,7 @@ impl RtcSnapshot {
         RtcSnapshot { state, armed: false }
     }
 
-    /// The five fields that `from_five` takes, for a program without alarms.
+    /// The five fields that [`from_five`](Self::from_five) takes, for a program without alarms.
     ///
     /// # Errors
     ///
@@ -299,7 +299,8 @@ impl<EV: RtcEvents> Rtc<EV> {
 
     /// The guest writes `data`, lowest byte first, at `offset` from the clock's base.
     ///
-    /// A write to an unwritable offset stores nothing and calls the events object's `invalid_write` once.
+    /// A write to an unwritable offset stores nothing and calls the events object's
+    /// [`invalid_write`](RtcEvents::invalid_write) once.
     ///
     /// Asks for the host's time once at a write of RTCMR or RTCLR and, while an alarm is set, at any write. To spare
     /// that, use [`write_at`](Rtc::write_at).
@@ -334,7 +335,8 @@ impl<EV: RtcEvents> Rtc<EV> {
 
     /// The guest reads into `data`, lowest byte first, at `offset` from the clock's base.
     ///
-    /// A read of an unreadable offset leaves `data` unchanged and calls the events object's `invalid_read` once.
+    /// A read of an unreadable offset leaves `data` unchanged and calls the events object's
+    /// [`invalid_read`](RtcEvents::invalid_read) once.
     ///
     /// Asks for the host's time once at a read of RTCDR and, while an alarm is set, at any read. To spare that, use
     /// [`read_at`](Rtc::read_at).

@@ -260,7 +260,7 @@ impl<T: Trigger, EV: SerialEvents, W: Write> Serial<T, EV, W> {
     ///
     /// [`Error::FullFifo`] if there are bytes and 64 are held already, outside loopback: nothing changes then.
     /// [`Error::Trigger`] if the trigger refused: the bytes that fit are kept, so do not enqueue them again. To find
-    /// out how many, compare `fifo_capacity` before and after.
+    /// out how many, compare [`fifo_capacity`](Serial::fifo_capacity) before and after.
     pub fn enqueue_raw_bytes(&mut self, input: &[u8]) -> Result<usize, Error<T::E>> {
         let effects = self.port.enqueue_raw_bytes(input);
         if effects.fifo_full {

@@ -1,5 +1,13 @@
 // SPDX-License-Identifier: Apache-2.0 OR BSD-3-Clause
 #![doc = include_str!("../README.md")]
+//!
+//! ## Calls that this page names
+//!
+//! - Of a console: [`wants`](console::Console::wants), [`refuse`](console::Console::refuse),
+//!   [`reset`](console::Console::reset) and [`suspend`](console::Console::suspend).
+//! - Of a port: [`character_timeout`](Uart::character_timeout). Of registers with a FIFO of your own:
+//!   [`interrupts_due`](serial::Registers::interrupts_due) and [`cancel_thre`](serial::Registers::cancel_thre).
+//! - Of a clock: [`interrupt_line`](Pl031::interrupt_line) and [`alarm_due`](Pl031::alarm_due).
 #![no_std]
 #![forbid(unsafe_code)]
 #![deny(missing_docs)]

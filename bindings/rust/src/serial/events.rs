@@ -50,7 +50,8 @@ pub trait SerialEvents {
     /// The writer failed, so a byte that the guest sent is lost.
     fn tx_lost_byte(&self);
 
-    /// The guest read the receive buffer, and the port holds no byte now. Reported before the read's `buffer_read`.
+    /// The guest read the receive buffer, and the port holds no byte now. Reported before the read's
+    /// [`buffer_read`](Self::buffer_read).
     fn in_buffer_empty(&self);
 }
 
