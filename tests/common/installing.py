@@ -35,8 +35,9 @@ def prepare(tools, may_install):
     if not lacking or not may_install:
         return
     if not is_debian_12():
-        sys.exit("\n".join([line for tool in tools if tool != "kit" for line in advice(tool)] + [
-            "Nothing is installed on another system than Debian 12: install these, or go on with --no-install"]))
+        named = dict.fromkeys(line for tool in tools if tool != "kit" for line in advice(tool))   # each once
+        sys.exit("\n".join([*named, "Nothing is installed on another system than Debian 12: install these, or go on "
+                                    "with --no-install"]))
     print(f"Installs what this machine lacks of Debian 12: {' '.join(lacking)}", flush=True)
     ran = subprocess.run([ROOT / "tools" / "install-packages", *lacking])
     if ran.returncode:

@@ -194,14 +194,16 @@ def test_recheck_needs_nothing_else(machine):
     assert machine.run("tools/recheck", "--no-install")[0] == 1
 
 
-@pytest.mark.parametrize("tool", ["tools/check", "tools/recheck"])
-def test_another_system(tool, machine):
-    """It names what is missing, and goes no further."""
-    machine.lacks("coqc")
+@pytest.mark.parametrize("tool, names", [("tools/check", ["cc is missing: install gcc"]), ("tools/recheck", [])])
+def test_another_system(tool, names, machine):
+    """It names what is missing, each once, and goes no further."""
+    machine.edit("tests/common/tools.py", TABLE, TABLE.replace('"kit"', '"kit", "cc"'))   # a second one that needs cc
+    machine.lacks("coqc", "cc")
     for system in [("Debian", "13"), ("Ubuntu", "12")]:
         machine.runs(*system)
         status, said, called = machine.run(tool)
-        assert status == 1 and said.startswith("coqc is missing: install coq\n") and not called, said
+        assert status == 1 and not called, said
+        assert said.splitlines()[:-1] == [*names, "coqc is missing: install coq"]
 
 
 def test_another_user(machine):
