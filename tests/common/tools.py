@@ -66,6 +66,7 @@ def of_tests(line):
 # What no package of Debian 12 has: tests of it run where that is there. Those of tests/guests fetch it.
 PLACES = {"KVM": "import fcntl, os; fcntl.ioctl(fcntl.ioctl(os.open('/dev/kvm', os.O_RDWR), 0xAE01), 0xAE60)",
           "Deno": "deno",
+          "Python 3.8": "import os; assert os.popen('python3.8 --version 2>&1').read().startswith('Python 3.8.')",
           **{f"version of {called} with sums in tests/guests":
              of_tests(f"import sources; assert sources.is_recorded('{name}')")
              for called, name in [("Linux's source", "linux"), ("Linux 5.10", "linux-5.10"),

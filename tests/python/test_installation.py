@@ -162,10 +162,10 @@ def test_installed_by_pip(archives, what, tmp_path):
 
 
 @needs_python
-def test_the_sources_have_tests_that_pass(archives):
-    """With other random calls for each commit."""
-    done = ended([sys.executable, "-m", "unittest", "discover", "tests"], cwd=archives.unpacked, env=CLEAN,
-                 timeout=TIMEOUT)
+@pytest.mark.parametrize("python", [sys.executable, pytest.param("python3.8", marks=pytest.mark.where("Python 3.8"))])
+def test_the_sources_have_tests_that_pass(archives, python):
+    """With other random calls for each commit, and also with the oldest Python that the package is for."""
+    done = ended([python, "-m", "unittest", "discover", "tests"], cwd=archives.unpacked, env=CLEAN, timeout=TIMEOUT)
     assert re.search(r"\nRan [3-9]\d tests in .*\n\nOK \(skipped=2\)\n$", done[2]), done
 
 

@@ -194,6 +194,15 @@ def test_recheck_needs_nothing_else(machine):
     assert machine.run("tools/recheck", "--no-install")[0] == 1
 
 
+def test_recheck_by_an_old_python(machine):
+    """It says so in a sentence, before anything is installed."""
+    machine.lacks("coqc")
+    (machine.stubs / "sitecustomize.py").write_text("import sys\nsys.version_info = (3, 10, 13)\n", "utf-8")
+    status, said, called = machine.run("tools/recheck")
+    assert status == 1 and said.startswith("tools/recheck needs Python 3.11 or later, and this is 3."), said
+    assert said.count("\n") == 1 and not called
+
+
 @pytest.mark.parametrize("tool, names", [("tools/check", ["cc is missing: install gcc"]), ("tools/recheck", [])])
 def test_another_system(tool, names, machine):
     """It names what is missing, each once, and goes no further."""
