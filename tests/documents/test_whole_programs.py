@@ -5,7 +5,7 @@ import re
 
 import pytest
 from documents import Document
-from harness import ROOT, check
+from harness import LIMIT, ROOT, check
 
 PACKAGE = '[package]\nname = "hi"\nversion = "0.1.0"\nedition = "2021"\n\n'
 LIBRARY = ROOT / "prebuilt" / f"{platform.machine()}-linux" / "libsuperio_c.a"
@@ -13,6 +13,8 @@ LIBRARY = ROOT / "prebuilt" / f"{platform.machine()}-linux" / "libsuperio_c.a"
 HI = "the event loop wakes, and reads input\n2 bytes accepted, 1 interrupt to raise\nthe guest reads h\n"
 # The function of a line that takes edges; and what a monitor has for one that takes levels.
 INTERRUPT = re.compile(r"(?:^/\*[^/]*\*/\n)?^static \w+ interrupt\(.*?^\}\n", re.M | re.S)
+# How long the guest is held until the reader of its output takes some. Afterwards the program drops output.
+A_SECOND = "    end.tv_sec++;\n"
 SET_LINE = "static void set_line(bool is_up) { if (is_up) eventfd_write(irq, 1); }\n"
 
 
@@ -37,15 +39,19 @@ def test_c(tmp_path):
 @pytest.mark.needs("cc")
 @pytest.mark.parametrize("line", ["edges", "levels"])
 def test_event_loop(line, tmp_path):
-    """More input comes back than all queues hold, also if its reader begins late."""
+    """More input comes back than all queues hold, also if its reader begins late: for a reader that a busy machine keeps
+    waiting the guest is held longer than the second of the page."""
     program = code("docs/USING.md", "c", "int main")
     if line == "levels":
         program, count = INTERRUPT.subn(SET_LINE + code("docs/USING.md", "c", "set_line"), program)
         assert count == 1
     compile_c(tmp_path, "console", program, LIBRARY, "-pthread", "-o", "console")
     check(["./console"], "HELLO\n", cwd=tmp_path, input="hello\n")
+    assert program.count(A_SECOND) == 1
+    compile_c(tmp_path, "patient", program.replace(A_SECOND, f"    end.tv_sec += {LIMIT};\n"), LIBRARY, "-pthread", "-o",
+              "patient")
     text = "the quick brown fox " * 10_000 + "\n"
-    check(["sh", "-c", "./console | (sleep 0.2; cat)"], text.upper(), cwd=tmp_path, input=text)
+    check(["sh", "-c", "./patient | (sleep 0.2; cat)"], text.upper(), cwd=tmp_path, input=text)
 
 
 @pytest.mark.needs("cc")

@@ -70,7 +70,7 @@ class Console:
     """A guest's console, or what a host says: one end of a socket."""
 
     def __init__(self, connection):
-        self.connection, self.seen = connection, b""
+        self.connection, self.seen, self.sent = connection, b"", 0
 
     def receive(self, seconds):
         """Takes what comes next within so many seconds. Returns whether something came."""
@@ -101,7 +101,9 @@ class Console:
         return taken
 
     def send(self, text):
-        self.connection.sendall(text if isinstance(text, bytes) else text.encode())
+        content = text if isinstance(text, bytes) else text.encode()
+        self.sent += len(content)
+        self.connection.sendall(content)
 
     def paste(self, content, sizes):
         """Sends bytes in pieces of these sizes in turn, 5 milliseconds apart."""

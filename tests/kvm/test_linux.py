@@ -12,6 +12,7 @@ it.
 import hashlib
 import random
 import time
+from itertools import count
 
 import pytest
 from booting import Stalled, console, host, sum_of_sources
@@ -23,10 +24,10 @@ pytestmark = [pytest.mark.needs("cc", "make", "cargo", "qemu"), pytest.mark.wher
 RECORD = HERE / "linux.record"
 PASTED, MOVED, EXCHANGED = 4096, 65536, 16384
 # A burst has more bytes than Linux's handler takes in one pass, 256, but not more than the FIFO has room for.
-BURST, BURSTS = 256 + 40, 20
+BURST = 256 + 40
 # Pieces of a paste: their sizes in turn.
 EVEN, ODD = [1000], [1, 7, 64, 65, 300, 1000, 255, 257]
-# After how many seconds what does not come counts as what never comes, and how long a stall is looked at.
+# After how many seconds what does not come counts as what never comes, and how many a stall is looked at.
 PATIENCE, STALL = LIMIT, 8
 CLOCK = 0xD0000
 RTCDR, RTCMR, RTCLR, RTCIMSC, RTCMIS, RTCICR = (CLOCK + it for it in (0x000, 0x004, 0x008, 0x010, 0x018, 0x01C))
@@ -83,19 +84,23 @@ def check_both(guest):
 
 def check_stall(guest):
     """Without the character timeout a burst waits until one more byte comes, and has lost nothing. One that comes while
-    the handler finds the FIFO empty does not wait, so this makes some."""
-    run(guest, "stty cstopb")  # the monitors of this test make no timeout then
-    for number in range(BURSTS):
+    the handler finds the FIFO empty does not wait, so this makes others until one does: the monitor says so."""
+    run(guest, "stty cstopb")  # the monitors of this test make no timeout then, and say what has come and waits
+    before = guest.sent
+    for number in count():
         content = printable(BURST, f"burst {number}")
         begin_raw(guest, f"head -c {BURST} | md5sum")
         guest.send(content)
-        try:
-            assert guest.until(b"  -\n", STALL) == digest(content)
-        except Stalled:
-            guest.send(b"\n")
-            assert guest.until(b"  -\n", PATIENCE) == digest(content)
-            return
-    pytest.fail("no burst has stalled")
+        all_came, said = str(guest.sent - before).encode(), b"0"
+        while said.isdigit() and said != all_came:
+            said = guest.until(b"  -\n", PATIENCE)
+        if said == all_came:
+            break
+        assert said == digest(content)
+    with pytest.raises(Stalled):
+        guest.until(b"  -\n", STALL)
+    guest.send(b"\n")
+    assert guest.until(b"  -\n", PATIENCE) == digest(content)
 
 
 def check_clock(guest):
@@ -106,12 +111,11 @@ def check_clock(guest):
     run(guest, f"devmem {RTCLR} 32 {SET_TO}")
     assert 0 <= int(run(guest, f"devmem {RTCDR}"), 16) - SET_TO <= time.time() - before + 1
     run(guest, f"devmem {RTCIMSC} 32 1")
-    for seconds in (4, 40, 400):   # a busy machine may let the alarm pass before the guest looks
-        said = run(guest, f"devmem {RTCICR} 32 1; at=$(($(devmem {RTCDR}) + {seconds})); devmem {RTCMR} 32 $at; "
-                          f"seen=$(devmem {RTCMIS}); [ $(($(devmem {RTCDR}))) -ge $at ] || echo $seen")
-        if said:
-            break
-    assert said == "0x00000000\r\n"
+    # Far ahead of any moment of this test, and then so near that it comes: but if the guest stands still meanwhile, the
+    # moment may have passed before it is set, and the next one is tried.
+    assert run(guest, f"devmem {RTCICR} 32 1; devmem {RTCMR} 32 {2 * SET_TO}; devmem {RTCMIS}") == "0x00000000\r\n"
+    run(guest, f"while at=$(($(devmem {RTCDR}) + 4)); devmem {RTCMR} 32 $at; [ $(($(devmem {RTCDR}))) -ge $at ]; do :; "
+               f"done")
     assert run(guest, f"while [ $(devmem {RTCMIS}) = 0x00000000 ]; do usleep 100000; done; devmem {RTCMIS}") \
         == "0x00000001\r\n"
 

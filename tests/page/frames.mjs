@@ -4,14 +4,14 @@
  * in the element `tried`. Tells on the console, as JSON, the kind and the name of each thing, how many, and what is wrong.
  */
 const { address, shown, features, looks, pictures, scripts } = JSON.parse(document.getElementById("tried").textContent);
-const [HEIGHT, WIDTH, SCHEME, MOST_MILLISECONDS] = [860, 1280, "light", 500];
+const [HEIGHT, WIDTH, SCHEME] = [860, 1280, "light"];
 
 const tell = (kind, name, wrong, number = 1) =>
   console.log(JSON.stringify({ kind, name, number, wrong: wrong.join("\n  ") }));
 const until = async (test) => { while (!test()) await new Promise((done) => setTimeout(done)); };
 
-/** The window of the page, and how many milliseconds after its start it was there, at the fastest. */
-let [page, fastest] = [null, Infinity];
+/** The window of the page. */
+let page = null;
 
 /** Opens the page anew, with a fragment of its address. */
 async function open(fragment, width = WIDTH, scheme = SCHEME) {
@@ -21,7 +21,6 @@ async function open(fragment, width = WIDTH, scheme = SCHEME) {
   document.body.replaceChildren(frame);
   await until(() => frame.contentWindow.superio);
   page = frame.contentWindow;
-  fastest = Math.min(fastest, page.superio.shownAfter);
 }
 
 const by = (id) => page.document.getElementById(id);
@@ -201,6 +200,4 @@ for (const feature of features) await end("feature", feature.split("\n")[0], try
 for (const [width, scheme] of looks) await end("looks", `${width} ${scheme}`, tryLooks(width, scheme));
 for (const picture of pictures) await end("picture", picture[0], take(picture));
 if (scripts.length) await end("scripts", "all", tryScripts());
-if (fastest === Infinity) await open("");
-tell("loading", "all", fastest > MOST_MILLISECONDS ? [`the page took ${fastest} milliseconds at its fastest`] : []);
 console.log(JSON.stringify({ end: true }));

@@ -1,10 +1,13 @@
 # SPDX-License-Identifier: Apache-2.0 OR BSD-3-Clause
 """The examples in Python, as programs."""
+import fcntl
 import os
 import random
 import select
+import struct
 import subprocess
 import sys
+import termios
 import time
 
 import pytest
@@ -35,6 +38,13 @@ class Console:
                 time.sleep(pause)
         return shown
 
+    def until_unread(self, count):
+        """Waits until so many bytes are shown, and reads none of them."""
+        end = time.monotonic() + LIMIT
+        while (unread := struct.unpack("i", fcntl.ioctl(self.file, termios.FIONREAD, bytes(4)))[0]) < count:
+            assert time.monotonic() < end, f"{unread} of {count} bytes are shown"
+            time.sleep(0.001)
+
 
 @pytest.fixture
 def program(tmp_path):
@@ -51,7 +61,7 @@ def program(tmp_path):
 
 
 def test_console_on_a_terminal(program):
-    """It echoes what is typed, and a text of any length, also to a slow reader and after nobody has read for a while.
+    """It echoes what is typed, and a text of any length, also to a slow reader and while nobody reads.
     Ctrl-D ends it."""
     console = Console(program)
     assert console.exchange(b"", len(GREETING)) == GREETING
@@ -60,7 +70,7 @@ def test_console_on_a_terminal(program):
     assert console.exchange(text, len(text), pause=0.001) == text
     few = text[:2_000]
     os.write(console.file, few)
-    time.sleep(0.3)
+    console.until_unread(len(few))
     assert console.exchange(b"", len(few)) == few
     os.write(console.file, b"\x04")
     assert program.wait(LIMIT) == 0

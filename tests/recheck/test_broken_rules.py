@@ -16,7 +16,7 @@ from pathlib import Path
 import pytest
 import rust_cases
 import shell_cases
-from harness import ROOT
+from harness import LIMIT, ROOT
 from test_translator_of_shell import COQ, SCRIPTS
 
 import rust2coq
@@ -335,7 +335,7 @@ def results(cases, folder):
             continue
         body = "\n".join(line for line in text.splitlines() if not line.startswith("Require"))
         shown = "rs_case" if kind is of_device else f"(map show [{'; '.join(map(str, SCRIPTS))}])"
-        words.append(f"Module {name}.\n{body}\nTimeout 5 Compute ({at}, {shown}).\nEnd {name}.")
+        words.append(f"Module {name}.\n{body}\nTimeout {LIMIT} Compute ({at}, {shown}).\nEnd {name}.")
     run = subprocess.run(["coqtop", "-q", "-w", "none"], input="\n".join(words), cwd=folder, capture_output=True,
                          text=True)
     said = re.findall(r"^ +=\s+\((\d+),\s+(.*?)\)\s+:", run.stdout, re.M | re.S)

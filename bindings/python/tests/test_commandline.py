@@ -11,6 +11,7 @@ import threading
 import time
 import unittest
 from contextlib import suppress
+from pathlib import Path
 from unittest import mock
 
 from support import ENVIRONMENT, ROOT, TIMEOUT, FolderTest, ended, run
@@ -272,6 +273,12 @@ class Terminal(FolderTest):
         self.raw = rest.encode()
         return head + found
 
+    def until_it_sleeps(self):
+        """Until it awaits a key, or the terminal takes no more: a Ctrl-C that comes while Python goes back to wait for a
+        key is seen with the next key only."""
+        while Path(f"/proc/{self.process}/stat").read_text().rpartition(")")[2].split()[0] != "S":
+            time.sleep(0.001)
+
     def answer(self, text, prompt=PROMPT):
         """What is shown between a typed line, which the terminal echoes, and the next prompt."""
         self.type(text + "\r")
@@ -309,7 +316,7 @@ class Terminal(FolderTest):
         for typed, shown in (("write SCR 9", "9"), ("source long\r", "0000000000000000\n")):
             self.type(typed)
             self.shown_until(shown)
-            time.sleep(0.5)
+            self.until_it_sleeps()
             self.type(CTRL_C)
             shown = self.shown_until(PROMPT)  # behind much output the terminal may echo the key late, beside the prompt
             self.assertIn("^C\n", shown)

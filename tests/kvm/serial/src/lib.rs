@@ -18,7 +18,8 @@ const FIFO_SIZE: usize = 64;
 const OUTPUT_SIZE: usize = 4096;
 const LOOPBACK: u8 = 0x10;
 
-/// With this bit of LCR, two stop bits, a guest gets no character timeout, so that a test shows what that is for.
+/// With this bit of LCR, two stop bits, a guest gets no character timeout, so that a test shows what that is for. When
+/// it then leaves bytes and reads that nothing is pending, this says how many have come, as timeout.c does.
 const NO_TIMEOUT: u8 = 0x04;
 
 extern "C" {
@@ -76,6 +77,8 @@ struct Port {
     is_polled: bool,
     takes_input: bool,
     is_refused: bool,
+    /// So many bytes the guest has read since it wanted no character timeout.
+    taken: usize,
 }
 
 static PORT: Mutex<Option<Port>> = Mutex::new(None);
@@ -122,9 +125,17 @@ impl Port {
         }
     }
 
+    fn has_no_timeout(&self) -> bool {
+        self.serial.state().line_control & NO_TIMEOUT != 0
+    }
+
+    fn held(&self) -> usize {
+        self.serial.state().in_buffer.len()
+    }
+
     /// Makes the character timeout, unless the guest wants none.
     fn time_out(&mut self) {
-        if self.serial.state().line_control & NO_TIMEOUT == 0 {
+        if !self.has_no_timeout() {
             let result = self.serial.character_timeout();
             self.note(result);
         }
@@ -134,7 +145,7 @@ impl Port {
 #[no_mangle]
 pub extern "C" fn serial_open(is_polled: bool) {
     let serial = Serial::new(Line, Output::default());
-    *PORT.lock().unwrap() = Some(Port { serial, is_polled, takes_input: is_polled, is_refused: false });
+    *PORT.lock().unwrap() = Some(Port { serial, is_polled, takes_input: is_polled, is_refused: false, taken: 0 });
 }
 
 /// The output that waits stays.
@@ -150,11 +161,16 @@ pub extern "C" fn serial_reset() {
 #[no_mangle]
 pub extern "C" fn serial_read(offset: u8) -> u8 {
     access(|port| {
+        let held = port.held();
         let value = port.serial.read(offset);
+        port.taken = if port.has_no_timeout() { port.taken + held - port.held() } else { 0 };
         if offset == INTERRUPT_IDENTIFICATION {
             port.is_refused = false;
             if value & 1 != 0 {
                 port.time_out();
+                if held > 0 && port.has_no_timeout() {
+                    eprint!("{}", format!("{}  -\n", port.taken + held));
+                }
             }
         }
         value
