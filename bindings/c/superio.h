@@ -339,9 +339,11 @@ typedef struct superio_serial_enqueue_effects {
 superio_serial superio_serial_new(void) SUPERIO_MUST_USE;
 
 /*
- * The guest reads at `offset`. A read asks for no interrupt. Afterwards do two
- * things, as docs/PORT.md explains:
+ * The guest reads at `offset`. A read asks for no interrupt. Afterwards do
+ * three things, as docs/PORT.md explains:
  *
+ * - If your interrupt controller takes levels, set the line to
+ *   superio_serial_interrupt_line: a read may end an interrupt.
  * - If `in_buffer_empty` is true, offer the input that waits.
  * - If `offset` is 2 and bit 0x01 of the byte is set, call
  *   superio_serial_character_timeout, or input may never reach the guest.
@@ -361,7 +363,9 @@ superio_serial_read_effects superio_serial_read(superio_serial *port,
  * 2. Ask for the interrupt as often as `interrupts` says. Stop at the first
  *    refusal, such as a write to an eventfd that fails. You need not report a
  *    refusal: the port is the same either way. The condition stays pending, so
- *    no later access asks for it: docs/PORT.md says when you ask again.
+ *    no later access asks for it: docs/PORT.md says when you ask again. If your
+ *    interrupt controller takes levels, set the line to
+ *    superio_serial_interrupt_line instead.
  *
  * `interrupts` is 2 only if a write to IER raises both conditions. If the first
  * of the two is refused, both conditions are pending, and
@@ -380,8 +384,9 @@ superio_serial_write_effects superio_serial_write(superio_serial *port,
 /*
  * Bytes arrive for the guest. The port accepts as many of the `count` bytes as
  * fit, first ones first. In loopback it accepts none, and `fifo_full` is false.
- * Afterwards ask for the interrupt as often as `interrupts` says. The bytes
- * are kept even if that is refused: do not offer them again.
+ * Afterwards ask for the interrupt as often as `interrupts` says, or set a line
+ * that takes levels. The bytes are kept even if an interrupt is refused: do not
+ * offer them again.
  *
  * Keep the bytes that were not accepted. docs/PORT.md says when to offer input,
  * the first time and again.
@@ -399,7 +404,7 @@ superio_serial_enqueue_effects superio_serial_enqueue(superio_serial *port,
  * Raises RDA again for bytes that are left: if bytes are held, IER enables RDA
  * and RDA is not pending, RDA becomes pending. Otherwise nothing happens. DLAB
  * and loopback make no difference. Returns how often to ask for the interrupt:
- * 0 or 1 times.
+ * 0 or 1 times. Set a line that takes levels instead.
  *
  * A guest's read of RBR or IIR ends RDA even if it leaves bytes. Without this
  * call, these wait without an interrupt until another byte arrives, for which a
@@ -827,7 +832,8 @@ size_t superio_serial_save(
 /*
  * Makes a port from `count` saved bytes. Any bytes are allowed. The port
  * changes only if the result is SUPERIO_LOAD_OK. Then ask for the interrupt as
- * often as superio_serial_interrupts_due says, and again as docs/PORT.md says.
+ * often as superio_serial_interrupts_due says, and again as docs/PORT.md says,
+ * or set a line that takes levels.
  *
  * A loaded port holds at most 64 bytes. It need not be coherent: ask
  * superio_serial_is_coherent. `bytes` points to `count` bytes outside the port.

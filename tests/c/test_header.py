@@ -53,6 +53,16 @@ def test_prebuilt_is_what_a_build_gives(tmp_path):
     assert library_sums(tmp_path) == library_sums(PREBUILT)
 
 
+# The calls that may change a port, and so its line, each after its comment. A console's calls return the level.
+OF_LINES = r"(?s)(?:/\*((?:(?!\*/).)*)\*/\n)\w+ (superio_serial_(?:new|read|write|enqueue|character_timeout|load))\("
+
+
+def test_levels():
+    """The comment of each call that may change a port's line says what to do with a line that takes levels."""
+    found = re.findall(OF_LINES, (ROOT / "bindings/c/superio.h").read_text("ascii"))
+    assert len(found) == 6 and [name for comment, name in found if "takes levels" not in comment] == []
+
+
 def test_version():
     constants = read_header().constants
     version = (ROOT / "VERSION").read_text("ascii").strip()
