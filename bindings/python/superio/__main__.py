@@ -116,4 +116,4 @@ def main(arguments: List[str], name: str = "python3 -m superio") -> int:
 
 
 if __name__ == "__main__":
-    sys.exit(main(sys.argv[1:]))
+    sys.exit(main(sys.argv[1:], f"{os.path.basename(sys.executable) or 'python3'} -m superio"))

@@ -24,6 +24,7 @@ EXAMPLE = ROOT / "examples" / "three_devices.script"
 BOOT = ROOT / "examples" / "linux-boot" / "boot.recording.xz"
 NOWHERE = "/nowhere/at/all: No such file or directory\n"
 SHELL, SCRIPT = ["--shell"], ["-"]
+NAME = f"{os.path.basename(sys.executable)} -m superio"
 NO_FILE = "/proc/self/mem"  # which can be opened, and not read from its start
 
 # Arguments and standard input, and the status, the output and the errors.
@@ -40,8 +41,8 @@ RUNS = [
     (SHELL, b"write SCR 7\nreset\nread SCR\n", (0, "ok\na fresh board\nSCR = 0x00\n", "")),
     (SHELL, b"kr 04\nload /nowhere/at/all\nkr 04\n", (1, "00\n", '<stdin>:2: "load /nowhere/at/all": ' + NOWHERE)),
     (SHELL, b"load /proc/self/mem\n", (1, "", f'<stdin>:1: "load {NO_FILE}": {NO_FILE}: Input/output error\n')),
-    ([*SHELL, NO_FILE], b"", (2, "", f"python3 -m superio: {NO_FILE}: Input/output error\n")),
-    ([*SHELL, "/"], b"", (2, "", "python3 -m superio: /: Is a directory\n")),
+    ([*SHELL, NO_FILE], b"", (2, "", f"{NAME}: {NO_FILE}: Input/output error\n")),
+    ([*SHELL, "/"], b"", (2, "", f"{NAME}: /: Is a directory\n")),
     (["/"], b"", (2, "", "input or output fault\n")),
     # A script, of which `tests/python` runs many. What the shell alone takes is bad.
     *((SCRIPT, b"kr 04\n" + line + b"\nkr 04\n", (1, "00\n", "bad line 2\n")) for line in (
@@ -49,8 +50,8 @@ RUNS = [
     (SCRIPT, b"refuse 0000000000000001\nsw 01 02\nkr 04", (0, "trigger\n00\n", "")),
     (SCRIPT, b"", (0, "", "")),
     (SCRIPT, b"kr 04\n" * 10_923, (4, "", "script too long\n")),
-    (["/nowhere/at/all"], b"", (2, "", "python3 -m superio: " + NOWHERE)),
-    (["view", "/nowhere/at/all"], b"", (2, "", "python3 -m superio: " + NOWHERE)),
+    (["/nowhere/at/all"], b"", (2, "", f"{NAME}: {NOWHERE}")),
+    (["view", "/nowhere/at/all"], b"", (2, "", f"{NAME}: {NOWHERE}")),
     (["view", "-"], b"sr\n", (1, "", '<stdin>:1: "sr": the syntax is: sr OO\n')),
     (["view", "-"], b"# nothing\n", (1, "", "- has no call\n")),
     (["--version"], b"", (0, f"superio {superio.__version__}\n", "")),
@@ -124,8 +125,8 @@ COMMANDS = [
     (f"{SUPERIO} <&-", (2, "", "input or output fault\n")),
     (f"echo 'kr 04' | {SUPERIO} view - --table > /dev/full", (2, "", "No space left on device")),
     (f"echo 'save /dev/stdout' | {SUPERIO} --shell | tail -n 1", (0, "port and clock saved to /dev/stdout\n", "")),
-    (f"SUPERIO_LIBRARY=/nowhere/lib.so {SUPERIO}", (2, "", "python3 -m superio: /nowhere/lib.so cannot be loaded")),
-    *((f"{SUPERIO} {wrong}", (2, "", "usage: python3 -m superio ")) for wrong in (
+    (f"SUPERIO_LIBRARY=/nowhere/lib.so {SUPERIO}", (2, "", f"{NAME}: /nowhere/lib.so cannot be loaded")),
+    *((f"{SUPERIO} {wrong}", (2, "", f"usage: {NAME} ")) for wrong in (
         "--unknown", "a b", "view", "view --unknown a")),
 ]
 
@@ -165,6 +166,11 @@ class Runs(FolderTest):
             for words in ([], ["view"]):
                 self.assertEqual(f"usage: {' '.join([str(program), *words])} [-h]",
                                  called(*words, "--help")[1].partition("] ")[0] + "]")
+
+    def test_a_python_of_another_name(self):
+        self.path.symlink_to(sys.executable)
+        called = ended([self.path, "-m", "superio", "/nowhere/at/all"], env=ENVIRONMENT)
+        self.assertEqual((2, "", f"{self.path.name} -m superio: {NOWHERE}"), called)
 
     def test_a_full_disk_leaves_what_was_there(self):
         """A limit on the size of files stands for it."""
