@@ -191,8 +191,8 @@ impl Console {
         }
     }
 
-    /// Passes input to the guest. The port accepts the first bytes, at most as many as `wants().input` says. Keep the
-    /// others until the console wants more.
+    /// Passes input to the guest. The port accepts the first bytes, at most as many as [`wants`](Self::wants) says.
+    /// Keep the others until the console wants more.
     pub fn receive(&mut self, input: &[u8]) -> ConsoleReceived
         ensures accepted { result.accepted ≡ min (length input.now) (wants_of (state_of self.old)).input }
         ensures work { result.work ≡ work_of (Receives input.now) (state_of self.old) }

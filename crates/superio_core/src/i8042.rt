@@ -11,6 +11,7 @@ const CMD_RESET_CPU: u8 = 0xFE;
 
 /// Whether a write of `value` at `offset` from the controller's base is the reset command: 0xFE at offset 4. Use this
 /// if your monitor resets the machine without a trigger.
+#[must_use = "if it is, the machine has to be reset"]
 #[inline(always)]
 pub fn is_reset_command(offset: u8, value: u8) -> bool
     ensures { result ≡ is_reset_command offset value }

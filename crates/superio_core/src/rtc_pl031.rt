@@ -159,7 +159,7 @@ impl Pl031 {
         }
     }
 
-    /// Returns a snapshot, from which `from_state` recreates the clock.
+    /// Returns a snapshot, from which [`from_state`](Self::from_state) recreates the clock.
     pub fn state(&self) -> RtcState
         ensures { result ≡ state_of_clock self.now }
     {

@@ -65,7 +65,8 @@ impl Uart {
     /// The guest reads the byte at `offset` from the port's base. At 8 and above there is no register, and the byte is
     /// 0. A read asks for no interrupt.
     ///
-    /// If `offset` is 2 (IIR) and the byte has bit 0x01, nothing is pending: then call `character_timeout`.
+    /// If `offset` is 2 (IIR) and the byte has bit 0x01, nothing is pending: then call
+    /// [`character_timeout`](Self::character_timeout).
     #[inline(always)]
     pub fn read(&mut self, offset: u8) -> ReadEffects
         ensures step { IsUartRead offset result (state_of_uart self.old) (state_of_uart self.new) }
@@ -80,7 +81,7 @@ impl Uart {
     ///
     /// Afterwards, send the byte if `sends` is true. Then ask for the interrupt `interrupts` times. You need not tell
     /// the port if either of these fails. A refused interrupt stays pending: ask again later, as often as
-    /// `interrupts_due` says.
+    /// [`interrupts_due`](Self::interrupts_due) says.
     #[tactic(auto, using(crate::proofs::Lemmas::Serial::Coherence::write_coherent))]
     #[inline(always)]
     pub fn write(&mut self, offset: u8, value: u8) -> WriteEffects
@@ -102,7 +103,8 @@ impl Uart {
     }
 
     /// Passes input to the guest. The port accepts the first bytes, as many as fit; in loopback it accepts none. Offer
-    /// the rest again when a read reports `in_buffer_empty`, or when the guest leaves loopback.
+    /// the rest again when a read reports [`in_buffer_empty`](ReadEffects::in_buffer_empty), or when the guest leaves
+    /// loopback.
     ///
     /// Then ask for the interrupt `interrupts` times. The port keeps what it accepted, even if the interrupt is
     /// refused.
@@ -135,6 +137,7 @@ impl Uart {
 
     /// How often to ask for the interrupt after a restore or a refusal: once for each condition that is pending and
     /// enabled, 0 to 2 times.
+    #[must_use = "the interrupts have to be raised"]
     pub fn interrupts_due(&self) -> u8
         ensures calls { result ≡ length (conditions_due (state_of_uart self.now)) }
         ensures at_most_2 { result ≤ 2 }
@@ -161,8 +164,8 @@ impl Uart {
             && self.registers.is_coherent(!self.in_buffer.is_empty())
     }
 
-    /// Saves the port as 17 to 81 bytes, which `from_bytes` reads back. Any struct has an encoding, since a `len` above
-    /// 64 counts as 64. The encoding leaves out bytes that the guest has read.
+    /// Saves the port as 17 to 81 bytes, which [`from_bytes`](Self::from_bytes) reads back. Any struct has an encoding,
+    /// since a `len` above 64 counts as 64. The encoding leaves out bytes that the guest has read.
     ///
     /// It consists of a header of eight bytes, the nine registers in the order of their fields, and the received bytes,
     /// oldest first.
@@ -431,6 +434,7 @@ impl Registers {
     }
 
     /// A character timeout: raises RDA if bytes are held. Returns how often to call the trigger.
+    #[must_use = "an interrupt may have to be raised"]
     #[inline(always)]
     pub fn character_timeout<F: RxFifo>(&mut self, fifo: &F) -> u8
         ensures due { result ≡ timeout_calls (state_with self.old (F.held fifo.now)) }
@@ -497,7 +501,8 @@ impl Registers {
     }
 
     /// Writes a register. In loopback a THR write is received. Otherwise its byte goes out, and THRE is raised even if
-    /// the byte is lost. The step assumes that the trigger takes its calls: `cancel_thre` corrects a refusal.
+    /// the byte is lost. The step assumes that the trigger takes its calls:
+    /// [`cancel_thre`](Self::cancel_thre) corrects a refusal.
     #[inline(always)]
     pub fn write<F: RxFifo>(&mut self, fifo: &mut F, register: Register, value: u8) -> WriteEffects
         ensures sends { let kind = decode_write register (is_loopback self.old.modem_control) value in
@@ -539,6 +544,7 @@ impl Registers {
     }
 
     /// How often a restore calls the trigger: once for each condition that is pending and enabled, 0 to 2 times.
+    #[must_use = "the interrupts have to be raised"]
     pub fn interrupts_due(&self) -> u8
         ensures calls { result ≡ length (conditions_due (state_with self.now [])) }
         ensures at_most_2 { result ≤ 2 }

@@ -170,8 +170,8 @@ impl Console {
         }
     }
 
-    /// Passes input to the guest. The port accepts the first bytes, at most as many as `wants().input` says. Keep the
-    /// others until the console wants more.
+    /// Passes input to the guest. The port accepts the first bytes, at most as many as [`wants`](Self::wants) says.
+    /// Keep the others until the console wants more.
     // Clauses in crates/superio_console/src/lib.rt: accepted, work, at_most_1, state, coherent.
     pub fn receive(&mut self, input: &[u8]) -> ConsoleReceived {
         // Input never makes room, so all that the event loop may newly want is a turn.

@@ -152,7 +152,7 @@ impl Pl031 {
         }
     }
 
-    /// Returns a snapshot, from which `from_state` recreates the clock.
+    /// Returns a snapshot, from which [`from_state`](Self::from_state) recreates the clock.
     // Clauses in crates/superio_core/src/rtc_pl031.rt: returns.
     pub fn state(&self) -> RtcState {
         RtcState {

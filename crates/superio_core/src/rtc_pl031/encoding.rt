@@ -51,7 +51,8 @@ impl RtcState {
         }
     }
 
-    /// Returns the five fields that `from_five` takes, for a program without alarms, or `None` if an alarm is set.
+    /// Returns the five fields that [`from_five`](Self::from_five) takes, for a program without alarms, or `None` if an
+    /// alarm is set.
     pub fn to_five(&self) -> Option<(u32, i64, u32, u32, u32)>
         ensures fields { IfSome result (λ five. self.now ≡ record {
           lr = five.0;
@@ -95,7 +96,7 @@ impl Eq for Pl031 {
 impl RtcState {
     ghost use Rattle.superio_core.specs.Saved.{clock_encoding};
 
-    /// Saves the state as 33 bytes, which `from_bytes` reads back.
+    /// Saves the state as 33 bytes, which [`from_bytes`](Self::from_bytes) reads back.
     ///
     /// They are a header of eight bytes; `lr`, `mr`, `imsc` and `ris` in four bytes each; `offset` in eight bytes; and
     /// a last byte that is 1 if an alarm is set, and otherwise 0. Numbers are little-endian.

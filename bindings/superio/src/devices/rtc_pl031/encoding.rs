@@ -46,7 +46,8 @@ impl RtcState {
         }
     }
 
-    /// Returns the five fields that `from_five` takes, for a program without alarms, or `None` if an alarm is set.
+    /// Returns the five fields that [`from_five`](Self::from_five) takes, for a program without alarms, or `None` if an
+    /// alarm is set.
     // Clauses in crates/superio_core/src/rtc_pl031/encoding.rt: fields, some.
     pub fn to_five(&self) -> Option<(u32, i64, u32, u32, u32)> {
         if self.armed {
@@ -67,7 +68,7 @@ impl PartialEq for Pl031 {
 impl Eq for Pl031 {}
 
 impl RtcState {
-    /// Saves the state as 33 bytes, which `from_bytes` reads back.
+    /// Saves the state as 33 bytes, which [`from_bytes`](Self::from_bytes) reads back.
     ///
     /// They are a header of eight bytes; `lr`, `mr`, `imsc` and `ris` in four bytes each; `offset` in eight bytes; and
     /// a last byte that is 1 if an alarm is set, and otherwise 0. Numbers are little-endian.
