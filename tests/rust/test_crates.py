@@ -102,6 +102,15 @@ def test_drop_in(tmp_path):
     assert built.returncode == 0, built.stdout
 
 
+def test_a_dropped_result_warns(tmp_path):
+    """The compiler warns in each line that drops a result which leaves work, and in no other."""
+    code = (ROOT / "tests" / "rust" / "dropped.rs").read_text(encoding="utf-8")
+    add_crate(tmp_path, code, f'[dependencies]\nsuperio = {{ path = "{DEVICES}" }}\n')
+    said = Cargo(tmp_path).check("check", "--message-format=short")
+    dropped = [number for number, line in enumerate(code.splitlines(), 1) if re.match(r"    (?!let )", line)]
+    assert [*map(int, re.findall(r"^src/lib\.rs:(\d+):\d+: warning: unused ", said, re.M))] == dropped
+
+
 @pytest.mark.needs("debian-rust", "serde")
 def test_states_through_serde(tmp_path):
     """States go through JSON and bincode, with Debian's crates of these and its Rust."""
