@@ -25,7 +25,7 @@ struct Machine {
 }
 
 impl Machine {
-    /// After each call of the port, reads among them, the line is what the port says.
+    /// Sets the line after a call of the port, and passes on what the call returned.
     fn set_line<T>(&mut self, returned: T) -> T {
         self.line = self.port.interrupt_line(); // a monitor passes it to KVM if it has changed
         returned

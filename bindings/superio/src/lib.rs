@@ -5,9 +5,23 @@
 //!
 //! - Of a console: [`wants`](console::Console::wants), [`refuse`](console::Console::refuse),
 //!   [`reset`](console::Console::reset) and [`suspend`](console::Console::suspend).
-//! - Of a port: [`character_timeout`](Uart::character_timeout). Of registers with a FIFO of your own:
-//!   [`interrupts_due`](serial::Registers::interrupts_due) and [`cancel_thre`](serial::Registers::cancel_thre).
+//! - Of a port: [`character_timeout`](Uart::character_timeout).
 //! - Of a clock: [`interrupt_line`](Pl031::interrupt_line) and [`alarm_due`](Pl031::alarm_due).
+//!
+//! ## A FIFO of your own
+//!
+//! [`serial::Registers`] are the registers of a port around a receive FIFO of yours, which implements [`fifo::RxFifo`].
+//! What is proved holds if each method of your FIFO does what the comments of [`fifo::RxFifo`] say.
+//!
+//! If your interrupt controller refuses the first of two interrupts, later raise as many as
+//! [`interrupts_due`](serial::Registers::interrupts_due) returns. If you want to lose THRE instead, as vm-superio's
+//! `Serial` does, call [`cancel_thre`](serial::Registers::cancel_thre).
+//!
+//! ## Names that you can ignore
+//!
+//! Contracts of the proved source name the cases of [`serial::registers::Condition`],
+//! [`rtc_pl031::ClockRegister`] and [`serial::Sent`], so these are public. The console uses the constants and the free
+//! functions of [`saved`] and [`serial::registers`], so these are public too.
 #![no_std]
 #![forbid(unsafe_code)]
 #![deny(missing_docs)]
