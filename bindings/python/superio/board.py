@@ -111,6 +111,8 @@ class Call(NamedTuple):
 class Board:
     """One device of each kind, with an interrupt line and an output.
 
+    It does not check a command that `parse` did not make.
+
     >>> board = Board()
     >>> board.run(parse(b"sw 00 48")).reply
     'ok'

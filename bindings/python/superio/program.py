@@ -1,5 +1,8 @@
 # SPDX-License-Identifier: Apache-2.0 OR BSD-3-Clause
-"""A script as the program `superio` runs it: docs/SCRIPT.md says what it takes, what it prints, and how a run ends."""
+"""A script as the program `superio` runs it: docs/SCRIPT.md says what it takes, what it prints, and how a run ends.
+
+One thing differs: if standard input is a folder, Python itself ends with status 1.
+"""
 import os
 from typing import NamedTuple
 
