@@ -273,14 +273,14 @@ abbrev pub left_in_runs : (runs : List (List Call)) (c : ConsoleState) → List 
 left_in_runs [] c = []
 left_in_runs (run ∷ later) c = in_each left_at run c ++ left_in_runs later (after_calls run c)
 
--- if a byte is held when a run begins, at least one is read out in it
+-- if a byte is held when a run begins, at least one leaves the FIFO in it, by a read of RBR or by a reset
 abbrev pub EachTakes : (runs : List (List Call)) (c : ConsoleState) → Type 0
 EachTakes [] c = ⊤
 EachTakes (run ∷ later) c =
     (IsTrue (not_empty c.port.in_buffer) → IsTrue (not_empty (in_each left_at run c)))
     × EachTakes later (after_calls run c)
 
--- then the bytes held at first are read out first, in order, at least one in each run, whatever arrives meanwhile
+-- then the bytes held at first leave the FIFO first, in order, at least one in each run, whatever arrives meanwhile
 abbrev pub TakenLaw : Type 0
 TakenLaw = (runs : List (List Call)) (c : ConsoleState) → EachTakes runs c
     → (more : List ℕ) × (left_in_runs runs c ≡ take (length runs) c.port.in_buffer ++ more)
