@@ -30,10 +30,12 @@ IMPORTED = ("Prelude", "Machine", "Definitions", "Code", "Acts", "ShellCode", "C
 KEYWORD = r"(?:Theorem|Definition|Fixpoint|Inductive|CoInductive|Variant|Record)"
 SCHEME = re.compile(r"\w+_(?:ind|sind|rec|rect)")
 SEPARATOR = "I\n     : True\n"  # what `Check I.` prints
-CLAIMS = """The six claims of docs/PROOFS.md, proved again. Below each sentence stands the theorem that says it, as Coq
-    prints it. A name that begins with `rs_` is a function of Rust. `Some` of a result says that the call returns it, so
-    the call does not panic or hang. `valid_Uart` and its like hold of every struct that Rust can make. `inhabited` of a
-    record of facts holds if all these facts hold."""
+CLAIMS = """The six claims of docs/PROOFS.md, proved again. Below each sentence of ours stands the theorem that says it, as
+    Coq prints it. Only the theorem is proved: judge whether the sentence says the same. The theorems end at the line
+    'These are all the theorems of the six claims', and definitions follow. A name that begins with `rs_` is a function
+    of Rust, as our translator reads it. `Some` of a result says that the call returns it, so the call does not panic or
+    hang. We define `valid_Uart` and its like so that they should hold of every struct that Rust can make: judge them
+    below. `inhabited` of a record of facts holds if all these facts hold."""
 JUDGED = """These are all the theorems of the six claims. Below are the definitions that they use, each after the
     definitions that it uses itself. Judge these too. There is no more to read of the claims."""
 OTHERS = """What is proved beside claims.txt, as Coq prints it: the other theorems, by topic; laws that have conditions,
@@ -71,10 +73,11 @@ def topics(folder: Path) -> dict[str, list[str]]:
 
 
 def claims_of(page: str) -> dict[int, str]:
-    """The words of the claims of docs/PROOFS.md, without links: what stands below a claim's heading, above its
-    contracts."""
+    """The words of the claims of docs/PROOFS.md, without links and the signs of lists: what stands below a claim's heading,
+    above its contracts."""
     parts = re.findall(r"^### Claim (\d)\n\n((?:(?!#).*\n)*?)\*\*Contracts?:\*\*", page, re.M)
-    return {int(number): re.sub(r"\[([^]]*)\]\([^)]*\)", r"\1", " ".join(words.split())) for number, words in parts}
+    return {int(number): re.sub(r"\[([^]]*)\]\([^)]*\)", r"\1", " ".join(re.sub(r"^- ", "", words, flags=re.M).split()))
+            for number, words in parts}
 
 
 class Statements:
