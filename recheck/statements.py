@@ -30,9 +30,9 @@ IMPORTED = ("Prelude", "Machine", "Definitions", "Code", "Acts", "ShellCode", "C
 KEYWORD = r"(?:Theorem|Definition|Fixpoint|Inductive|CoInductive|Variant|Record)"
 SCHEME = re.compile(r"\w+_(?:ind|sind|rec|rect)")
 SEPARATOR = "I\n     : True\n"  # what `Check I.` prints
-CLAIMS = """The six claims of docs/PROOFS.md, proved again. Below each sentence of ours stands the theorem that says it, as
-    Coq prints it. Only the theorem is proved: judge whether the sentence says the same. The theorems end at the line
-    'These are all the theorems of the six claims', and definitions follow. A name that begins with `rs_` is a function
+CLAIMS = """The six claims of docs/PROOFS.md, proved again. Below each sentence of ours stands the theorem that says it,
+    as Coq prints it. Only the theorem is proved: judge whether the sentence says the same. The theorems end at the line
+    that begins with 'These are all the theorems', and definitions follow. A name that begins with `rs_` is a function
     of Rust, as our translator reads it. `Some` of a result says that the call returns it, so the call does not panic or
     hang. We define `valid_Uart` and its like so that they should hold of every struct that Rust can make: judge them
     below. `inhabited` of a record of facts holds if all these facts hold."""
