@@ -73,11 +73,22 @@ def topics(folder: Path) -> dict[str, list[str]]:
 
 
 def claims_of(page: str) -> dict[int, str]:
-    """The words of the claims of docs/PROOFS.md, without links and the signs of lists: what stands below a claim's heading,
-    above its contracts."""
+    """The words of the claims of docs/PROOFS.md, without links: what stands below a claim's heading, above its contracts.
+    Each item of a list has a line."""
     parts = re.findall(r"^### Claim (\d)\n\n((?:(?!#).*\n)*?)\*\*Contracts?:\*\*", page, re.M)
-    return {int(number): re.sub(r"\[([^]]*)\]\([^)]*\)", r"\1", " ".join(re.sub(r"^- ", "", words, flags=re.M).split()))
-            for number, words in parts}
+    return {int(number): in_lines(re.sub(r"\[([^]]*)\]\([^)]*\)", r"\1", words)) for number, words in parts}
+
+
+def in_lines(words: str) -> str:
+    """Paragraphs in one line, apart from lists between them."""
+    first, *others = [" ".join(block.split()) for block in re.split(r"\n\n|\n(?=- )", words.strip())]
+    lines = [first]
+    for block in others:
+        if block.startswith("- ") or lines[-1].startswith("- "):
+            lines.append(block)
+        else:
+            lines[-1] += f" {block}"
+    return "\n".join(lines)
 
 
 class Statements:
@@ -224,7 +235,12 @@ def paragraph(text: str) -> str:
 
 
 def heading(title: str) -> str:
-    return textwrap.fill(f"==== {title}", 120, subsequent_indent="     ") + "\n"
+    first, *others = f"==== {title}".split("\n")
+    lines = [textwrap.fill(first, 120, subsequent_indent="     ")]
+    for line in others:
+        within = "       " if line.startswith("- ") else "     "
+        lines.append(textwrap.fill(line, 120, initial_indent="     ", subsequent_indent=within))
+    return "\n".join(lines) + "\n"
 
 
 def differences(kept: dict[str, str], found: dict[str, str]) -> list[str]:

@@ -24,7 +24,13 @@ A new port [fits](THEOREM.md), always.
 A write
 is `kept`.
 
-It has room.
+It has room:
+
+- for a byte
+- for two, if
+  it is new
+
+No more.
 
 **Contracts:** `write: kept`, `write: room`
 
@@ -188,7 +194,8 @@ def test_what_a_reviewer_reads(small):
     """The page's claims come first, in its order and by its words, and then the definitions, each after those that it uses."""
     claims = small[1]["claims.txt"]
     parts = ["==== Claim 1. A new port fits, always.", "A new port fits.\nport_new\n     : exists",
-             "==== Claims 1 and 2. A write is `kept`. It has room.\n", "A write is kept, and no call panics.\nport_write\n",
+             "==== Claims 1 and 2. A write is `kept`. It has room:\n     - for a byte\n     - for two, if it is new\n     No more.\n",
+             "A write is kept, and no call panics.\nport_write\n",
              "These are all the theorems of the six claims", "A port, and how many bytes it holds.\nRecord Port",
              "a FIFO holds as many\nmost = 64", "no more are held than have room\nFits =", "writes ="]
     places = [claims.index(part) for part in parts]
