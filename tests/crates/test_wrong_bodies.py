@@ -88,3 +88,12 @@ def test_likely_bug(name):
 def test_listed():
     """A listed function is there, and has no edit."""
     assert LISTED <= {function for function, is_edited in FUNCTIONS if not is_edited}
+
+
+def test_counts():
+    """The page says how many edits there are, and how many of them change several functions."""
+    edits = sorted((ROOT / "crates").glob("*/must-fail/*.edit"))
+    shared = [edit for edit in edits if len({(path, function_at(path, at)) for path, at in places(edit)}) > 1]
+    text = Document("docs/WRONG-BODIES.md").text
+    assert f"There are {len(edits)} edits." in text, len(edits)
+    assert f"{len(shared)} edits change several functions" in text, len(shared)
