@@ -86,8 +86,8 @@ pub fn gate()
     by_lemmas();
 }
 
-/// Suppose that in each run that begins while a byte is held at least one byte leaves the FIFO, by a read of RBR or by a
-/// reset. Then the bytes held at first leave first, in order, at least one in each run, whatever arrives meanwhile.
+/// Suppose that in each run that begins while a byte is held, at least one byte leaves the FIFO, by a read of RBR or by
+/// a reset. Then the bytes held at first leave first, in order, at least one in each run, whatever arrives meanwhile.
 #[tactic(auto, using(crate::proofs::Lemmas::Taken::taken_law))]
 pub fn taken()
     ensures { TakenLaw }
