@@ -3,26 +3,28 @@
  * superio.h: emulated legacy devices for a virtual machine monitor.
  *
  * A 16550 serial port, a PL031 real-time clock, and an i8042 controller that
- * resets the machine. What a call does to a device is proved, for every
- * argument and whatever its struct holds. README.md names the builds that this
- * covers. The pages and the program that are named here are in the repository.
- * An installed header has them in share/doc/superio, or in that of Debian's
- * package in share/doc/libsuperio-dev. Begin with docs/USING.md.
+ * resets the machine. What each call does to a device is proved, for every
+ * argument and for any contents of the device's struct. README.md names the
+ * builds that this proof covers.
+ *
+ * This header names pages and a program of the repository. `make install` puts
+ * them into share/doc/superio, and Debian's package into
+ * share/doc/libsuperio-dev. Begin with docs/USING.md.
  *
  * A device is a struct of plain fields that you keep. A call takes it by
  * pointer, changes it, and returns what is left for you to do. There are no
  * callbacks and no handles. The library allocates no memory, keeps no state,
- * makes no system calls, and needs no initialisation. Of other libraries it
- * needs at most memcpy, memmove and memset. No call fails, except that a load
+ * makes no system calls, and needs no initialisation. It calls no function of
+ * another library except memcpy, memmove and memset. Only a load can fail: it
  * refuses bytes that are not a saved state.
  *
  * A console
  * ---------
  *
  * A superio_console is a serial port with the monitor's end of its line. It
- * takes input once the guest's driver is ready for it, keeps output until its
- * reader takes it, asks again for interrupts that were refused, and says what
- * your event loop waits for. This is a monitor around it:
+ * takes input once the guest's driver is ready, keeps output until its reader
+ * takes it, asks again for interrupts that were refused, and tells your event
+ * loop what to poll. This is a monitor around it:
  *
  *     superio_console_new(&console, false); // true: the guest polls
  *
@@ -48,7 +50,7 @@
  *         if (wanted.input && (count = read(source, bytes, wanted.input)) > 0)
  *             carry_out(superio_console_receive(&console, bytes, count).work);
  *         else if (wanted.input && count == 0)
- *             source = -1; // its end, which a poll would show for ever
+ *             source = -1; // at its end poll would always return
  *         count = superio_console_output(&console, bytes, sizeof bytes);
  *         if (count > 0 && (count = write(reader, bytes, count)) > 0)
  *             superio_console_consume(&console, count);
@@ -61,83 +63,90 @@
  *         forget_wake();
  *     }
  *
- *     // What `carry_out` does with edges. It returns whether to wake the loop,
- *     // unless the loop itself made the call.
+ *     // `carry_out`, if your interrupt controller takes edges. It returns
+ *     // whether to wake the loop, which ignores the result of its own calls.
  *     for (int i = 0; i < work.interrupts; i++)
  *         if (!raise_interrupt())
  *             return work.wakes | superio_console_refuse(&console).wakes;
  *     return work.wakes;
  *
- *     // What it does with levels, if your interrupt controller takes these.
+ *     // `carry_out`, if your interrupt controller takes levels.
  *     if (work.is_up != was_up)
  *         set_line(work.is_up);
  *     was_up = work.is_up;
  *     return work.wakes;
  *
- * A line that takes levels is down at first: superio_console_new returns no
- * work. Every other call that may change the level returns its work, except
- * superio_console_load: make a turn after that. At any moment the level is
+ * The line of a new console is down, so superio_console_new returns no work. A
+ * load may change the level, but returns no work: make a turn after it. Every
+ * other call that may change the level returns work. At any moment the level is
  * superio_serial_interrupt_line(&console.port).
  *
  * With such a loop no byte waits for ever, neither one that the console has
- * accepted nor one that the guest has to send, for a driver that meets the
- * conditions of the law each_byte_is_through in docs/THEOREM.md, as Linux's and
- * Xen's do. examples/c/monitor.c is a whole program.
+ * accepted nor one that the guest has to send. This holds for each driver that
+ * meets the conditions of the law each_byte_is_through in docs/THEOREM.md. The
+ * drivers of Linux and Xen meet them. examples/c/monitor.c is a whole program.
  *
- * If you need the port alone, without output that waits or a gate for input,
- * take a superio_serial. docs/PORT.md has all that you then do yourself.
+ * If you want the port alone, without a queue of output and a gate for input,
+ * take a superio_serial. docs/PORT.md says what you then do yourself.
  *
  * Rules
  * -----
  *
- * - A device pointer is not NULL. Set its struct first, by the device's `new`,
- *   by a load or by a copy. Only a load, and the `new` of a console, accept a
- *   struct that is not set. If a load fails, it leaves the struct as it was.
+ * - Never pass NULL as a device. Set its struct before any other call, by the
+ *   device's `new`, by a load or by a copy. Only a load and superio_console_new
+ *   accept a struct that is not set. A load that fails leaves the struct as it
+ *   was.
  * - Any bytes are a valid device. Whatever the struct holds, no call reads or
- *   writes outside it and the bytes that are passed.
+ *   writes outside the struct and the bytes that you pass.
  * - The library takes no locks. Calls on one device must not overlap in time:
  *   if your threads share a device, take a lock of your own. Calls on
  *   different devices may overlap, and so may calls that take the same device
  *   by a pointer to const.
  * - A copy of the struct is a copy of the device, for use in the same program.
- *   To write a device to a file or send it to another machine, save it. A
- *   saved device has a version, is the same on every machine, and holds no
- *   byte that the guest has read, nor output that its reader has taken. A copy
+ *   To write a device to a file or send it to another machine, save it. A saved
+ *   device has a version and is the same on every machine. It holds no byte
+ *   that the guest has read, and no output that its reader has taken. A copy
  *   may hold such bytes.
  *
  * Around the calls
  * ----------------
  *
- * Lock. Hold a port's lock over each call and what it leaves to you, in the
- * guest's accesses and in turns of the event loop. Otherwise two changes of the
- * interrupt line may reach your interrupt controller in the wrong order.
+ * Lock. Hold a port's lock while you make a call and carry out what it leaves
+ * to you, in the guest's accesses and in turns of the event loop. Otherwise two
+ * changes of the interrupt line may reach your interrupt controller in the
+ * wrong order.
  *
- * Accesses. A serial port takes one byte: split a wider access into bytes, the
- * lowest port first. But a driver such as 8250_dw makes accesses of 32 bits at
- * a stride of 4, as the device tree says by `reg-io-width` and `reg-shift`:
- * each of these is one register, not four. Pass its lowest byte, and fill a
- * read up with zeros. The clock takes four bytes at a multiple of four: answer
- * a narrower read from the four bytes around it, and a wider one with ones, and
- * ignore such writes. No driver that we know makes a wider access.
+ * Accesses. A serial port takes one byte at a time: split a wider access into
+ * bytes, the lowest port first. There is one exception. A driver such as
+ * 8250_dw makes accesses of 32 bits at a stride of 4, as the device tree says
+ * by `reg-io-width` and `reg-shift`. Each of these is one register, not four:
+ * pass its lowest byte, and fill a read up with zeros.
  *
- * Edges or levels. Your interrupt controller decides: the PIC of a PC, and the
- * inputs of an I/O APIC for ISA interrupts, take edges. A GIC, unless the
- * device tree says otherwise, the inputs of an I/O APIC for PCI, a PLIC, and
- * the LPC controller of a POWER machine take levels. If these get pulses, they
- * may miss some: a guest at a GIC never got its input. Call your controller
- * only when a level changes, since some take each call for an interrupt. After
- * your controller is reset or restored, call it once with the levels of the
- * port and of the clock, changed or not.
+ * The clock takes four bytes at a multiple of four. Answer a narrower read from
+ * the four bytes around it, and a wider one with ones. Ignore narrower and
+ * wider writes. No driver that we know makes a wider access.
+ *
+ * Edges or levels. Your interrupt controller decides. The PIC of a PC takes
+ * edges, and so do the inputs of an I/O APIC for ISA interrupts. These take
+ * levels: the inputs of an I/O APIC for PCI, a PLIC, the LPC controller of a
+ * POWER machine, and a GIC unless the device tree says otherwise. If a
+ * controller that takes levels gets pulses, it may miss some: a guest at a GIC
+ * never got its input. Call your controller only when a level changes, since
+ * some take each call for an interrupt. After your controller is reset or
+ * restored, call it once with the levels of the port and of the clock, even if
+ * they did not change.
  *
  * Output. Never wait for its reader, neither in the event loop nor under the
  * lock that input needs. Otherwise two monitors that are connected to each
- * other may stand still for ever, each in a send that waits until the other
- * one reads. No guest waits by itself until there is room, since LSR always
- * shows an empty transmitter. So when superio_console_is_full says so after a
- * guest's write, either let the console drop what comes next, and count it, or
- * hold the guest for a limited time: carry out the work of the write, release
- * the lock, and go on once the event loop has made room. After that time drop
- * bytes, until the reader takes some.
+ * other may stand still for ever, each in a send that waits until the other one
+ * reads. No guest waits until there is room, since LSR always shows an empty
+ * transmitter. So if superio_console_is_full is true after a guest's write, do
+ * one of two things:
+ *
+ * - Let the console drop what comes next. It counts the bytes.
+ * - Hold the guest for a limited time: carry out the work of the write, release
+ *   the lock, and go on once the event loop has made room. After that time let
+ *   the console drop bytes until the reader takes some.
  *
  * Suspend. A guest that is suspended to memory is reset when it wakes. Bytes
  * that go into its port while it sleeps are lost then. Call
@@ -148,20 +157,20 @@
  * with its time, alarm, mask and status: a guest expects its clock to go on
  * until the power is off. Its driver may set the time back by a write at 0x00C,
  * as superio_rtc_write explains. The reset controller has no state. A kexec
- * resets nothing, so the monitor does not learn of it: input that goes in
- * between it and the new kernel's driver is lost.
+ * resets nothing, so the monitor does not learn of it. Input that goes in after
+ * a kexec, before the new kernel's driver is ready, is lost.
  *
- * A snapshot. Stop the guest, and let its accesses end. Turns may go on while
- * it stands still, and input may go in. Once the devices are saved, the old
- * monitor neither reads input nor writes output, or the two end up in both
- * monitors or in none. For a clock, save `now` too if it is not the host's
- * time. Restore your interrupt controller first, since its state would
- * overwrite what you ask for, and then the devices, as superio_console_load
- * says.
+ * A snapshot. Stop the guest, and let its accesses end. While it stands still,
+ * turns may go on, and input may go in. Once the devices are saved, the old
+ * monitor must not read input or write output, or bytes end up in both monitors
+ * or in none. For a clock, save `now` too if it is not the host's time. To
+ * restore, begin with your interrupt controller, since its state would
+ * overwrite the interrupts that you raise. Then restore the devices, as
+ * superio_console_load says.
  *
- * Break. The port has none. A guest that sets bit 0x40 of LCR, for a break,
- * sends none by it, and no call gives it one: ignore a break of your terminal,
- * and do not take it for a zero.
+ * Break. The port has none. A guest that sets bit 0x40 of LCR sends no break,
+ * and no call passes one to the guest. Ignore a break of your terminal, and do
+ * not take it for a zero.
  *
  * What the object code of prebuilt lacks
  * --------------------------------------
@@ -171,8 +180,8 @@
  *   indirect branch tracking;
  * - hidden symbols: a shared library that links the static one exports its
  *   functions too, unless it is linked with -Wl,--exclude-libs,ALL;
- * - instrumentation: a sanitizer sees the caller's accesses to a struct, and of
- *   the library's only those in memcpy, memmove and memset.
+ * - instrumentation: a sanitizer sees the caller's accesses to a struct, but of
+ *   the library's accesses only those in memcpy, memmove and memset.
  */
 #ifndef SUPERIO_H
 #define SUPERIO_H
@@ -205,8 +214,8 @@
 #define SUPERIO_NONNULL
 #endif
 
-/* How an argument's memory is used: it is set if it is read, and it is as
- * large as a further argument says. */
+/* How a call uses the memory of an argument. What it reads has to be set, and
+ * the memory has to be as large as a further argument says. */
 #if SUPERIO_HAS_ATTRIBUTE(access)
 #define SUPERIO_ACCESS(...) __attribute__((access(__VA_ARGS__)))
 #else
@@ -248,14 +257,14 @@ extern "C" {
 /*
  * The binary interface that this header describes. Its number changes whenever
  * a struct or the meaning of a call changes. A program must not call a library
- * with another number, so compare them once, first of all:
+ * with another number, so compare the numbers once, before any other call:
  *
  *     if (!SUPERIO_ABI_MATCHES())
  *         abort();
  *
- * A struct does not hold the number: if you keep copies of structs outside the
- * program, store it with them. A saved device has its own version, which a
- * load checks.
+ * A struct does not hold the number. If you keep copies of structs outside the
+ * program, store the number with them. A saved device has its own version,
+ * which a load checks.
  */
 #define SUPERIO_ABI 5
 #define SUPERIO_ABI_MATCHES() (superio_abi() == SUPERIO_ABI)
@@ -279,9 +288,9 @@ uint32_t superio_abi(void);
  * offset 2 has no effect. The registers are at offsets 0 to 7 from the port's
  * base. Any other offset reads as 0, and a write there has no effect.
  *
- * IIR has a bit for each condition, so 0xC6 means RDA and THRE. On a 16550 it
- * means an error of the line. One read of IIR ends both conditions. A driver
- * that compares IIR with one value may miss THRE.
+ * IIR has a bit for each condition, so 0xC6 means that RDA and THRE are
+ * pending. On a 16550, 0xC6 means an error of the line. One read of IIR ends
+ * both conditions. A driver that compares IIR with one value may miss THRE.
  *
  * The received bytes form a ring: the oldest is at bytes[head % 64], the
  * others follow it, and bytes[0] follows bytes[63]. At most 64 are held: a
@@ -325,16 +334,17 @@ typedef struct superio_serial_write_effects {
 
 /* What an enqueue did, and leaves to you. */
 typedef struct superio_serial_enqueue_effects {
-    size_t accepted;    /* how many bytes it accepted, first ones first */
-    bool fifo_full;     /* outside loopback, there were bytes and 64 were held:
-                           it took none */
+    size_t accepted;    /* how many bytes it accepted, from the first on */
+    bool fifo_full;     /* bytes came and it accepted none, since 64 were held.
+                           It is false in loopback */
     uint8_t interrupts; /* how often to ask for the interrupt: 0 or 1 times */
 } superio_serial_enqueue_effects;
 
 /*
- * A fresh port: divisor 12, 8 bits a character, OUT2 set, and nothing enabled,
- * pending or held. Make one for each machine, and at each reset of it. If your
- * interrupt controller takes levels, set the line: it is down now.
+ * Returns a fresh port: divisor 12, 8 bits a character, OUT2 set, and nothing
+ * enabled, pending or held. Make one for each machine, and another one at each
+ * reset of the machine. If your interrupt controller takes levels, set the
+ * line: it is down now.
  */
 superio_serial superio_serial_new(void) SUPERIO_MUST_USE;
 
@@ -354,27 +364,28 @@ superio_serial_read_effects superio_serial_read(superio_serial *port,
 
 /*
  * The guest writes `value` at `offset`. Afterwards do two things, in this
- * order unless you hold the guest until there is room:
+ * order. If you hold the guest until there is room for its output, do the
+ * second one first.
  *
- * 1. If `sends` is true, send the value, without waiting for its reader. If
- *    you report the events of vm-superio, report `out_byte` if it is sent, and
- *    `tx_lost_byte` if it is lost. The port is the same either way, and the
+ * 1. If `sends` is true, send the value, but do not wait for its reader. If you
+ *    report the events of vm-superio, report `out_byte` if the value is sent,
+ *    and `tx_lost_byte` if it is lost. The port is the same either way, and the
  *    second step follows either way.
  * 2. Ask for the interrupt as often as `interrupts` says. Stop at the first
  *    refusal, such as a write to an eventfd that fails. You need not report a
  *    refusal: the port is the same either way. The condition stays pending, so
- *    no later access asks for it: docs/PORT.md says when you ask again. If your
- *    interrupt controller takes levels, set the line to
+ *    no later access asks for its interrupt: docs/PORT.md says when you ask
+ *    again. If your interrupt controller takes levels, set the line to
  *    superio_serial_interrupt_line instead.
  *
  * `interrupts` is 2 only if a write to IER raises both conditions. If the first
- * of the two is refused, both conditions are pending, and
- * superio_serial_interrupts_due says 2. The Rust crate vm-superio does not
- * raise THRE after that refusal: its guest may read 0xC4 at offset 2 where this
- * one reads 0xC6.
+ * of the two interrupts is refused, both conditions are pending, and
+ * superio_serial_interrupts_due returns 2. The Rust crate vm-superio does not
+ * raise THRE after that refusal: its guest may read 0xC4 at offset 2 where a
+ * guest of this port reads 0xC6.
  *
- * A write to MCR, at offset 4, may end loopback: offer input again that an
- * enqueue did not accept.
+ * A write to MCR, at offset 4, may end loopback. After it, offer again the
+ * input that an enqueue did not accept.
  */
 superio_serial_write_effects superio_serial_write(superio_serial *port,
                                                   uint8_t offset,
@@ -383,13 +394,13 @@ superio_serial_write_effects superio_serial_write(superio_serial *port,
 
 /*
  * Bytes arrive for the guest. The port accepts as many of the `count` bytes as
- * fit, first ones first. In loopback it accepts none, and `fifo_full` is false.
- * Afterwards ask for the interrupt as often as `interrupts` says, or set a line
- * that takes levels. The bytes are kept even if an interrupt is refused: do not
- * offer them again.
+ * fit, from the first on. In loopback it accepts none, and `fifo_full` is
+ * false. Afterwards ask for the interrupt as often as `interrupts` says, or set
+ * a line that takes levels. Even if the interrupt is refused, the port keeps
+ * the bytes that it accepted: do not offer them again.
  *
- * Keep the bytes that were not accepted. docs/PORT.md says when to offer input,
- * the first time and again.
+ * Keep the bytes that were not accepted. docs/PORT.md says when to offer input
+ * for the first time, and when to offer it again.
  *
  * `bytes` points to `count` bytes outside the port. If `count` is 0 it may be
  * NULL.
@@ -401,19 +412,19 @@ superio_serial_enqueue_effects superio_serial_enqueue(superio_serial *port,
     SUPERIO_ACCESS(read_write, 1) SUPERIO_ACCESS(read_only, 2, 3);
 
 /*
- * Raises RDA again for bytes that are left: if bytes are held, IER enables RDA
- * and RDA is not pending, RDA becomes pending. Otherwise nothing happens. DLAB
- * and loopback make no difference. Returns how often to ask for the interrupt:
- * 0 or 1 times. Set a line that takes levels instead.
+ * Raises RDA again for bytes that the guest has left. RDA becomes pending if
+ * bytes are held, IER enables RDA, and RDA is not pending already. Otherwise
+ * nothing happens. DLAB and loopback make no difference. Returns how often to
+ * ask for the interrupt: 0 or 1 times. Set a line that takes levels instead.
  *
  * A guest's read of RBR or IIR ends RDA even if it leaves bytes. Without this
- * call, these wait without an interrupt until another byte arrives, for which a
- * full FIFO has no room, or the guest writes IER. A guest that waits for the
- * interrupt hangs. Make the call
+ * call, these bytes wait without an interrupt until the guest writes IER or
+ * another byte arrives, and a full FIFO has no room for another byte. A guest
+ * that waits for the interrupt hangs. Make the call
  *
- * - after each guest read at offset 2 whose byte has bit 0x01 set, which says
- *   that nothing is pending;
- * - once in each turn of your event loop, which docs/PORT.md explains.
+ * - after each guest read at offset 2 that returns a byte with bit 0x01, which
+ *   says that nothing is pending;
+ * - once in each turn of your event loop, as docs/PORT.md explains.
  */
 uint8_t superio_serial_character_timeout(superio_serial *port)
     SUPERIO_MUST_USE SUPERIO_NONNULL SUPERIO_ACCESS(read_write, 1);
@@ -426,36 +437,36 @@ size_t superio_serial_fifo_capacity(const superio_serial *port)
  * How often to ask for the interrupt now: once for each condition that is both
  * pending and enabled, 0 to 2 times. The port does not change.
  *
- * Ask that often after a load, so that interrupts that the guest has not taken
- * reach it from their new source, and after a refusal, at the moments that
+ * Ask that often in two cases: after a load, so that the guest gets interrupts
+ * that it had not taken before, and after a refusal, at the moments that
  * docs/PORT.md names. The guest may then be interrupted again for a condition
- * that it knows of, also long afterwards.
+ * that it knows already, even long afterwards.
  */
 uint8_t superio_serial_interrupts_due(const superio_serial *port)
     SUPERIO_MUST_USE SUPERIO_NONNULL SUPERIO_ACCESS(read_only, 1);
 
 /*
- * Whether the interrupt line is up: while a condition is pending that IER
- * enables. The port does not change.
+ * Whether the interrupt line is up. It is up while a condition is pending that
+ * IER enables. The port does not change.
  *
- * If your interrupt controller takes levels, set your line to it after every
- * call on the port, reads, `new` and loads among them, and raise no interrupt.
- * The line also goes up when IER enables a condition that is pending already,
- * for which no call asks for an interrupt.
+ * If your interrupt controller takes levels, set your line to this level after
+ * every call on the port, including reads, `new` and loads, and raise no
+ * interrupt. The line also goes up when IER enables a condition that is pending
+ * already, though no call asks for an interrupt then.
  */
 bool superio_serial_interrupt_line(const superio_serial *port)
     SUPERIO_MUST_USE SUPERIO_NONNULL SUPERIO_ACCESS(read_only, 1);
 
 /*
- * Whether the port is coherent: `len` is at most 64, data ready says whether
- * a byte is held, IIR is 1, 2, 4 or 6, and RDA is pending only while a byte is
- * held. The other fields are free. A new port is coherent. Every call but a
- * load keeps a port coherent.
+ * Whether the port is coherent: `len` is at most 64, data ready says whether a
+ * byte is held, IIR is 1, 2, 4 or 6, and RDA is pending only while a byte is
+ * held. The other fields may have any value. A new port is coherent. Every call
+ * except a load keeps a port coherent.
  *
- * If you do not trust the source of a saved port or console, refuse one whose
- * port is not coherent: an interrupt may be missing in it, or come without a
- * byte. Every call is memory-safe and well defined in any case, whatever the
- * struct holds.
+ * If you do not trust the source of a saved port or console, refuse it if the
+ * port is not coherent: an interrupt may be missing, or come without a byte.
+ * Every call is memory-safe and well defined in any case, whatever the struct
+ * holds.
  */
 bool superio_serial_is_coherent(const superio_serial *port)
     SUPERIO_MUST_USE SUPERIO_NONNULL SUPERIO_ACCESS(read_only, 1);
@@ -493,24 +504,25 @@ typedef struct superio_console {
 
 /* What a call leaves for you to do. */
 typedef struct superio_console_work {
-    uint8_t interrupts; /* if your interrupt controller takes edges: raise the
-                           interrupt so many times, 0 to 2. If it is refused,
-                           leave out the others, and call
+    uint8_t interrupts; /* raise the interrupt this many times, 0 to 2, if
+                           your interrupt controller takes edges. If one of
+                           them is refused, raise no more, and call
                            superio_console_refuse */
-    bool is_up;         /* if it takes levels: set the line to this level */
+    bool is_up;         /* set the line to this level, if your interrupt
+                           controller takes levels */
     bool wakes;         /* wake the event loop: superio_console_wants names
                            something that it did not name before the call. It
-                           is not set if only the number of bytes of input
-                           grows, so read until none comes or none is wanted */
+                           is false if only the number of bytes of input grows,
+                           so read until none comes or none is wanted */
 } superio_console_work;
 
-/* What the event loop waits for. */
+/* What the event loop polls, and whether it has to come back soon. */
 typedef struct superio_console_wanted {
-    size_t input; /* input, at most so many bytes, 0 to 64. While it is 0, leave
-                     the input where it comes from */
-    bool output;  /* room at the reader of the output */
-    bool turn;    /* that some milliseconds pass: then make a turn, whatever
-                     else happens */
+    size_t input; /* how many bytes of input may go in, 0 to 64. While it is 0,
+                     do not read from the source of input */
+    bool output;  /* output waits: poll its reader for room */
+    bool turn;    /* make a turn after some milliseconds, even if nothing else
+                     happens */
 } superio_console_wanted;
 
 /* What a guest's read shows, and what it leaves to you. */
@@ -521,54 +533,59 @@ typedef struct superio_console_read_effects {
 
 /* How much input went in, and what that leaves to you. */
 typedef struct superio_console_receive_effects {
-    size_t accepted; /* how many bytes it accepted, first ones first */
+    size_t accepted; /* how many bytes it accepted, from the first on */
     superio_console_work work;
 } superio_console_receive_effects;
 
 /*
- * Makes a console of a fresh port, without output that waits. If your interrupt
- * controller takes levels, set the line: it is down now.
+ * Makes a console with a fresh port and no output. If your interrupt controller
+ * takes levels, set the line: it is down now.
  *
  * A driver tests the port before it uses it, and throws away some or all of
- * what it finds in the FIFO. So input waits until the guest is ready: until a
- * write of IER enables RDA and not THRE. No driver that we ran leaves IER like
- * this in its test of a port. From then on the guest stays ready, whatever it
- * enables, until the machine is reset or suspended.
+ * what it finds in the FIFO. So input waits until the guest is ready, which it
+ * shows by a write of IER that enables RDA and not THRE. No driver that we ran
+ * leaves IER like this while it tests a port. From then on the guest stays
+ * ready, whatever it enables, until the machine is reset or suspended.
  *
- * A guest that polls, such as a boot loader, never gets ready in this way, nor
- * does one that enables RDA only together with THRE. For such a guest
- * `is_polled` is true: input goes in at once, also after a reset.
+ * A guest that polls, such as a boot loader, never gets ready in this way, and
+ * neither does one that enables RDA only together with THRE. For such a guest
+ * pass true as `is_polled`: input then goes in at once, even after a reset.
  */
 void superio_console_new(superio_console *console, bool is_polled)
     SUPERIO_NONNULL SUPERIO_ACCESS(write_only, 1);
 
-/* The guest reads at `offset`, as superio_serial_read describes. */
+/*
+ * The guest reads at `offset`. The console itself does what superio_serial_read
+ * leaves to you after a read.
+ */
 superio_console_read_effects superio_console_read(superio_console *console,
                                                   uint8_t offset)
     SUPERIO_MUST_USE SUPERIO_NONNULL SUPERIO_ACCESS(read_write, 1);
 
 /*
  * The guest writes `value` at `offset`. A byte that it sends waits for its
- * reader, or is dropped and counted if 4096 wait. To drop none, ask
- * superio_console_is_full after each write.
+ * reader, or is dropped and counted if 4096 bytes wait already. To drop none,
+ * ask superio_console_is_full after each write, and hold the guest as the part
+ * about output above says.
  */
 superio_console_work superio_console_write(superio_console *console,
                                            uint8_t offset, uint8_t value)
     SUPERIO_MUST_USE SUPERIO_NONNULL SUPERIO_ACCESS(read_write, 1);
 
 /*
- * What the event loop waits for now. The console does not change. Poll for all
- * that it names, and make a turn when the poll returns. Ask again before you
- * read input, since the guest may have gone on during the poll.
+ * Returns what the event loop has to poll now. The console does not change.
+ * Poll all that the result names, and make a turn when the poll returns. Ask
+ * again before you read input, since the guest may have gone on during the
+ * poll.
  */
 superio_console_wanted superio_console_wants(const superio_console *console)
     SUPERIO_MUST_USE SUPERIO_NONNULL SUPERIO_ACCESS(read_only, 1);
 
 /*
- * Input arrives for the guest. The console accepts as many of the `count` bytes
- * as superio_console_wants says, first ones first. So if you have read no more
- * than that since you asked, it accepts all. Keep the others until more are
- * wanted.
+ * Input arrives for the guest. The console accepts the first of the `count`
+ * bytes, at most as many as superio_console_wants says. If you read no more
+ * than that, and have held the lock since you asked, it accepts all. Otherwise
+ * keep the bytes that it did not accept until more are wanted.
  *
  * `bytes` points to `count` bytes outside the console. If `count` is 0 it may
  * be NULL.
@@ -579,13 +596,13 @@ superio_console_receive_effects superio_console_receive(
     SUPERIO_ACCESS(read_write, 1) SUPERIO_ACCESS(read_only, 2, 3);
 
 /*
- * Copies the oldest output that waits, and returns how many bytes: as many as
- * there is room for, up to the end of the ring. If any wait and `count` is not
- * 0, it is some. The others come after these are consumed. The console does
- * not change.
+ * Copies the oldest output that waits, at most `count` bytes and up to the end
+ * of the ring, and returns how many bytes it copied. The result is 0 only if no
+ * output waits or `count` is 0. Consume these bytes, and the next call copies
+ * the bytes after them. The console does not change.
  *
- * `bytes` has room for `count` bytes, outside the console. Those that are not
- * written do not change. If `count` is 0 it may be NULL.
+ * `bytes` has room for `count` bytes, outside the console. The bytes after the
+ * copied ones do not change. If `count` is 0 it may be NULL.
  */
 size_t superio_console_output(const superio_console *console, uint8_t *bytes,
                               size_t count)
@@ -594,62 +611,63 @@ size_t superio_console_output(const superio_console *console, uint8_t *bytes,
 
 /*
  * The reader has taken the oldest `count` bytes of the output that waits, or
- * all if fewer wait. It leaves nothing to do.
+ * all of it if fewer wait. This leaves no work.
  */
 void superio_console_consume(superio_console *console, size_t count)
     SUPERIO_NONNULL SUPERIO_ACCESS(read_write, 1);
 
-/* Whether 4096 bytes of output wait: the next one that the guest sends is
- * dropped. The console does not change. */
+/* Whether 4096 bytes of output wait, so that the next byte that the guest sends
+ * is dropped. The console does not change. */
 bool superio_console_is_full(const superio_console *console)
     SUPERIO_MUST_USE SUPERIO_NONNULL SUPERIO_ACCESS(read_only, 1);
 
-/* How many bytes of output were dropped, at most 2^64 - 1. The console does not
- * change. */
+/* How many bytes of output were dropped. The count stops at 2^64 - 1. The
+ * console does not change. */
 uint64_t superio_console_dropped(const superio_console *console)
     SUPERIO_MUST_USE SUPERIO_NONNULL SUPERIO_ACCESS(read_only, 1);
 
 /*
  * The event loop makes a turn: its poll has returned, for whatever reason.
- * Bytes that the guest has left interrupt it again, and so does what was
- * refused.
+ * Bytes that the guest has left interrupt it again, and a refused interrupt is
+ * asked for again.
  */
 superio_console_work superio_console_turn(superio_console *console)
     SUPERIO_MUST_USE SUPERIO_NONNULL SUPERIO_ACCESS(read_write, 1);
 
 /*
  * An interrupt that a call asked for was refused, or may be lost. Turns and
- * writes of IER ask again, until one of them asks for something or the guest
- * reads IIR. It asks for nothing itself: `interrupts` is 0.
+ * writes of IER now ask once for each condition that is pending and enabled,
+ * until one of them finds such a condition, the guest reads IIR, or the machine
+ * is reset. This call itself asks for nothing: `interrupts` is 0.
  *
- * A write of IER does not ask for a condition that was pending before it. If
- * you raise edges, and your controller may lose one, such as at a masked input,
- * or the guest's driver never reads IIR, then make this call before each write
- * at offset 1.
+ * Without this call, a write of IER does not ask for a condition that was
+ * pending before the write. So if you raise edges, make this call before each
+ * write at offset 1 in two cases: your controller may lose an edge, such as at
+ * a masked input, or the guest's driver never reads IIR.
  */
 superio_console_work superio_console_refuse(superio_console *console)
     SUPERIO_MUST_USE SUPERIO_NONNULL SUPERIO_ACCESS(read_write, 1);
 
 /*
  * The machine is reset. The port is a fresh one, and the bytes that it held are
- * lost. Output that waits stays, and so does what was dropped. Input waits
- * again until the guest is ready, unless the guest polls. Refused interrupts
- * are forgotten.
+ * lost. Output that waits stays, and so does the count of dropped bytes. Input
+ * waits again until the guest is ready, unless the guest polls. Refused
+ * interrupts are forgotten.
  */
 superio_console_work superio_console_reset(superio_console *console)
     SUPERIO_MUST_USE SUPERIO_NONNULL SUPERIO_ACCESS(read_write, 1);
 
 /*
- * The guest is suspended to memory. Input waits from now on, also if the guest
- * polls: until a reset, or until a write of IER shows that a driver is ready.
- * It leaves nothing to do.
+ * The guest is suspended to memory. Input waits from now on, even if the guest
+ * polls, until a reset or until a write of IER shows that a driver is ready.
+ * This leaves no work.
  */
 void superio_console_suspend(superio_console *console)
     SUPERIO_NONNULL SUPERIO_ACCESS(read_write, 1);
 
 /*
- * Says whether the guest polls, as superio_console_new does at first: a boot
- * loader that polls and a kernel that does not are one guest.
+ * Says whether the guest polls from now on, as superio_console_new says at
+ * first. One guest may do both: its boot loader polls, and its kernel does not.
  */
 superio_console_work superio_console_set_polled(superio_console *console,
                                                 bool is_polled)
@@ -678,16 +696,18 @@ superio_console_work superio_console_set_polled(superio_console *console,
  * The match register is an alarm. A write to it sets the alarm if the value is
  * after guest time, and otherwise clears it. The first access, of any kind, at
  * which guest time has reached the match sets bit 0 of `ris` and clears the
- * alarm. A write of guest time itself sets bit 0 at once.
+ * alarm. A write to the match register sets bit 0 at once if the value is guest
+ * time.
  *
  * No call asks for an interrupt. If the clock has an interrupt line, set it to
  * superio_rtc_interrupt_line after each access and after a restore. Also set a
  * timer for superio_rtc_alarm_due. When the timer goes off, make an access of
  * your own, such as a read at 0x018 (RTCMIS): a guest that sleeps until the
- * interrupt makes no access. Moments are whole seconds: let the timer go off at
- * the moment `now` plus the answer. One that runs for that many seconds is late
- * by up to one, and Linux's driver may clear the alarm meanwhile. If the answer
- * is 0, make that access at once: a timer of Linux that is set to 0 is stopped.
+ * interrupt makes no access. Moments are whole seconds, so let the timer go off
+ * at the moment `now` plus the answer. A timer that runs for that many seconds
+ * is late by up to a second, and Linux's driver may clear the alarm meanwhile.
+ * If the answer is 0, make that access at once, since Linux stops a timer that
+ * is set to 0.
  */
 typedef struct superio_rtc {
     uint32_t lr;    /* RTCLR, the last loaded value, or 0 */
@@ -700,7 +720,7 @@ typedef struct superio_rtc {
 
 /* What a read of the clock did. */
 typedef struct superio_rtc_read_effects {
-    uint32_t value;    /* the number whose bytes are read, lowest first */
+    uint32_t value;    /* what the guest reads, as 4 bytes, lowest first */
     bool invalid_read; /* event: there is nothing to read here; value is 0 */
 } superio_rtc_read_effects;
 
@@ -710,8 +730,8 @@ typedef struct superio_rtc_write_effects {
 } superio_rtc_write_effects;
 
 /*
- * A fresh clock: guest time is the host's, and no alarm is set. Make one for
- * each machine. It goes on over a reset of the machine, as it is.
+ * Returns a fresh clock: guest time is the host's, and no alarm is set. Make
+ * one for each machine. Keep it as it is when the machine is reset.
  */
 superio_rtc superio_rtc_new(void) SUPERIO_MUST_USE;
 
@@ -729,8 +749,8 @@ superio_rtc_read_effects superio_rtc_read(superio_rtc *clock, uint16_t offset,
  * stored, and `invalid_write` is true.
  *
  * A write of 1 at 0x00C (RTCCR) sets guest time to the host's. Linux and U-Boot
- * make it whenever they start, and a PL031 that runs ignores it: to keep a time
- * that the guest set, do not pass on writes at 0x00C.
+ * make this write whenever they start, and a hardware PL031 that runs ignores
+ * it. To keep a time that the guest set, do not pass on writes at 0x00C.
  */
 superio_rtc_write_effects superio_rtc_write(superio_rtc *clock, uint16_t offset,
                                             uint32_t value, uint64_t now)
@@ -759,8 +779,8 @@ uint64_t superio_rtc_alarm_due(const superio_rtc *clock, uint64_t now)
 
 /*
  * The controller's ports on a PC: offsets 0 and 4 of the functions below. Do
- * not give it the ports between them: 0x61 is system control port B, whose bit
- * 0x20 Linux waits for.
+ * not give it the ports between them: 0x61 is system control port B, and Linux
+ * waits until its bit 0x20 is set.
  */
 #define SUPERIO_I8042_DATA_PORT 0x60
 #define SUPERIO_I8042_COMMAND_PORT 0x64
@@ -771,8 +791,9 @@ typedef struct superio_i8042_write_effects {
 } superio_i8042_write_effects;
 
 /*
- * An i8042 keyboard controller that knows one command: 0xFE at offset 4 from
- * its base resets the machine. It has no state, and so no struct.
+ * The guest writes to an i8042 keyboard controller that knows one command:
+ * 0xFE at offset 4 from its base resets the machine. Any other write has no
+ * effect. The controller has no state, so there is no struct.
  */
 superio_i8042_write_effects superio_i8042_write(uint8_t offset, uint8_t value)
     SUPERIO_MUST_USE;
@@ -785,10 +806,10 @@ uint8_t superio_i8042_read(uint8_t offset) SUPERIO_MUST_USE;
 /* ------------------------------------------------------------------------- */
 
 /*
- * A saved device is a string of bytes; docs/SAVED-STATES.md has its encoding.
- * Two devices have the same string only if their registers, offset, alarm, held
- * bytes, output that waits, count of dropped bytes and flags are the same, on
- * any machine. It has no checksum.
+ * A saved device is a string of bytes, and docs/SAVED-STATES.md has its
+ * encoding. The string is the same on every machine. Two devices have the same
+ * string only if their registers, offset, alarm, held bytes, output that waits,
+ * count of dropped bytes and flags are the same. The string has no checksum.
  */
 
 /* The maximum sizes of a saved port and of a saved console, and the size of a
@@ -798,25 +819,26 @@ uint8_t superio_i8042_read(uint8_t offset) SUPERIO_MUST_USE;
 #define SUPERIO_RTC_SAVED_SIZE 33
 
 /*
- * What a load returns: 0, or the first check that the bytes fail, in this
- * order. Of a console its own checks come first, and then those of the port in
- * it. The calls return a uint32_t, since the size of an enum is the compiler's
- * choice.
+ * What a load returns: 0 if all is well, and otherwise the first check of this
+ * list that the bytes fail. For a console, its own checks come first, and then
+ * those of the port in it. The calls return a uint32_t, since the size of an
+ * enum is the compiler's choice.
  */
 enum superio_saved_state_error {
     SUPERIO_LOAD_OK = 0,
-    SUPERIO_LOAD_TOO_SHORT = 1,         /* fewer bytes than a header */
-    SUPERIO_LOAD_NOT_A_SAVED_STATE = 2, /* they begin with another magic */
-    SUPERIO_LOAD_OTHER_DEVICE = 3,      /* the state of another device */
-    SUPERIO_LOAD_UNKNOWN_VERSION = 4,   /* the version, bytes[5], is another */
-    SUPERIO_LOAD_WRONG_LENGTH = 5,      /* the length is not that of the rest,
-                                           or for a port below 9, or for a
-                                           clock not 25, or for a console less
-                                           than its output needs, of which at
-                                           most 4096 bytes wait */
-    SUPERIO_LOAD_TOO_MANY_BYTES = 6,    /* a port that holds more than 64 */
-    SUPERIO_LOAD_INVALID_ARMED = 7,     /* an alarm that is neither 0 nor 1 */
-    SUPERIO_LOAD_INVALID_FLAGS = 8      /* a flag that no console has */
+    SUPERIO_LOAD_TOO_SHORT = 1,         /* there are fewer than 8 bytes */
+    SUPERIO_LOAD_NOT_A_SAVED_STATE = 2, /* they do not begin with the magic */
+    SUPERIO_LOAD_OTHER_DEVICE = 3,      /* they save another kind of device */
+    SUPERIO_LOAD_UNKNOWN_VERSION = 4,   /* bytes[5], the version, is not 1 */
+    SUPERIO_LOAD_WRONG_LENGTH = 5,      /* the length in the header is not the
+                                           number of bytes after it. Or it is
+                                           below 9 for a port, not 25 for a
+                                           clock, or too small for a console's
+                                           output, or more than 4096 bytes of
+                                           output wait */
+    SUPERIO_LOAD_TOO_MANY_BYTES = 6,    /* the port holds more than 64 bytes */
+    SUPERIO_LOAD_INVALID_ARMED = 7,     /* `armed` is neither 0 nor 1 */
+    SUPERIO_LOAD_INVALID_FLAGS = 8      /* a flag is set that is not known */
 };
 
 /*
@@ -832,12 +854,14 @@ size_t superio_serial_save(
 /*
  * Makes a port from `count` saved bytes. Any bytes are allowed. The port
  * changes only if the result is SUPERIO_LOAD_OK. Then ask for the interrupt as
- * often as superio_serial_interrupts_due says, and again as docs/PORT.md says,
- * or set a line that takes levels.
+ * often as superio_serial_interrupts_due says, and later ask again as
+ * docs/PORT.md says, or set a line that takes levels.
  *
  * A loaded port holds at most 64 bytes. It need not be coherent: ask
- * superio_serial_is_coherent. `bytes` points to `count` bytes outside the port.
- * If `count` is 0 it may be NULL.
+ * superio_serial_is_coherent.
+ *
+ * `bytes` points to `count` bytes outside the port. If `count` is 0 it may be
+ * NULL.
  */
 uint32_t superio_serial_load(superio_serial *port, const uint8_t *bytes,
                              size_t count)
@@ -856,11 +880,16 @@ size_t superio_console_save(
     SUPERIO_ACCESS(write_only, 2);
 
 /*
- * Makes a console from `count` saved bytes, as superio_serial_load makes a
- * port. Then, if your interrupt controller was not restored with the console,
- * call superio_console_refuse, so that what it was told before is asked for
- * again. In any case then make a turn, by superio_console_turn, and carry out
- * its work. superio_serial_is_coherent takes `&console->port`.
+ * Makes a console from `count` saved bytes, outside the console. Any bytes are
+ * allowed. The console changes only if the result is SUPERIO_LOAD_OK. Then do
+ * two things:
+ *
+ * 1. If your interrupt controller was not restored with the console, call
+ *    superio_console_refuse, since an earlier interrupt may be lost.
+ * 2. Always make a turn, by superio_console_turn, and carry out its work.
+ *
+ * The port need not be coherent: ask superio_serial_is_coherent of
+ * `&console->port`. If `count` is 0, `bytes` may be NULL.
  */
 uint32_t superio_console_load(superio_console *console, const uint8_t *bytes,
                               size_t count)
@@ -876,8 +905,10 @@ void superio_rtc_save(const superio_rtc *clock,
     SUPERIO_NONNULL SUPERIO_ACCESS(read_only, 1) SUPERIO_ACCESS(write_only, 2);
 
 /*
- * Makes a clock from `count` saved bytes, as superio_serial_load makes a port.
- * Then set the clock's line and timer, if it has them.
+ * Makes a clock from `count` saved bytes, outside the clock. Any bytes are
+ * allowed. The clock changes only if the result is SUPERIO_LOAD_OK. Then set
+ * the clock's line and timer, if it has them. If `count` is 0, `bytes` may be
+ * NULL.
  */
 uint32_t superio_rtc_load(superio_rtc *clock, const uint8_t *bytes,
                           size_t count)
@@ -886,7 +917,7 @@ uint32_t superio_rtc_load(superio_rtc *clock, const uint8_t *bytes,
 
 /* The structs have the sizes that the library gives them. */
 typedef char superio_serial_has_75_bytes[sizeof(superio_serial) == 75 ? 1 : -1];
-/* It has 4 bytes less if a uint64_t is aligned to 4, as on i386. */
+/* A console has 4 bytes less if a uint64_t is aligned to 4, as on i386. */
 typedef char superio_console_has_4192_bytes
     [sizeof(superio_console) == 4192 || sizeof(superio_console) == 4188 ? 1
                                                                        : -1];
