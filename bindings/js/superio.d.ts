@@ -28,23 +28,23 @@ export type ClockOffset =
 /** What a call of a console leaves to you. */
 export interface Work {
   /**
-   * If your interrupt controller takes edges: raise the interrupt so many times, 0 to 2. If one of them is refused,
-   * leave out the others and call `refuse`.
+   * Raise the interrupt this many times, 0 to 2, if your interrupt controller takes edges. If one of them is refused,
+   * raise no more, and call `refuse`.
    */
   interrupts: number;
-  /** If your interrupt controller takes levels: set the line to this level. */
+  /** Set the line to this level, if your interrupt controller takes levels. */
   isUp: boolean;
   /** Wake your event loop: `wants` names something that it did not name before. */
   wakes: boolean;
 }
 
-/** What your event loop waits for. */
+/** What your event loop polls, and whether it has to come back soon. */
 export interface Wants {
-  /** Input, at most so many bytes, 0 to 64. While it is 0, do not read from the source of input. */
+  /** How many bytes of input may go in, 0 to 64. While it is 0, do not read from the source of input. */
   input: number;
   /** Output waits: the loop waits until its reader has room. */
   output: boolean;
-  /** The loop comes back after some milliseconds at most, and then calls `turn`, whatever happened. */
+  /** The loop comes back after some milliseconds at most, and then calls `turn`, even if nothing else happened. */
   turn: boolean;
 }
 
@@ -181,7 +181,7 @@ export class Console {
    * took to `consume`.
    */
   output(): Uint8Array;
-  /** The reader has taken the first bytes of the output that waits: so many, or all if fewer wait. */
+  /** The reader has taken the first `count` bytes of the output that waits, or all of it if fewer wait. */
   consume(count: number): void;
   /**
    * Whether 4,096 bytes of output wait, so that the next byte that the guest sends is dropped. To lose none, hold the
@@ -192,12 +192,12 @@ export class Console {
   dropped(): bigint;
   /**
    * Your event loop makes a turn: it came back, for whatever reason. Bytes that the guest has left interrupt it again,
-   * and so does what was refused.
+   * and a refused interrupt is asked for again.
    */
   turn(): Work;
   /**
-   * An interrupt that a call asked for was refused, or may be lost. Turns and writes of IER ask again for what is
-   * pending and enabled, until one of them finds something.
+   * An interrupt that a call asked for was refused, or may be lost. Turns and writes of IER then ask once for each
+   * condition that is pending and enabled, until one of them finds such a condition or the guest reads IIR.
    */
   refuse(): Work;
   /**
@@ -206,11 +206,11 @@ export class Console {
    */
   reset(): Work;
   /**
-   * The guest's machine sleeps in memory. It is reset when it wakes, so input waits from now on, also if the guest
-   * polls: until a reset, or until a write of IER shows that a driver is ready. It leaves no work.
+   * The guest's machine sleeps in memory. It is reset when it wakes, so input waits from now on, even if the guest
+   * polls, until a reset or until a write of IER shows that a driver is ready. This leaves no work.
    */
   suspend(): void;
-  /** Says from now on whether the guest polls: a boot loader that does and a kernel that does not are one guest. */
+  /** Says whether the guest polls from now on. One guest may do both: its loader polls, and its kernel does not. */
   setPolled(isPolled: boolean): Work;
   /** The console as a saved state, which `fromBytes` and the other languages read on any machine. */
   toBytes(): Uint8Array;
@@ -249,7 +249,7 @@ export class Serial {
    * without an interrupt.
    */
   characterTimeout(): number;
-  /** How many bytes there is room for: 64 less those that are held. */
+  /** How many bytes fit: 64 less those that are held. */
   fifoCapacity(): number;
   /**
    * How often to ask for the interrupt now: once for each condition that is pending and enabled, 0 to 2 times. What IER
@@ -257,8 +257,8 @@ export class Serial {
    */
   interruptsDue(): number;
   /**
-   * Whether the interrupt line is up: while a condition is pending that IER enables. For an interrupt controller that
-   * takes levels, set your line to it after every call, reads among them.
+   * Whether the interrupt line is up. It is up while a condition is pending that IER enables. If your interrupt
+   * controller takes levels, set your line to this level after every call, including reads.
    */
   interruptLine(): boolean;
   /**

@@ -1,7 +1,7 @@
 /* SPDX-License-Identifier: Apache-2.0 OR BSD-3-Clause */
 /*
- * A machine in small: a bus with a console, a clock and the reset controller; an alarm, a reset and a migration. The
- * "guest" is the calls in main, and time is what main says. monitor.c has an event loop and threads.
+ * A small machine: a bus with a console, a clock and the reset controller, and an alarm, a reset and a migration. The
+ * calls in main stand for the guest, and main also sets the time. monitor.c has an event loop and threads.
  */
 #include <ctype.h>
 #include <stdio.h>
@@ -35,7 +35,7 @@ static bool raise_interrupt(struct machine *machine) {
     return !machine->line_is_down;
 }
 
-/* Does what a call of the console left to do. A monitor calls KVM_IRQ_LINE with a level, if it has changed. Returns
+/* Does what a call of the console left to do. If the level has changed, a monitor calls KVM_IRQ_LINE with it. Returns
  * whether to wake an event loop that has a thread of its own. */
 static bool carry_out(struct machine *machine, superio_console_work work) {
     if (machine->has_level) {
@@ -53,7 +53,7 @@ static void print_output(uint8_t byte) {
     printf(isprint(byte) && byte != '\\' ? "output: %c\n" : "output: \\x%02x\n", byte);
 }
 
-/* A turn of an event loop: for so many bytes of input, or none, and for all output. Returns how many went in. */
+/* A turn of an event loop, with `count` bytes of input and all output. Returns how many bytes of input went in. */
 static size_t turn(struct machine *machine, const uint8_t *input, size_t count) {
     uint8_t bytes[SUPERIO_CONSOLE_OUTPUT_SIZE];
     superio_console_receive_effects done = superio_console_receive(&machine->console, input, count);
@@ -67,8 +67,8 @@ static size_t turn(struct machine *machine, const uint8_t *input, size_t count) 
     return done.accepted;
 }
 
-/* What follows each access of the clock: its line is a level, and a timer has to go off when the alarm is due. If that
- * is in 0 s, call alarm_is_due at once: a timer of Linux that is set to 0 stops. */
+/* Follows each access of the clock, and prints what a monitor sets: the line, which is a level, and a timer that goes
+ * off when the alarm is due. If that is in 0 s, call alarm_is_due at once: a timer of Linux that is set to 0 stops. */
 static void follow_clock(const struct machine *machine) {
     uint64_t due = superio_rtc_alarm_due(&machine->clock, machine->now);
     printf("clock: line %s, ", superio_rtc_interrupt_line(&machine->clock) ? "up" : "down");
@@ -99,7 +99,7 @@ static void port_write(struct machine *machine, uint16_t port, uint8_t value) {
         reset(machine);
 }
 
-/* The guest's `in`. No device answers at other ports, 0x61 among them. */
+/* The guest's `in`. No device answers at other ports, such as 0x61. */
 static uint8_t port_read(struct machine *machine, uint16_t port) {
     if (port == SUPERIO_I8042_DATA_PORT || port == SUPERIO_I8042_COMMAND_PORT)
         return superio_i8042_read((uint8_t)(port - SUPERIO_I8042_DATA_PORT));
@@ -135,14 +135,14 @@ static struct machine migrate(const struct machine *machine) {
     check(superio_console_load(&other.console, console, count) == SUPERIO_LOAD_OK, "loading the console");
     check(superio_rtc_load(&other.clock, clock, sizeof clock) == SUPERIO_LOAD_OK, "loading the clock");
     printf("moved a clock, and a console of %zu bytes\n", count);
-    carry_out(&other, superio_console_refuse(&other.console)); /* for what the old line was told */
+    carry_out(&other, superio_console_refuse(&other.console)); /* the new line has not got the old one's interrupts */
     carry_out(&other, superio_console_turn(&other.console));
     follow_clock(&other);
     return other;
 }
 
-/* The guest's interrupt handler runs while it is interrupted. As Linux's after 256 bytes, it looks at IIR again after
- * 40. Returns how many bytes it has received. */
+/* The guest's interrupt handler runs while the guest is interrupted. It looks at IIR again after 40 bytes, as Linux's
+ * handler does after 256. Returns how many bytes it has received. */
 static int run_handler(struct machine *machine) {
     int received = 0;
     while (machine->is_interrupted) {

@@ -22,7 +22,7 @@ struct machine {
     bool echoes;
 };
 
-/* Does what a call left to do. Returns whether to wake the event loop, unless the call was its own. */
+/* Does what a call left to do. Returns whether to wake the event loop, which ignores this after its own calls. */
 static bool carry_out(struct machine *machine, superio_console_work work) {
     for (int i = 0; i < work.interrupts; i++)
         if (write(machine->interrupts[1], "", 1) != 1)
@@ -64,7 +64,7 @@ static void *run_loop(void *argument) {
         wanted = superio_console_wants(&machine->console);
         pthread_mutex_unlock(&machine->lock);
         files[0].events = (short)((wanted.input > 0 ? POLLIN : 0) | (wanted.output ? POLLOUT : 0));
-        files[0].fd = files[0].events ? machine->line : -1; /* whose end would end each poll */
+        files[0].fd = files[0].events ? machine->line : -1; /* at its end, each poll would return at once */
         if (poll(files, 2, wanted.turn ? 5 : -1) > 0 && files[1].revents && read(machine->wakes[0], bytes, 64) < 0)
             warn("the event loop");
     }

@@ -1,6 +1,7 @@
 /* SPDX-License-Identifier: Apache-2.0 OR BSD-3-Clause */
 /*
- * 1,000 bytes of input for a guest. The FIFO holds 64, so the rest waits, and is offered again once a read empties it.
+ * 1,000 bytes of input for a guest. The FIFO holds 64, so the rest waits, and is offered again once a read has emptied
+ * the FIFO.
  */
 #include <stdio.h>
 #include <superio.h>

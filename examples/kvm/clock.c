@@ -1,6 +1,6 @@
 /* SPDX-License-Identifier: Apache-2.0 OR BSD-3-Clause */
-/* The clock, its interrupt line and its alarm. Its moments go on with CLOCK_BOOTTIME, which never goes back, from the
- * time of day at the start. */
+/* The clock, its interrupt line and its alarm. Its moments begin with the time of day at the start, and go on with
+ * CLOCK_BOOTTIME, which never goes back. */
 #include "monitor.h"
 
 #include <time.h>
@@ -36,7 +36,7 @@ static void follow(uint64_t now) {
     was_up = is_up;
 }
 
-/* The guest's access to memory that it has not. The clock takes four bytes at any offset. A narrower read shows a part
+/* The guest accesses an address without memory. The clock takes four bytes at any offset. A narrower read shows a part
  * of the four around it, as EDK II expects, or ones if it crosses two words. A narrower write has no effect. */
 void clock_access(uint64_t address, bool is_write, uint8_t *bytes, unsigned count) {
     uint16_t offset = (uint16_t)(address - CLOCK_BASE), within = count == 4 ? 0 : offset % 4;
@@ -69,7 +69,7 @@ void clock_reset(void) {
     follow(moment());
 }
 
-/* Returns what is readable when the alarm is due. */
+/* Returns a file descriptor that is readable when the alarm is due. */
 int clock_open(void) {
     rtc = superio_rtc_new();
     ahead = seconds(CLOCK_REALTIME) - seconds(CLOCK_BOOTTIME);

@@ -20,7 +20,7 @@ static void add_memory(uint32_t slot, uint64_t start, uint64_t end) {
 }
 
 /* The processor is the host's, as far as KVM has it, with the number 0. A bit says that this is a virtual machine:
- * without it Linux does not ask for KVM's clock, and has to measure the processor's by a timer of late ticks. */
+ * without it Linux does not ask for KVM's clock, and has to measure the processor's clock by a timer of late ticks. */
 static void set_cpuid(int kvm) {
     static struct {
         struct kvm_cpuid2 head;
@@ -87,7 +87,7 @@ static void serve_port(uint16_t port, bool is_write, uint8_t *byte) {
         *byte = is_serial ? serial_read(offset) : is_controller ? superio_i8042_read(offset) : 0xFF;
 }
 
-/* Serves an access of the guest, of as many bytes as there are, or ends a machine that cannot go on. */
+/* Serves an access of the guest, however many bytes it has, or ends a machine that cannot go on. */
 static void serve(void) {
     switch (run->exit_reason) {
     case KVM_EXIT_IO:

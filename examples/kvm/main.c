@@ -33,7 +33,7 @@ int must(int result, const char *what) {
     return result;
 }
 
-/* At each exit, and in the handler of signals. Without a terminal it has no effect. */
+/* Runs at each exit, and in the handler of signals. Without a terminal it has no effect. */
 static void restore_terminal(void) {
     tcsetattr(STDIN_FILENO, TCSANOW, &before);
 }
@@ -101,8 +101,9 @@ bool monitor_hold(void) {
     return !is_stuck && !end_reason;
 }
 
-/* Writes the oldest byte of the output once the terminal has room, for which it waits so many milliseconds: others use
- * the terminal too, so it is not set not to block. What it refuses for good is dropped. Returns whether it goes on. */
+/* Writes the oldest byte of the output once the terminal has room, and waits for room for `patience` milliseconds at
+ * most. Since others use the terminal too, it is not set to non-blocking. A byte that it refuses for good is dropped.
+ * Returns whether output goes on. */
 static bool write_output(int patience) {
     struct pollfd output = {.fd = STDOUT_FILENO, .events = POLLOUT};
     uint8_t byte;
@@ -140,8 +141,8 @@ static _Noreturn void finish(void) {
     _exit(end_status);
 }
 
-/* What was typed, and the console has not accepted. It is read before the guest is ready, so that Ctrl-A x leaves one
- * that never is. */
+/* What was typed and the console has not accepted. It is read even before the guest is ready, so that Ctrl-A x leaves a
+ * guest that never is. */
 static uint8_t typed[4096];
 static size_t kept;
 

@@ -4,7 +4,7 @@
  *
  * Two threads run: the vCPU's makes the guest's accesses, and the main one serves the user and the alarm. Each holds
  * `lock`, except while it waits: in KVM_RUN, in poll, in a read or a write of the terminal, or until the output has
- * room. The lock guards whatever may change, here and in each file, but for what only the main thread uses.
+ * room. The lock guards all that may change, here and in each file, except what only the main thread uses.
  */
 #ifndef MONITOR_H
 #define MONITOR_H

@@ -4,7 +4,7 @@
 
 static superio_console console;
 
-/* Does what a call of the console left to do. Returns whether to wake the event loop, unless that made the call. */
+/* Does what a call of the console left to do. Returns whether to wake the event loop, unless the loop made the call. */
 static bool carry_out(superio_console_work work) {
     for (int i = 0; i < work.interrupts; i++)
         if (!machine_interrupt())
@@ -33,7 +33,7 @@ size_t serial_receive(const uint8_t *bytes, size_t count) {
     return done.accepted;
 }
 
-/* Copies the oldest output, at most so many bytes, and returns how many. */
+/* Copies the oldest output, at most `count` bytes, and returns how many it copied. */
 size_t serial_output(uint8_t *bytes, size_t count) {
     return superio_console_output(&console, bytes, count);
 }
@@ -46,7 +46,7 @@ uint64_t serial_dropped(void) {
     return superio_console_dropped(&console);
 }
 
-/* In each turn of the event loop. Returns what that waits for. */
+/* Follows in each turn of the event loop. Returns what the loop has to poll. */
 superio_console_wanted serial_turn(void) {
     carry_out(superio_console_turn(&console));
     return superio_console_wants(&console);

@@ -33,7 +33,7 @@ class Monitor:
         self.console = Console()
         self.lock = threading.Lock()
         self.room = threading.Condition(self.lock)   # for a guest that is held
-        self.holds = True                            # whether a guest is held that sends more than is taken
+        self.holds = True                            # whether to hold a guest that sends more than is taken
         self.interrupt = threading.Event()           # the guest's interrupt line, which takes edges
         self.is_off = False
         self.woken, self.waker = os.pipe()
@@ -46,7 +46,7 @@ class Monitor:
 
     def carry_out(self, work: Work) -> None:
         for _ in range(work.interrupts):
-            self.interrupt.set()   # if this could be refused, `self.carry_out(self.console.refuse())` would say so
+            self.interrupt.set()   # if this may be refused, call `self.carry_out(self.console.refuse())` then
         if work.wakes:
             self.wake()
 
@@ -64,7 +64,7 @@ class Monitor:
     def write(self, offset, value) -> None:
         with self.lock:
             self.carry_out(self.console.write(offset, value))
-            if self.holds:   # and without the lock
+            if self.holds:   # `wait_for` releases the lock meanwhile
                 self.holds = self.room.wait_for(lambda: not self.console.is_full(), HELD_FOR)
 
     def switch_off(self) -> None:

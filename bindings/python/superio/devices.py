@@ -49,8 +49,8 @@ class WriteEffects(NamedTuple):
 class EnqueueEffects(NamedTuple):
     """What an enqueue did, and leaves to you.
 
-    `accepted` is how many of the bytes went in, from the first on. `fifo_full` is whether there were bytes, outside
-    loopback, and 64 were held already. `interrupts` is how often to ask for the interrupt: 0 or 1 times.
+    `accepted` is how many of the bytes went in, from the first on. `fifo_full` is whether bytes came, outside
+    loopback, while 64 were held already. `interrupts` is how often to ask for the interrupt: 0 or 1 times.
     """
 
     accepted: int
@@ -247,13 +247,13 @@ class Console(Saved):
     def suspend(self) -> None:
         """The guest's machine sleeps in memory. It is reset when it wakes, so input waits from now on.
 
-        It waits until a reset, or until a write of IER shows that a driver is ready, also if the guest polls. This
+        It waits until a reset or until a write of IER shows that a driver is ready, even if the guest polls. This
         leaves no work.
         """
         self._library.superio_console_suspend(self._pointer)
 
     def set_polled(self, polled: bool) -> Work:
-        """Says from now on whether the guest polls: a loader that does and a kernel that does not are one guest."""
+        """Says whether the guest polls from now on. A loader that polls and a kernel that does not may be one guest."""
         check_kind("polled", polled, bool)
         return _work(self._library.superio_console_set_polled(self._pointer, polled))
 
@@ -357,10 +357,10 @@ class Serial(Saved):
         return self._library.superio_serial_interrupts_due(self._pointer)
 
     def interrupt_line(self) -> bool:
-        """Whether the interrupt line is up: while a condition is pending that IER enables. The port does not change.
+        """Whether the interrupt line is up, because a condition is pending that IER enables. The port does not change.
 
-        If your interrupt controller takes levels, set your line to it after every call, reads among them, and do not
-        ask for the interrupt.
+        If your interrupt controller takes levels, set your line to this level after every call, including reads, and
+        do not ask for the interrupt.
         """
         return self._library.superio_serial_interrupt_line(self._pointer)
 

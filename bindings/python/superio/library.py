@@ -1,6 +1,6 @@
 # SPDX-License-Identifier: Apache-2.0 OR BSD-3-Clause
-"""The shared library of the devices, which is found and checked. Its structs and functions are those of superio.h, as
-superio.abi has them."""
+"""Finds and checks the shared library of the devices. superio.abi lists its structs and functions, which superio.h
+declares."""
 import ctypes
 import os
 import re

@@ -35,7 +35,7 @@ class Step(NamedTuple):
 
     @property
     def differs(self) -> bool:
-        """Whether the board replied otherwise than was recorded."""
+        """Whether the board's reply differs from the recorded one."""
         return self.recorded is not None and self.recorded != (self.call.reply or "")
 
     @property
@@ -84,7 +84,7 @@ def replay(name: str, rows: Iterable[bytes]) -> Iterator[Step]:
             for line, recorded in entries_of(text):
                 command = parse(line.encode("utf-8", "replace"), is_first=board.number == 0)
                 yield Step(piece, board.run(command), recorded)
-        except ValueError as error:  # among them a number of more digits than Python converts
+        except ValueError as error:  # also for a number of more digits than Python converts
             raise BadLine(name, number, row.rstrip(b"\r\n"), error) from error
 
 

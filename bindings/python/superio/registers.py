@@ -41,7 +41,7 @@ def _refusal(name: str, value: Any, wanted: str) -> str:
 
 
 def number(name: str, value: Any, bits: int, is_signed: bool = False, instead: str = "") -> int:
-    """A number of so many bits. `instead` is what may stand in its place, as the message of the errors adds it."""
+    """A number of this many bits. `instead` is what may stand in its place, in the words of the errors' message."""
     try:
         whole = int(index(value))  # a Boolean is its own index
         if not (whole + (1 << bits - 1) if is_signed else whole) >> bits:

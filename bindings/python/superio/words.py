@@ -63,7 +63,7 @@ class Speaker:
         self._time = time
 
     def command(self, name: str, rest: str) -> Command:
-        """The command of words: `name` is that of the line of a script that they mean, or the first of the words."""
+        """The command that words mean: `name` is the name of its line of a script, or the first of the words."""
         words = _WORD.findall(rest)
         if name == "type":
             return Command("sq", (self._bytes(rest),))

@@ -38,7 +38,7 @@ pub use i8042::I8042Device;
 pub use rtc_pl031::{Rtc, RtcState};
 pub use serial::{Serial, SerialState};
 
-/// Notifies whoever raises an interrupt, or resets the machine.
+/// Notifies the part of a monitor that raises an interrupt or resets the machine.
 ///
 /// A device owns its trigger, and calls it for one event at a time.
 ///
@@ -66,7 +66,7 @@ pub trait Trigger {
     /// Why a call was refused.
     type E: core::fmt::Debug;
 
-    /// Notifies once, or returns an error if nobody was notified. A trigger may instead note that by itself, and return
-    /// `Ok`.
+    /// Notifies once, or returns an error if nobody was notified. A trigger may instead note the failure itself, and
+    /// return `Ok`.
     fn trigger(&self) -> Result<(), Self::E>;
 }

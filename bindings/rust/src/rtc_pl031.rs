@@ -5,8 +5,9 @@
 //!
 //! In vm-superio 0.8.2 the match register RTCMR (0x004) only reads back what was written. Here it is an alarm. The
 //! first access that finds guest time at or past the match raises bit 0 of the raw interrupt status, unless the match
-//! was past when it was written. The clock has no trigger. If its guest expects an interrupt line, set the line to
-//! [`Rtc::interrupt_line`] after each access, set a timer to [`Rtc::alarm_due`], and make an access when it goes off.
+//! was in the past when it was written. The clock has no trigger. If its guest expects an interrupt line, set the line
+//! to [`Rtc::interrupt_line`] after each access. Also set a timer to [`Rtc::alarm_due`], and make an access when it
+//! goes off.
 use std::error::Error as StdError;
 use std::fmt;
 use std::sync::Arc;
@@ -17,11 +18,11 @@ use crate::saved::SavedStateError;
 
 /// The offset of RTCDR, which shows guest time.
 const RTCDR: u16 = 0x000;
-/// The offset of RTCMR, which sets an alarm if its value is not past.
+/// The offset of RTCMR, which sets an alarm if its value is not in the past.
 const RTCMR: u16 = 0x004;
 /// The offset of RTCLR, which sets guest time.
 const RTCLR: u16 = 0x008;
-/// The moment of an access to which it makes no difference.
+/// The moment that is passed to an access whose effect does not depend on it.
 const ANY_MOMENT: u64 = 0;
 
 /// Receives a clock's invalid accesses. The clock calls it for nothing else. An `Arc` of an events object is an events
@@ -118,16 +119,16 @@ impl RtcSnapshot {
         }
     }
 
-    /// The encoding: 33 bytes, the same on every machine. A state has exactly one.
+    /// Returns the encoding: 33 bytes, the same on every machine. A state has exactly one.
     pub fn to_bytes(&self) -> Vec<u8> {
         self.value().to_bytes().to_vec()
     }
 
-    /// The state of an encoding.
+    /// Reads a state back from its encoding.
     ///
     /// # Errors
     ///
-    /// The first check of [`SavedStateError`] that the bytes fail.
+    /// Returns the first check of [`SavedStateError`] that the bytes fail.
     pub fn from_bytes(bytes: &[u8]) -> Result<RtcSnapshot, SavedStateError> {
         sansio::RtcState::from_bytes(bytes).map(RtcSnapshot::of)
     }
@@ -264,13 +265,13 @@ impl<EV: RtcEvents> Rtc<EV> {
         Rtc { clock: Pl031::new(), events: rtc_events }
     }
 
-    /// A snapshot of the registers, as vm-superio has it; [`from_state`](Rtc::from_state) recreates the clock without
-    /// its alarm. To lose no alarm, save a [`snapshot`](Rtc::snapshot).
+    /// Returns a snapshot of the registers, as in vm-superio, from which [`from_state`](Rtc::from_state) recreates the
+    /// clock without its alarm. To keep the alarm, save a [`snapshot`](Rtc::snapshot).
     pub fn state(&self) -> RtcState {
         self.snapshot().state
     }
 
-    /// A snapshot; [`from_snapshot`](Rtc::from_snapshot) recreates the clock.
+    /// Returns a snapshot, from which [`from_snapshot`](Rtc::from_snapshot) recreates the clock.
     pub fn snapshot(&self) -> RtcSnapshot {
         RtcSnapshot::of(self.clock.state())
     }
@@ -285,9 +286,9 @@ impl<EV: RtcEvents> Rtc<EV> {
         self.clock.interrupt_line()
     }
 
-    /// The seconds from the moment `now`, in seconds since 1970, until an access finds the alarm reached, if the guest
-    /// makes none before: less than 2^32, and 0 if an access at `now` finds it. `None` if no alarm is set, or if guest
-    /// time never reaches the match. The mask plays no part.
+    /// Returns the seconds from the moment `now`, in seconds since 1970, until an access finds the alarm reached, if
+    /// the guest makes no access before. They are less than 2^32, and 0 if an access at `now` finds it. Returns `None`
+    /// if no alarm is set, or if guest time never reaches the match. The mask plays no part.
     pub fn alarm_due(&self, now: u64) -> Option<u64> {
         self.clock.alarm_due(now)
     }

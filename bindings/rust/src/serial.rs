@@ -15,13 +15,13 @@ pub mod timeout;
 pub use events::{NoEvents, SerialEvents};
 pub use state::SerialState;
 
-/// The bit of `interrupt_identification` that shows THRE pending, transmitter holding register empty.
+/// The bit of `interrupt_identification` that shows that THRE, transmitter holding register empty, is pending.
 const THRE: u8 = 0x02;
 
 /// A 16550 serial port: its registers, a receive FIFO of 64 bytes that is always on, and two interrupt conditions.
 ///
-/// It owns the trigger of its interrupt, an events object, and the writer that the guest's output goes to. If one of
-/// them panics and you catch the panic, the port is in the same state as vm-superio 0.8.2's would be.
+/// It owns the trigger of its interrupt, an events object, and the writer of the guest's output. If one of them panics
+/// and you catch the panic, the port is in the state that vm-superio 0.8.2's port would be in as well.
 ///
 /// A port is `Send` and `Sync` if these objects are. If threads share it, put a lock around it.
 ///
@@ -122,7 +122,7 @@ impl<T: Trigger, W: Write> Serial<T, NoEvents, W> {
 
 impl<T: Trigger, EV: SerialEvents, W: Write> Serial<T, EV, W> {
     /// Makes a port from a saved state. Calls the trigger once for each condition that is both pending and enabled, so
-    /// that the interrupts that the guest has not taken reach the new trigger. For one that IER disables, call
+    /// that the new trigger gets the interrupts that the guest has not taken. For a condition that IER disables, call
     /// [`retry_interrupts`](Serial::retry_interrupts) later.
     ///
     /// # Errors
@@ -141,7 +141,7 @@ impl<T: Trigger, EV: SerialEvents, W: Write> Serial<T, EV, W> {
         Serial { port: Uart::new(), interrupt_evt: trigger, events: serial_evts, out }
     }
 
-    /// A snapshot; [`from_state`](Serial::from_state) recreates the port.
+    /// Returns a snapshot, from which [`from_state`](Serial::from_state) recreates the port.
     pub fn state(&self) -> SerialState {
         SerialState::of(&self.port)
     }
@@ -218,7 +218,7 @@ impl<T: Trigger, EV: SerialEvents, W: Write> Serial<T, EV, W> {
         self.interrupt_evt.trigger()
     }
 
-    /// The guest reads the byte at `offset` from the port's base; from 8 on it is 0. The trigger is not called.
+    /// The guest reads the byte at `offset` from the port's base. From 8 on it is 0. The trigger is not called.
     ///
     /// If `offset` is 2 and the answer has bit 0x01 (none pending), make a [character timeout](timeout) afterwards.
     pub fn read(&mut self, offset: u8) -> u8 {
@@ -236,9 +236,9 @@ impl<T: Trigger, EV: SerialEvents, W: Write> Serial<T, EV, W> {
     /// does not change.
     ///
     /// vm-superio 0.8.2 has no such call. If your trigger can refuse, make the call some milliseconds after a refusal,
-    /// and repeat it until it returns `Ok`. It does not ask for what IER disables: make it after each write at offset
-    /// 1, too, until it returns `Ok` while the port's line is up. Otherwise a refused interrupt may never reach the
-    /// guest. The guest may be interrupted again for a condition that it already knows of.
+    /// and repeat it until it returns `Ok`. It does not ask for a condition that IER disables, so make it after each
+    /// write at offset 1 too, until it returns `Ok` while the port's line is up. Otherwise a refused interrupt may
+    /// never reach the guest. The guest may be interrupted again for a condition that it knows already.
     ///
     /// # Errors
     ///
@@ -258,9 +258,9 @@ impl<T: Trigger, EV: SerialEvents, W: Write> Serial<T, EV, W> {
     ///
     /// # Errors
     ///
-    /// [`Error::FullFifo`] if there are bytes and 64 are held already, outside loopback: nothing changes then.
-    /// [`Error::Trigger`] if the trigger refused: the bytes that fit are kept, so do not enqueue them again. To find
-    /// out how many, compare [`fifo_capacity`](Serial::fifo_capacity) before and after.
+    /// [`Error::FullFifo`] if bytes come outside loopback while 64 are held. Nothing changes then.
+    /// [`Error::Trigger`] if the trigger refused. The bytes that fit are kept, so do not enqueue them again. To find
+    /// out how many they are, compare [`fifo_capacity`](Serial::fifo_capacity) before and after.
     pub fn enqueue_raw_bytes(&mut self, input: &[u8]) -> Result<usize, Error<T::E>> {
         let effects = self.port.enqueue_raw_bytes(input);
         if effects.fifo_full {

@@ -7,14 +7,14 @@ use crate::Trigger;
 
 /// Returns the level of the interrupt line, for an interrupt controller that takes levels.
 ///
-/// A PCI interrupt and level-triggered inputs of an I/O APIC or a GIC are levels. There a trigger that pulses may
-/// lose interrupts. Let the trigger do nothing, and set the line to this level after every call of the port, reads among
-/// them.
+/// A PCI interrupt is a level, and so are level-triggered inputs of an I/O APIC or a GIC. There a trigger that pulses
+/// may lose interrupts. Let the trigger do nothing, and set the line to this level after every call of the port,
+/// including reads.
 ///
 /// This is a trait of its own, so that it cannot collide with a method of a program that was written for vm-superio:
 /// import it where you make the call.
 pub trait InterruptLine {
-    /// Whether the line is up: while a condition is pending that IER enables. The port does not change.
+    /// Whether the line is up. It is up while a condition is pending that IER enables. The port does not change.
     fn interrupt_line(&self) -> bool;
 }
 

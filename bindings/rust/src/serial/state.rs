@@ -61,16 +61,16 @@ impl Default for SerialState {
 
 impl SerialState {
     /// Whether the state is coherent: at most 64 bytes are held, LSR shows data ready exactly if bytes are held, IIR is
-    /// 1, 2, 4 or 6, and RDA is pending only if bytes are held. Every state of a port that began as a new one is
-    /// coherent.
+    /// 1, 2, 4 or 6, and RDA is pending only if bytes are held. A port that began as a new one always has a coherent
+    /// state.
     ///
-    /// Restoring any other state is safe too. If you do not trust its source, refuse an incoherent one: in it an
-    /// interrupt may be missing, or come without a byte.
+    /// It is safe to restore any other state too. If you do not trust the source of a state, refuse it unless it is
+    /// coherent: an interrupt may be missing otherwise, or come without a byte.
     pub fn is_coherent(&self) -> bool {
         self.port().map_or(false, |port| port.is_coherent())
     }
 
-    /// The encoding: 17 to 81 bytes, the same on every machine. A state of up to 64 bytes has just one.
+    /// Returns the encoding: 17 to 81 bytes, the same on every machine. A state of up to 64 bytes has exactly one.
     ///
     /// # Errors
     ///
@@ -80,11 +80,11 @@ impl SerialState {
         Ok(port.to_bytes().as_bytes().to_vec())
     }
 
-    /// The state of an encoding. It may be incoherent.
+    /// Reads a state back from its encoding. The state may be incoherent.
     ///
     /// # Errors
     ///
-    /// The first check of [`SavedStateError`] that the bytes fail.
+    /// Returns the first check of [`SavedStateError`] that the bytes fail.
     pub fn from_bytes(bytes: &[u8]) -> Result<SerialState, SavedStateError> {
         Uart::from_bytes(bytes).map(|port| SerialState::of(&port))
     }

@@ -8,8 +8,8 @@ use crate::Trigger;
 /// Interrupts the guest again while received bytes wait for it.
 ///
 /// A guest's read of IIR or of a byte ends the interrupt of received data, even if it leaves bytes in the FIFO. Without
-/// this call they wait silently until another byte arrives, for which a full FIFO has no room, or the guest writes IER.
-/// A guest that waits for the interrupt hangs.
+/// this call these bytes wait silently until the guest writes IER or another byte arrives, and a full FIFO has no room
+/// for another byte. A guest that waits for the interrupt hangs.
 ///
 /// # When to make the call
 ///
@@ -69,13 +69,13 @@ pub trait CharacterTimeout {
     /// Why the trigger refused.
     type E;
 
-    /// If bytes are held, IER enables the interrupt for received data, and it is not pending, raises it and calls the
-    /// trigger once. Otherwise nothing happens. DLAB and loopback make no difference.
+    /// Raises the interrupt for received data and calls the trigger once, if bytes are held, IER enables the interrupt,
+    /// and it is not pending already. Otherwise nothing happens. DLAB and loopback make no difference.
     ///
     /// # Errors
     ///
     /// [`Error::Trigger`] if the trigger refused the call. The condition stays pending, so a further character timeout
-    /// does nothing: call [`retry_interrupts`](Serial::retry_interrupts). No other error comes.
+    /// does nothing: call [`retry_interrupts`](Serial::retry_interrupts). It returns no other error.
     fn character_timeout(&mut self) -> Result<(), Error<Self::E>>;
 }
 
