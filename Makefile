@@ -11,7 +11,7 @@ PREFIX = /usr/local
 LIBDIR = lib
 DOCDIR = share/doc/superio
 TARGET = $(shell uname -m)-linux
-# The folder of a static and a shared library: that of TARGET. If prebuilt has none for this machine and TARGET is not
+# The folder of a static and a shared library, for TARGET. If prebuilt has none for this machine and TARGET is not
 # given, it is the one in which Cargo builds them.
 BUILT = bindings/c/from-source/target/release
 LIBRARIES = $(if $(filter-out file,$(origin TARGET))$(wildcard prebuilt/$(TARGET)/.),prebuilt/$(TARGET),$(BUILT))

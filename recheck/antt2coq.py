@@ -51,7 +51,7 @@ class Output:
         self.out.append((f"(* {comment} *)\n" if comment else "") + text)
 
     def give_name(self, entity: Entity) -> None:
-        """Its own name, or with that of its module before it if there is another of this name"""
+        """Its own name, with the name of its module before it if another entity has this name"""
         name = entity.name
         if name in OF_COQ | self.modules.taken:
             name = f"{entity.module.path.rpartition('.')[2]}_{name}"

@@ -44,7 +44,7 @@ def is_positive(term: Term) -> bool:
 
 
 def part(pair: Typed, type_: Type, field: str) -> Typed:
-    """`.0` or `.1` of a pair. Of three or more, the parts are not those of nested pairs"""
+    """`.0` or `.1` of a pair. The parts of three or more are not the parts of nested pairs"""
     if not isinstance(type_, Pair) or isinstance(type_.second, Pair) or field not in ("0", "1"):
         raise Refused(f".{field} of {pair.coq}")
     return Typed(f"fst {pair.atom}", type_.first) if field == "0" else Typed(f"snd {pair.atom}", type_.second)
@@ -132,7 +132,7 @@ class Scope:
         return Typed(" ".join([self.name_of(entity), *(one.atom for one in found)]), type_)
 
     def taken(self, entity: Entity | Word, count: int) -> tuple[list[Type], Type]:
-        """The types of what it is applied to, and that of the result."""
+        """The types of its arguments, and the type of the result."""
         if isinstance(entity, (Definition, Variant)):
             parameters, result = telescope(entity)
             wants = [resolved(self.modules, entity.module, type_) for _, type_, hidden in parameters if not hidden]

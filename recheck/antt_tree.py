@@ -86,7 +86,7 @@ class Field:
 
 @dataclass(frozen=True)
 class Fields:
-    """A record: that of `base` with these fields changed, or a new one."""
+    """A record: `base` with these fields changed, or a new record."""
     base: "Term | None"
     given: tuple[tuple[str, "Term"], ...]
 

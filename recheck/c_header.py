@@ -114,7 +114,7 @@ def once(pairs: Iterable[tuple[str, T]]) -> dict[str, T]:
 
 
 def fields_of(body: str, numbers: dict[str, str]) -> list[Member]:
-    """The fields of a struct of C; what is none is one too."""
+    """The fields of a struct of C. What is no field counts as one too, so that it is refused."""
     found = [(rest, "", 0) for rest in re.sub(r"(\w+) (\w+)(\[(\w+)\])?;", "", body).split()]
     for type_, name, _, count in re.findall(r"(\w+) (\w+)(\[(\w+)\])?;", body):
         found.append((name, type_, int(numbers.get(count, count or 0))))
@@ -122,7 +122,7 @@ def fields_of(body: str, numbers: dict[str, str]) -> list[Member]:
 
 
 def fields(crate: Any, name: str) -> Iterator[Member]:
-    """The fields of a struct as C has them: those of a struct in it that has no name in C one by one."""
+    """The fields of a struct as C has them. A struct in it that has no name in C gives its own fields one by one."""
     item = crate.types[name]
     if item.kind != "struct" or "repr(C)" not in item.derived:
         raise Refused(f"{name} has not the layout of C")

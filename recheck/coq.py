@@ -14,7 +14,7 @@ class Failed(Exception):
 
 # coqc fills 256 MB with new values before it collects any. With 32 MB it takes half the memory, and less time.
 HEAP = {"OCAMLRUNPARAM": "s=4M,o=1000"}
-# A warning is a fault, but for one of the translated definitions, which have names that they do not need.
+# A warning is a fault, except one: the translated definitions have names that they do not need.
 WARNINGS = "+default,-unused-pattern-matching-variable"
 
 
@@ -36,7 +36,7 @@ def requirements(folder: Path) -> dict[str, set[str]]:
 
 
 def check(folder: Path, jobs: int, names: Iterable[str] | None = None) -> None:
-    """Checks these files, or all, each after those of them that it requires."""
+    """Checks these files, or all files, each after the ones that it requires."""
     needs = requirements(folder)
     chosen = set(needs if names is None else names)
     needs = {name: required & chosen for name, required in needs.items() if name in chosen}

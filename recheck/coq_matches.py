@@ -110,7 +110,7 @@ class MatchWriter(ValueWriter):
         return f"if {test} then\n  {indented(self.guarded(arm, env, then, rest))}\nelse\n  {indented(rest())}"
 
     def test(self, pattern: Pattern, value: str, type_: Type) -> str:
-        """Whether a value is that of a pattern"""
+        """Whether a value is the value of a pattern"""
         if isinstance(pattern, LiteralPattern) and isinstance(pattern.value, Boolean):
             return f"(Bool.eqb {value} {pattern.value.value})"
         equal, below = ("int_eqb", "int_leb") if type_ == "i64" else ("N.eqb", "N.leb")

@@ -30,7 +30,7 @@ class TypeWriter:
         return f"{name}'{self.count}"
 
     def type(self, type_: Type, node: Node | None = None) -> str:
-        """The type as Coq has it; that of a node, if it is one."""
+        """The type as Coq has it. If a node is given, it is the type of this node."""
         type_ = actual(type_)
         if isinstance(type_, Unknown):
             raise Refused(f"{self.where}:{node.line if node else ''}: a type that is not known")

@@ -69,7 +69,7 @@ def head(words: Words) -> Words:
 
 
 def flat(words: Words, left_out: Iterable[Words], submodule: Callable[[str, Words], Words]) -> Words:
-    """All items in one list, those of modules in their place, without what is left out."""
+    """All items in one list, the items of a module in its place, without what is left out."""
     found: Words = []
     heads = [head(item) for item in left_out]
     for item in items_of(words):

@@ -1,5 +1,5 @@
 # SPDX-License-Identifier: Apache-2.0 OR BSD-3-Clause
-"""Reads a file of Rust: all its items, but for those that are left out, word by word."""
+"""Reads a file of Rust word by word: all its items, except those that are left out."""
 import re
 from pathlib import Path
 from typing import Iterable
@@ -9,7 +9,7 @@ from rust_items import Const, Enum, Function, Impl, Item, Parameter, Struct, Tra
 from rust_tokens import Refused
 from rust_tree import UNIT, Type
 
-# Attributes that change no call; lints among them. No run has the feature serde.
+# Attributes that change no call, including lints. No run has the feature serde.
 ATTRIBUTES = re.compile(r"""inline(\((always|never)\))?|repr\(C\)|derive\([\w, ]*\)|must_use(="[^"]*")?|cold
     |rustfmt::skip|no_std|(allow|deny|forbid)\([\w:, ]*\)|doc=include_str!\("[./\w]*"\)
     |cfg_attr\(feature="serde",\ derive\(serde::Deserialize,\ serde::Serialize\)\)""", re.X)

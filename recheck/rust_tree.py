@@ -4,12 +4,12 @@ import re
 from dataclasses import dataclass, field
 from typing import Any, Iterable, Iterator, Optional, Tuple, Union
 
-WIDTHS = {"u8": 8, "u16": 16, "u32": 32, "u64": 64, "usize": 64}  # usize: that of a 64-bit machine
+WIDTHS = {"u8": 8, "u16": 16, "u32": 32, "u64": 64, "usize": 64}  # usize: as on a 64-bit machine
 INTEGERS = {*WIDTHS, "i64"}
 
 
 class Unknown:
-    """A type that is not known yet: that of a literal, or of an empty `None`."""
+    """A type that is not known yet, of a literal or of an empty `None`."""
     def __init__(self, integer: bool) -> None:
         self.is_: Optional[Type] = None
         self.integer = integer

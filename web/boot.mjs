@@ -144,14 +144,14 @@ export class Boot {
     this.at += 1;
   }
 
-  /** Goes to where so many calls are made. */
+  /** Goes to the place at which `at` calls are made. */
   seek(at) {
     const piece = Math.max(0, this.starts.findLastIndex((start) => start < at));
     if (at < this.at || piece !== this.piece) this.begin(piece);
     while (this.at < at) this.step();
   }
 
-  /** Makes up to so many calls. Returns whether it stopped after one that has a caption. */
+  /** Makes up to `count` calls. Returns whether it stopped after one that has a caption. */
   play(count) {
     for (let made = 0; made < count && this.at < this.calls.length; made += 1) {
       this.step();

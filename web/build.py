@@ -5,8 +5,8 @@ network, and those of bindings/js into bindings/js/superio.cjs, which `require` 
 
     web/build.py
 
-The page itself, its styles among it, is written by hand in docs/try.html. What is packed is the same on every machine,
-save how zlib packs it.
+The page itself, with its styles, is written by hand in docs/try.html. What is packed is the same on every machine, but
+zlib's versions may pack it differently.
 """
 import base64
 import lzma

@@ -125,7 +125,7 @@ function type(text) {
   show();
 }
 
-/** Goes to where so many calls are made. */
+/** Goes to the place at which `at` calls are made. */
 function go(at) {
   const shown = tape();
   state.isPlaying = false;
@@ -282,7 +282,7 @@ function showLine({ serial, answers, asked }) {
   say("asked", `The line was called ${plural(asked, "time")}${refused}.`);
 }
 
-/** A text whose control characters are shown as ^[ and the like, but for the ends of lines and tabs. */
+/** A text with its control characters shown as ^[ and the like, except ends of lines and tabs. */
 const printable = (text) => text.replace(/[\0-\x08\x0b\x0c\x0e-\x1f]/g, (one) =>
   `^${String.fromCharCode(0x40 + one.charCodeAt(0))}`);
 

@@ -147,7 +147,7 @@ export function storyOf([name, bit, enable, how], calls, board) {
   return `${name} is not pending: ${reason}. ${next}`;
 }
 
-/** A line, of which at most so many characters are shown. */
+/** A line, cut so that at most `most` characters are shown. */
 export const short = (line, most) => line.length <= most ? line : `${line.slice(0, most - 2)}..`;
 
 /** The registers of a board as a guest would read them, by name, whatever DLAB is, without changing it. */

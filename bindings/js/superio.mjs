@@ -89,7 +89,7 @@ function fieldsOf(struct, rows) {
     [name, isFlag ? Boolean(valueOf(place, kind)) : valueOf(place, kind)]));
 }
 
-/** Sets the fields of a struct to those of a state. */
+/** Sets the fields of a struct to the fields of a state. */
 function setFields(struct, rows, state) {
   const values = rows.map(([name, , kind, isFlag]) => (isFlag ? flag : OF_KIND[kind])(name, state[name]));
   rows.forEach(([, place, kind], index) =>
@@ -100,7 +100,7 @@ function byteArray(name, value) {
   return value instanceof Uint8Array ? value : refuse(TypeError, name, value, "a Uint8Array is wanted");
 }
 
-/** A Uint8Array that has at most so many bytes. */
+/** A Uint8Array that has at most `most` bytes. */
 function atMost(most, name, value) {
   whole(`${name}.length`, byteArray(name, value).length, 0, most);
   return value;

@@ -212,7 +212,7 @@ def test_a_read_of_nothing(library):
 
 @pytest.mark.needs("cc")
 def test_no_writable_section(library):
-    """The library has no section that can be written, but for what the linker's own files add to a shared one."""
+    """The library has no section that can be written, except what the linker's own files add to a shared one."""
     read = check(["readelf", "--wide", "--section-headers", library._name])
     rows = re.findall(r"^ *\[ *\d+\] (\.\S+) +\S+ +\w+ +\w+ +(\w+) +\w+ +\w*W\w* ", read, re.M)
     assert not [(name, size) for name, size in rows
@@ -231,7 +231,7 @@ def test_threads(library, tmp_path):
 
 
 def test_long_input(library):
-    """An enqueue takes the first 64 bytes of any number, also if that has more than 32 bits."""
+    """An enqueue takes the first 64 bytes of any number of bytes, even if the number has more than 32 bits."""
     zeros = mmap.mmap(-1, 2 ** 32 + 2)  # pages that nobody reads take no memory
     zeros[:80] = bytes(range(80))
     start = ctypes.addressof((ctypes.c_uint8 * 80).from_buffer(zeros))

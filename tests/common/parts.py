@@ -30,7 +30,7 @@ def counted(status, printed, sums=r".*\Z"):
 
 
 def of_gate(status, printed, edits, tests):
-    """The same of `rt ci`, which has failed also if it tried other must-fail edits or tests than there are."""
+    """The same of `rt ci`, which has also failed if it tried other must-fail edits or tests than there are."""
     passed, failed, _ = counted(status, printed)
     refused = sum(map(int, re.findall(r"must-fail edits: (\d+) refused(?!.*[1-9]\d* bad)", printed)))
     tested = counted(0, printed, r"^test result: ok\..*")[0]

@@ -24,7 +24,7 @@ class NotBuilt(OSError):
 def build(*steps):
     """Runs commands of rt, each in a crate's folder, the lowest crate first: rt passes over the sources of a crate once
     more if it has to build the libraries too. If one fails, the error names a file with what they printed. A proof
-    takes RT_JOBS processors, or two: each reads the libraries anew, so that more cost much and save little time."""
+    takes RT_JOBS processors, or two: each reads the libraries itself, so that more cost much and save little time."""
     if not shutil.which("rt"):
         raise NotBuilt("nothing was built: rt, of the Rattle kit, is not there")
     with tempfile.NamedTemporaryFile("wb", prefix=f"{steps[-1][0]}-", suffix=".log", delete=False) as log:

@@ -1,6 +1,6 @@
 # SPDX-License-Identifier: Apache-2.0 OR BSD-3-Clause
 """What tests need of a machine, and the packages of Debian 12 that have it. As a program it prints those of what is
-missing, but for the kit, which is no package; one of another architecture ends with its name."""
+missing, except the kit, which is no package; one of another architecture ends with its name."""
 import os
 import shutil
 import subprocess

@@ -203,7 +203,7 @@ def counts_of(column):
 
 
 def write_numbers(columns):
-    """Counts columns anew and writes their numbers into the table. Makes bold what is above its goal."""
+    """Counts columns again and writes their numbers into the table. Makes each number bold that is above its goal."""
     text, rows = DOCUMENT.read_text(encoding="utf-8"), read_rows()
     for column in columns:
         rows = [row._replace(numbers={**row.numbers, column: row.number_of(counts_of(column)[row.name])})

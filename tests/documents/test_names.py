@@ -2,7 +2,7 @@
 """The documents name what the sources have, and the clauses are all named.
 
 In the documents, a contract is cited by one piece of code, such as `Serial::read, write: step, coherent`: each function
-has each of the clauses. A function without a type has that of the function before it. Of other code each file, each
+has each of the clauses. A function without a type has the type of the function before it. Of other code each file, each
 path of a function and each word of four letters or more has to stand in the sources. A command of tools/ or tests/,
 also in a block for the shell, has to have the options that it is given.
 

@@ -27,7 +27,7 @@ def rows_of(text, heading):
 
 
 def compare(what, *values):
-    """What `what` is in several places: the package's value, and that of each place."""
+    """What `what` is in several places: the package's value, and the value of each place."""
     return pytest.param(*values[:1], values[1:], id=what)
 
 

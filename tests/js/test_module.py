@@ -1,5 +1,5 @@
 # SPDX-License-Identifier: Apache-2.0 OR BSD-3-Clause
-"""The WebAssembly module is that of its digests and of bindings/js/module.mjs, and of a build, byte for byte;
+"""The WebAssembly module has its digests, and is the one of bindings/js/module.mjs, and of a build, byte for byte;
 superio.cjs is what web/build.py makes of the modules."""
 import pytest
 from build import REQUIRED, required

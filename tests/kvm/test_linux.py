@@ -6,8 +6,8 @@ sets and awaits the clock. Without the character timeout a burst stalls until on
 the machine.
 
 Since this takes minutes, `linux.record` has the sum of the sources with which it last passed. If these have changed,
-or with --boot, Linux boots. If it then passes with other sources, the record is written anew, and this run fails: commit
-it.
+or with --boot, Linux boots. If it then passes with other sources, the record is written again, and this run fails:
+commit it.
 """
 import hashlib
 import random

@@ -4,7 +4,7 @@
 Each control does what features.txt says, and the console stays empty: the page lets the browser refuse any request. It
 fits two widths and two schemes of colours, its controls have names for a screen reader, and it does little until it is
 there. It replies to scripts as a search of the past does, and docs/try.svg and docs/try-narrow.svg show what it does;
---write-pictures writes them anew.
+--write-pictures writes them again.
 """
 import itertools
 import json
@@ -143,7 +143,7 @@ def test_looks(told, name):
 @pytest.mark.needs("chromium")
 @pytest.mark.parametrize("name", PICTURES)
 def test_picture(told, name, request):
-    """The picture of the documents is that of the page, but for its height, which depends on the fonts."""
+    """The picture of the documents shows the page. Only its height may differ, since it depends on the fonts."""
     said = told("picture", name)
     assert not said["wrong"]
     path, picture = ROOT / "docs" / name, DRAWN.format(*said["parts"]).replace("\r", "")

@@ -145,7 +145,7 @@ def test_written(form, tmp_path):
 
 
 def test_figure(tmp_path):
-    """The figure of the documents is that of the recording."""
+    """The figure of the documents shows the recording."""
     assert run("view", RECORDING, "--svg", tmp_path / "figure") == (0, "", "")
     assert (tmp_path / "figure").read_text() == FIGURE.read_text()
 

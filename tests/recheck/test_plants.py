@@ -178,7 +178,7 @@ WEAKER = [
 
 
 def copy_sources(folder):
-    """What the run reads of the repository, but for recheck."""
+    """What the run reads of the repository, except recheck."""
     for source in ("superio", "rust", "c"):
         shutil.copytree(ROOT / "bindings" / source, folder / "bindings" / source, ignore=shutil.ignore_patterns("target"))
     for crate in ("superio_core", "superio_laws", "superio_console", "vm_superio"):
@@ -186,7 +186,7 @@ def copy_sources(folder):
 
 
 def planted(checked, folder, file, old, new):
-    """A copy of what is checked, with one change of a source, and the names of the files that are to be checked anew."""
+    """A copy of what is checked, with one change of a source, and the names of the files to check again."""
     proofs = folder / "proofs"
     shutil.copytree(checked[0], proofs)
     if file.startswith("recheck/"):

@@ -16,7 +16,7 @@ pub record Point : Type 0 where
   pub y : List ℕ
 """
 
-# Definitions, and what a value of theirs is.
+# Definitions, and what a value of each is.
 RIGHT = {
     "names of a signature stay there": (
         "value : (first second : ℕ) → ℕ\nvalue second first = second - first", "value 5 3", "2"),

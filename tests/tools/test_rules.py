@@ -154,7 +154,7 @@ CARGO = "test result: ok. 3 passed; 0 failed; {} ignored; 0 measured; 0 filtered
     (127, [], (0, 1, 0)),
 ])
 def test_gate(status, lines, counts):
-    """It fails also if it tried other must-fail edits or tests than there are."""
+    """It also fails if it tried other must-fail edits or tests than there are."""
     assert of_gate(status, "\n".join(lines), 5, 3) == counts
 
 
