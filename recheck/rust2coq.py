@@ -1,7 +1,7 @@
 # SPDX-License-Identifier: Apache-2.0 OR BSD-3-Clause
 """Translates Rust functions without I/O, and all that they call, to Coq.
 
-It reads a small part of Rust, which docs/RECHECK.md describes, and refuses everything else. A function becomes one of
+It reads a small part of Rust, which recheck/README.md describes, and refuses everything else. A function becomes one of
 the same name, with `rs_` before it. It returns `Some` of its result and of the new values of its `&mut` parameters,
 or `None` where Rust panics. Coq names of variables contain a `'`, which no Rust name can, so they hide no other name.
 

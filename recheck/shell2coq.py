@@ -1,7 +1,7 @@
 # SPDX-License-Identifier: Apache-2.0 OR BSD-3-Clause
 """Translates the shell, the Rust types that own a monitor's objects, to Coq.
 
-It reads what rust2coq.py reads and a few forms more, which docs/RECHECK.md lists, and refuses everything else. A
+It reads what rust2coq.py reads and a few forms more, which recheck/README.md lists, and refuses everything else. A
 function becomes one of the same name, with `vm_` before it, which gives what it does: the calls of objects, each with
 what follows its answer, and at the end its result and the new values of its `&mut` parameters (Acts.v). A call of a
 function without I/O is one of the function that rust2coq.py made.

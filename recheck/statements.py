@@ -31,13 +31,12 @@ KEYWORD = r"(?:Theorem|Definition|Fixpoint|Inductive|CoInductive|Variant|Record)
 SCHEME = re.compile(r"\w+_(?:ind|sind|rec|rect)")
 SEPARATOR = "I\n     : True\n"  # what `Check I.` prints
 CLAIMS = """The six claims of docs/PROOFS.md, proved again. Below each sentence of ours stands the theorem that says it,
-    as Coq prints it. Only the theorem is proved: judge whether the sentence says the same. The theorems end at the line
-    that begins with 'These are all the theorems', and definitions follow. A name that begins with `rs_` is a function
-    of Rust, as our translator reads it. `Some` of a result says that the call returns it, so the call does not panic or
-    hang. We define `valid_Uart` and its like so that they should hold of every struct that Rust can make: judge them
-    below. `inhabited` of a record of facts holds if all these facts hold."""
+    as Coq prints it. Only the theorem is proved: judge whether the sentence says the same. After the line that begins
+    with 'These are all the theorems' come the definitions. A name that begins with `rs_` is a function of Rust, as our
+    translator reads it. If the result is `Some`, the call returns, and does not panic or hang. `valid_Uart` and the
+    other names that begin with `valid_` should hold of every value that Rust can make. Judge whether they do. `inhabited` of a record of facts holds if all these facts hold."""
 JUDGED = """These are all the theorems of the six claims. Below are the definitions that they use, each after the
-    definitions that it uses itself. Judge these too. There is no more to read of the claims."""
+    definitions that it uses itself. Judge these too. You need read nothing else to judge the claims."""
 OTHERS = """What is proved beside claims.txt, as Coq prints it: the other theorems, by topic; laws that have conditions,
     used once each; and the definitions that are not in claims.txt."""
 

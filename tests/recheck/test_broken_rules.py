@@ -2,7 +2,7 @@
 """Each rule of translation has a case that fails if the rule is broken: what Coq computes is another number then, or
 nothing.
 
-BROKEN has edits of the translators, for each rule of the tables in docs/RECHECK.md. The tests of the translators
+BROKEN has edits of the translators, for each rule of the tables in recheck/README.md. The tests of the translators
 compare the rules themselves with rustc's code, on the same cases.
 """
 import importlib
