@@ -81,7 +81,11 @@ const STEPS = {
     by(id).click();
     await until(() => by("said").textContent);
   },
+  /** The host's time is this from now on, in seconds. */
+  time: (seconds) => { page.Date.now = () => Number(seconds) * 1000; },
   wait: (start) => until(() => SEEN.lines().includes(`${start} `)),
+  /** Until the times of the clock, which go on by themselves, have a text. */
+  times: (...words) => until(() => by("times").textContent.includes(words.join(" "))),
   play: async (times) => {
     for (by("speed").value = "60000"; stops.length < times; stops.push(by("boot-at").value)) {
       by("play").click();
