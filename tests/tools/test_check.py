@@ -33,7 +33,7 @@ esac""",
 }
 PYTEST = """import sys
 if __name__ == "__main__":
-    open("{log}", "a").write("pytest\\n")
+    open("{log}", "a").write(" ".join(["pytest", *sys.argv[1:]]) + "\\n")
     print("{said}")
     sys.exit({status})
 """
@@ -160,10 +160,24 @@ def test_a_part_is_missing(tool, machine):
     machine.lacks(command)
     status, said, called = machine.run("tools/check", "--no-install")
     assert status == 1 and advice in said.splitlines() and " 1 failed" in said.splitlines()[-1], said
-    assert not installs(called) and "pytest" in called
+    assert not installs(called) and called[-1].startswith("pytest ")
     status, said, called = machine.run("tools/check", f"--without={tool}")
     assert status == 0 and not installs(called), said
     assert re.fullmatch(rf"NOT TRIED: .*, since --without names {tool}", said.splitlines()[-2])
+
+
+@pytest.mark.parametrize("tool", ["tools/check", ".ci/run"])
+def test_words(tool, machine):
+    """Each does what it says, also in pytest, and another one is refused before anything is tried."""
+    machine.lacks("coqc")
+    status, said, called = machine.run(tool, "--no-install", "--without", "cargo,coq")
+    assert (status, said.splitlines()[-1]) == (0, "7 passed, 0 failed, 1 skipped"), said
+    assert called == ["rt ci", "pytest -q -n auto --dist loadfile --sums --without=cargo,coq"]
+    for words in (["--without", "cargos"], ["--without=cargo,Coq"], ["--without"], ["--install"], ["cargo"]):
+        status, said, called = machine.run(tool, *words)
+        assert (status, called) == (2, []) and said.splitlines()[-1].startswith("check: error: "), said
+    status, said, called = machine.run(tool, "--help")
+    assert (status, called) == (0, []) and "--no-install" in said
 
 
 def test_pytest_is_missing(machine):
@@ -256,7 +270,7 @@ def test_an_installation_fails(name, machine):
         for tool in ("tools/check", ".ci/run"):
             status, said, called = machine.run(tool)
             assert status == 1 and "tools/install-packages ended with status" in said.splitlines()[-1], said
-            assert not {"rt ci", "pytest"} & {*called}
+            assert not [it for it in called if it.startswith(("rt ", "pytest "))]
 
 
 def test_a_list_of_packages_cannot_be_read(machine):
