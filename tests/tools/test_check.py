@@ -20,13 +20,14 @@ STAND_INS = {
     # For root it installs what is named, by making the command that is missing. Without a time to wait for another
     # apt-get it fails, since there is one.
     "apt-get": """
+for last; do :; done
 case "$*" in
 *DPkg::Lock::Timeout=[1-9][0-9][0-9]*) ;;
 *) echo "E: Could not get lock" >&2; exit 100 ;;
 esac
 case "$*" in
-*" install "*--simulate*) echo "Inst cargo (1)" ;;
-*" download "*) touch cargo.deb ;;
+*" install "*--simulate*) echo "Inst $last (1)" ;;
+*" download "*) touch "$last.deb" ;;
 *" install "*) cp "$AWAY"/* "$HERE" ;;
 esac""",
     "dpkg-deb": 'mkdir -p "$3/usr/bin"; cp "$AWAY"/* "$3/usr/bin"',
@@ -137,6 +138,7 @@ FAILING = {
     "pytest says so": lambda it: it.pytest("1 failed, 4 passed in 1s", 0),
     "pytest is killed": lambda it: it.pytest("4 passed in 1s", "__import__('os').kill(__import__('os').getpid(), 9)"),
     "pytest runs nothing": lambda it: it.pytest("no tests ran in 1s", 0),
+    "nothing passes": lambda it: (it.stand_in("rt", "exit 1"), it.stand_in("cargo", "exit 101"), it.pytest("", 2)),
 }
 
 
@@ -241,6 +243,16 @@ def test_another_user(machine):
     machine.lacks("coqc")
     machine.stand_in("dpkg-deb", "")
     assert [bool(installs(machine.run("tools/check")[2])) for _ in range(2)] == [True, False], "nobody finds it there"
+
+
+def test_each_archive_is_unpacked_once(machine):
+    """Those of an earlier time are not unpacked again."""
+    machine.lacks("cargo", "coqc")
+    machine.stand_in("id", "[ $1 != -u ] && echo somebody || echo 1000")
+    for package in ("cargo", "coq"):
+        status, said, called = machine.run("tools/install-packages", package)
+        [unpacked] = [it for it in called if it.startswith("dpkg-deb")]
+        assert status == 0 and f"/{package}.deb " in unpacked, said
 
 
 # What of the installation fails, by whose words, for which user.

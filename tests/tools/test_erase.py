@@ -9,6 +9,11 @@ from harness import ROOT, at_least, run
 
 CASES = (Path(__file__).parent / "erased.txt").read_text(encoding="utf-8").split("====\n")[1:-1]
 
+# What has no place in the code that stays, each alone; in a comment or in a string it has.
+REFUSED = ["ensures", "requires", "ghost", "async", "await", "crate::a", "extern", "macro_rules", "union", "unsafe",
+           "Model", "Drop", "a as usize", "a as isize", "a!()", "matches!(a) && b!()", "\u00e9", "/* a */", "#[cfg(a)]",
+           "#![no_std]", "a#", '"']
+
 
 def erase(*words):
     ran = run([sys.executable, ROOT / "tools" / "erase", *words])
@@ -38,3 +43,17 @@ def test_erase(source, expected, tmp_path):
     made.write_text(text, encoding="utf-8")
     made.with_name("other.rs").write_text(text, encoding="utf-8")
     assert erase("--check", *folders)[0] == 1
+
+
+@pytest.mark.parametrize("word", REFUSED)
+def test_refused(word, tmp_path):
+    folders = tmp_path / "source", tmp_path / "target"
+    for it in folders:
+        it.mkdir()
+    source = folders[0] / "lib.rt"
+    source.write_text(f"fn f() {{\n    {word};\n}}\n", encoding="utf-8")
+    status, said = erase(*folders)
+    assert (status, [*folders[1].iterdir()]) == (1, []) and said.startswith("tools/erase: lib.rt:2: "), said
+    source.write_text(f"// {word}\n", encoding="utf-8")
+    assert erase(*folders) == (0, "")
+    assert (folders[1] / "mod.rs").read_text(encoding="utf-8").endswith(f"// {word}\n")

@@ -1,0 +1,83 @@
+# SPDX-License-Identifier: Apache-2.0 OR BSD-3-Clause
+"""tools/write-abi in a copy: it writes what a header adds, and refuses one that lacks a single thing of the interface."""
+import shutil
+
+import pytest
+from harness import ROOT, run
+from libraries import SHARED
+
+COPIED = ["VERSION", "tools/write-abi", "tests/common", "bindings/c", "bindings/python/superio/superio.abi", "debian"]
+HEADER, COPY, TABLE = "bindings/c/superio.h", "bindings/c/from-source/superio.h", "bindings/python/superio/superio.abi"
+SYMBOLS = f"debian/libsuperio{SHARED.rpartition('.')[2]}.symbols"
+# A header with one of each, and how each changes: what is added, and what a program would miss.
+ADDED = """
+#define SUPERIO_ADDED 7
+typedef struct superio_added {
+    uint8_t one;
+    uint8_t other;
+} superio_added;
+void superio_add(superio_added *added);
+"""
+CHANGES = {
+    "another value": ("SUPERIO_ADDED 7", "SUPERIO_ADDED 8", "constant SUPERIO_ADDED 7"),
+    "no constant": ("#define SUPERIO_ADDED 7", "", "constant SUPERIO_ADDED 7"),
+    "no function": ("void superio_add(superio_added *added);", "", "function void superio_add(superio_added *)"),
+    "another result": ("void superio_add(", "bool superio_add(", "function void superio_add(superio_added *)"),
+    "another parameter": ("(superio_added *added)", "(superio_added *added, bool really)",
+                          "function void superio_add(superio_added *)"),
+    "another field": ("    uint8_t other;", "    uint8_t others;", "field superio_added.other uint8_t at 1 size 1"),
+    "another type of a field": ("    uint8_t other;", "    bool other;", "field superio_added.other uint8_t at 1 size 1"),
+}
+
+
+@pytest.fixture
+def top(tmp_path):
+    for it in COPIED:
+        copy = shutil.copytree if (ROOT / it).is_dir() else shutil.copy
+        (tmp_path / it).parent.mkdir(parents=True, exist_ok=True)
+        copy(ROOT / it, tmp_path / it)
+    change(tmp_path, "#define SUPERIO_I8042_DATA_PORT", f"{ADDED}#define SUPERIO_I8042_DATA_PORT")
+    return tmp_path
+
+
+def change(top, old, new):
+    text = (top / HEADER).read_text("ascii")
+    assert text.count(old) == 1
+    (top / HEADER).write_text(text.replace(old, new), "ascii")
+
+
+def written(top):
+    return [(top / it).read_text("ascii") for it in (COPY, TABLE, SYMBOLS)]
+
+
+def test_what_is_added_is_written(top):
+    before = written(top)[1].splitlines()
+    assert run([top / "tools/write-abi"]).returncode == 0
+    copy, table, symbols = written(top)
+    assert copy == (top / HEADER).read_text("ascii") and " superio_add@Base " in symbols
+    assert sorted({*table.splitlines()} - {*before}) == [
+        "constant SUPERIO_ADDED 7", "field superio_added.one uint8_t at 0 size 1",
+        "field superio_added.other uint8_t at 1 size 1", "function void superio_add(superio_added *)",
+        "struct superio_added size 2"]
+    assert table.splitlines()[0] == before[0] and not {*before} - {*table.splitlines()}
+
+
+@pytest.mark.parametrize("name", CHANGES)
+def test_what_is_gone_is_refused(name, top):
+    """Nothing is written. Under another number it is."""
+    assert run([top / "tools/write-abi"]).returncode == 0
+    old, new, gone = CHANGES[name]
+    before = written(top)
+    change(top, old, new)
+    ran = run([top / "tools/write-abi"])
+    assert ran.returncode == 1 and gone in ran.stdout.splitlines(), ran.stdout
+    assert written(top) == before
+    number = int(before[1].split("\n")[0].removeprefix("abi "))
+    change(top, f"#define SUPERIO_ABI {number}\n", f"#define SUPERIO_ABI {number + 1}\n")
+    assert run([top / "tools/write-abi"]).returncode == 0
+    assert not (top / SYMBOLS).exists() and (top / TABLE).read_text("ascii").startswith(f"abi {number + 1}\n")
+
+
+def test_it_takes_no_argument(top):
+    before = written(top)
+    assert run([top / "tools/write-abi", "bindings/c"]).returncode == 2 and written(top) == before
