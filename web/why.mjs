@@ -32,12 +32,22 @@ export function lineFormat(value) {
 
 const isPending = (board, bit) => (board.serial.state.interruptIdentification & bit) !== 0;
 
+/**
+ * For what a call asked the interrupt line, in the order of the answers: the conditions that it raised or, in a restore,
+ * all that are pending and enabled.
+ */
+function askedFor({ command, before, after }) {
+  const isRestore = ["ss", "sl"].includes(command.name);
+  return CONDITIONS.filter(([, bit, enable]) => isPending(after, bit) &&
+    (isRestore ? after.serial.state.interruptEnable & enable : !isPending(before, bit))).map(([name]) => name);
+}
+
 /** What the interrupt line answered, as the end of a sentence. */
-function asked({ before, after }) {
+function asked(call) {
+  const { after } = call;
   if (!after.answers.length) return "";
-  const pending = CONDITIONS.filter(([, bit]) => isPending(after, bit));
-  const raised = pending.filter(([, bit]) => !isPending(before, bit));
-  const names = (raised.length ? raised : pending).map(([name]) => name);
+  const pending = CONDITIONS.filter(([, bit]) => isPending(after, bit)).map(([name]) => name);
+  const names = askedFor(call).length ? askedFor(call) : pending;
   const answers = after.answers.map((isTaken, place) => `${names[place] ?? "it"}${isTaken ? "" : " refused"}`);
   return `; interrupt for ${answers.join(", ")}`;
 }
@@ -135,8 +145,8 @@ export function storyOf([name, bit, enable, how], calls, board) {
   const by = place < 0 ? "" : `call ${place + 1}, ${short(calls[place].line, 24)},`;
   if (isPending(board, bit)) {
     if (place < 0) return `${name} is pending: it was at the start.`;
-    const { answers } = calls[place].after;
-    const answer = answers.length ? `, and the line ${answers.at(-1) ? "took" : "refused"} the interrupt` : "";
+    const isTaken = calls[place].after.answers[askedFor(calls[place]).indexOf(name)];
+    const answer = isTaken === undefined ? "" : `, and the line ${isTaken ? "took" : "refused"} the interrupt`;
     return `${name} is pending: ${by} raised it${answer}. ${isEnabled ? how : "IER does not enable it now."}`;
   }
   const reason = place < 0 ? "no call has raised it" : `${by} acknowledged it`;

@@ -32,8 +32,8 @@ const register = (offset) => all("#registers .register:not([hidden])")[offset];
 const set = (id, value, event) => { by(id).value = value; by(id).dispatchEvent(new Event(event)); };
 /** Where the playback stopped. */
 let stops = [];
-/** What was copied. */
-let copied = "";
+/** What was copied, and the keys that do in the list what the page says and not what browsers do. */
+let [copied, taken] = ["", ""];
 
 /** What a user does, by the first word of a step. */
 const STEPS = {
@@ -64,7 +64,9 @@ const STEPS = {
     turn(told + Number(milliseconds));
     by("play").click();
   },
-  key: (key) => by("list").dispatchEvent(new KeyboardEvent("keydown", { key, cancelable: true })),
+  key: (key) => {
+    if (!by("list").dispatchEvent(new KeyboardEvent("keydown", { key, cancelable: true }))) taken += `${key} `;
+  },
   /** Runs a pasted script: lines, then others so many times, with a semicolon after each. */
   script: (...words) => {
     const [, first, times, others] = /^(.*) (\d+) times (.*)$/.exec(words.join(" "));
@@ -106,6 +108,7 @@ const SEEN = {
   flipped: () => texts("#registers .flipped").join(" "),
   ignored: () => labels("#registers [aria-label$=ignored]"),
   invalid: () => labels("[aria-invalid=true]"),
+  disabled: () => labels(":disabled"),
   lit: () => texts("#port .lit").join(", "),
   held: () => by("fifo").querySelector("text").textContent,
   ring: () => all("#fifo path").map((path) => path.getAttribute("class") || "-").join(" "),
@@ -115,13 +118,15 @@ const SEEN = {
   taking: () => String(!by("take-over").hidden),
   stops: () => stops.join(" "),
   copied: () => copied,
+  taken: () => taken.trim(),
+  stories: () => texts("#stories li").join(" "),
 };
 
 /** Tries a feature, of a name, steps and what is seen. */
 async function tryFeature(feature) {
   const [name, ...lines] = feature.split("\n");
   const wrong = [];
-  stops = [];
+  [stops, taken] = [[], ""];
   await open(lines[0].startsWith("#") ? lines.shift() : "");
   for (const line of lines) {
     const [, what, sign, wanted] = /^([\w-]+) ([=~]) ?(.*)$/.exec(line) ?? [];
