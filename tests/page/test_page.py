@@ -205,7 +205,7 @@ UNTIL_THERE = """new Promise((done) => {
 
 
 @pytest.mark.needs("chromium")
-def test_loading(tmp_path):
+def test_runs_until_it_is_there(tmp_path):
     """A page that is there fast, on any machine: the browser counts how often each part of its scripts runs."""
     with debugged(tmp_path) as tell:
         tell("Profiler.enable")
