@@ -53,6 +53,17 @@ test("an alarm over the end of the host's 32 bits", () => {
   }
 });
 
+test("a reader takes what waits and no more, however many bytes it says", () => {
+  const waiting = Uint8Array.from({ length: 2000 }, (_, place) => place);
+  for (const count of [1999, 2000, 2001, 4095, 4096, 4097, ...SECONDS, MOST_32 + 1, MOST_32 + 2, MOST_32 + 2000, 2 ** 40,
+    Number.MAX_SAFE_INTEGER]) {
+    const made = Console.fromState({ ...new Console().state, output: waiting });
+    made.consume(count);
+    assert.deepEqual(made.output(), waiting.slice(count), `${count}`);
+    assert.equal(made.dropped(), 0n);
+  }
+});
+
 test("a clock shows each value of 32 bits, and the low 32 bits of any moment", () => {
   for (const now of MOMENTS) assert.deepEqual(new Rtc().read("DR", now), { value: hostOf(now), invalidRead: false });
   for (const value of SECONDS) {
