@@ -209,6 +209,14 @@ class Runs(FolderTest):
         self.assertEqual((0o640, True), (self.path.stat().st_mode & 0o777, link.is_symlink()))
         self.assertTrue(self.path.read_text().startswith("sl "))
 
+    def test_a_path_may_begin_with_the_home(self):
+        home = {"env": {**ENVIRONMENT, "HOME": str(self.folder)}, "cwd": "/"}
+        for command in ("save", "trace", "script"):
+            self.assertEqual(0, run("--shell", script=f"sr 05\n{command} '~/of {command}'\n".encode(), **home)[0])
+            self.assertTrue((self.folder / f"of {command}").read_text())
+        for command in ("load", "source"):
+            self.assertEqual((0, "60\n", ""), run("--shell", script=f"{command} ~/'of trace'\n".encode(), **home))
+
     def test_commands(self):
         for command, (status, output, said) in COMMANDS:
             with self.subTest(command):
