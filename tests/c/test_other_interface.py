@@ -9,17 +9,17 @@ from libraries import PREBUILT, STATIC
 
 pytestmark = pytest.mark.needs("cc", "make")
 
-# The linker has this answer for the library.
+# The linker has this answer for the library, of an older or a newer one.
 OTHER = """#include <superio.h>
 uint32_t __wrap_superio_abi(void);
-uint32_t __wrap_superio_abi(void) { return SUPERIO_ABI + 1; }
+uint32_t __wrap_superio_abi(void) {{ return {}; }}
 """
 
 
-@pytest.fixture
-def compiler(tmp_path):
+@pytest.fixture(params=["SUPERIO_ABI - 1", "SUPERIO_ABI + 1", "0", "UINT32_MAX"])
+def compiler(request, tmp_path):
     """A compiler whose programs find another number in the library."""
-    (tmp_path / "other.c").write_text(OTHER, encoding="ascii")
+    (tmp_path / "other.c").write_text(OTHER.format(request.param), encoding="ascii")
     return ["cc", "-I", ROOT / "bindings/c", tmp_path / "other.c", "-Wl,--wrap=superio_abi"]
 
 
