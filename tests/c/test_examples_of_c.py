@@ -1,6 +1,6 @@
 # SPDX-License-Identifier: Apache-2.0 OR BSD-3-Clause
 """The examples of examples/c compare what they receive: each says so if one byte is another, at the first place, at the
-last, or between."""
+last, or between. monitor.c serves a line that takes and gives little, and only after a poll."""
 import os
 import platform
 
@@ -33,6 +33,49 @@ PROGRAMS = {
 }
 CASES = at_least(15, [(name, place) for name, (_, places, *_) in PROGRAMS.items() for place in places])
 
+# In place of the socket of monitor.c: once a poll has told that it has room, or bytes, it takes or gives three of them.
+NARROW = """#define _GNU_SOURCE
+#include <errno.h>
+#include <poll.h>
+#include <stdbool.h>
+#include <sys/socket.h>
+#include <unistd.h>
+enum { FILES = 64, MOST = 3 };
+static bool is_line[FILES], may_read[FILES], may_write[FILES];
+int __real_socketpair(int domain, int type, int protocol, int files[2]);
+int __real_poll(struct pollfd *files, nfds_t count, int timeout);
+ssize_t __real_read(int file, void *bytes, size_t count);
+ssize_t __real_write(int file, const void *bytes, size_t count);
+int __wrap_socketpair(int domain, int type, int protocol, int files[2]) {
+    int result = __real_socketpair(domain, type, protocol, files);
+    return is_line[files[0]] = is_line[files[1]] = true, result;
+}
+int __wrap_poll(struct pollfd *files, nfds_t count, int timeout) {
+    int result = __real_poll(files, count, timeout);
+    for (nfds_t i = 0; i < count; i++)
+        if (files[i].fd >= 0 && result > 0) {
+            may_read[files[i].fd] |= files[i].revents & POLLIN;
+            may_write[files[i].fd] |= files[i].revents & POLLOUT;
+        }
+    return result;
+}
+static bool takes(bool *may, int file, size_t *count) {
+    if (!is_line[file])
+        return true;
+    bool did = may[file];
+    may[file] = false;
+    errno = EAGAIN;
+    *count = *count < MOST ? *count : MOST;
+    return did;
+}
+ssize_t __wrap_read(int file, void *bytes, size_t count) {
+    return takes(may_read, file, &count) ? __real_read(file, bytes, count) : -1;
+}
+ssize_t __wrap_write(int file, const void *bytes, size_t count) {
+    return takes(may_write, file, &count) ? __real_write(file, bytes, count) : -1;
+}
+"""
+
 
 @pytest.fixture(scope="module")
 def spoilt(tmp_path_factory):
@@ -55,3 +98,12 @@ def test_another_byte_is_noticed(spoilt, name, place):
 
 def test_every_example_is_spoilt():
     assert sorted(PROGRAMS) == sorted(path.stem for path in (ROOT / "examples/c").glob("*.c"))
+
+
+def test_a_narrow_line(tmp_path):
+    """The event loop polls for what it waits for, and goes on where the last write ended."""
+    (tmp_path / "narrow.c").write_text(NARROW, encoding="ascii")
+    wrapped = [f"-Wl,--wrap={name}" for name in ("socketpair", "poll", "read", "write")]
+    check(["cc", "-I", ROOT / "bindings/c", tmp_path / "narrow.c", ROOT / "examples/c/monitor.c",
+           PREBUILT / f"{platform.machine()}-linux" / STATIC, *wrapped, "-pthread", "-o", tmp_path / "monitor"], "")
+    check([tmp_path / "monitor"], "3000 bytes came back, 3000 of them in order\n")
