@@ -22,6 +22,7 @@ TOOLS = {
     "git": {"git": "git"},
     "linux-source": {"/usr/src/linux-source-6.1.tar.xz": "linux-source-6.1"},
     "valgrind": {"valgrind": "valgrind"},
+    "mutants": {"bwrap": "bubblewrap", "import coverage": "python3-coverage", "gcov": "gcc"},
     "cargo": {"cargo": "cargo", "rustc": "rustc", "cc": "gcc"},
     "clippy": {"cargo-clippy": "rust-clippy"},
     "rustfmt": {"cargo-fmt": "rustfmt"},

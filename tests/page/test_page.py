@@ -93,35 +93,50 @@ def browse(folder, tried):
     with subprocess.Popen(words, stdout=subprocess.DEVNULL, stderr=subprocess.PIPE, encoding="utf-8") as browser:
         timer = threading.Timer(LIMIT, browser.kill)
         timer.start()
-        for found in filter(None, map(TOLD.search, browser.stderr)):
-            what = json.loads(found[1]) if found[1].startswith("{") else {"kind": "console", "wrong": found[1]}
-            if "end" in what:
-                break
-            yield what
-        else:
+        try:
+            for found in filter(None, map(TOLD.search, browser.stderr)):
+                what = json.loads(found[1]) if found[1].startswith("{") else {"kind": "console", "wrong": found[1]}
+                if "end" in what:
+                    return
+                yield what
             yield {"kind": "console", "wrong": f"the browser ended, or took more than {LIMIT} seconds"}
-        timer.cancel()
-        browser.terminate()
+        finally:
+            timer.cancel()
+            browser.terminate()
+
+
+class Told:
+    """What a browser tells, of which no more is awaited than a test needs."""
+
+    def __init__(self, more):
+        self.rows, self.more = [], more
+
+    def __call__(self, kind, name="all"):
+        """What is told of a kind and a name. A page on whose console an error comes first may never come to it."""
+        while not (found := [row for row in self.rows if (row["kind"], row.get("name", "all")) == (kind, name)]):
+            row = next(self.more, None)
+            self.rows += filter(None, [row])
+            assert row and row["kind"] != "console", self.console()
+        return found[0]
+
+    def console(self, more=()):
+        """All that the console had besides."""
+        self.rows += more
+        return [row["wrong"] for row in self.rows if row["kind"] == "console"]
 
 
 @pytest.fixture(scope="module")
 def told(request, tmp_path_factory):
-    """Opens the browser once, for the tests of this file that are run. Gives a function that gives what was told of a
-    kind and a name, of which something has to be told, and all that the console had besides."""
+    """Opens the browser once, for the tests of this file that are run."""
     items = [item for item in request.session.items if item.path == Path(__file__)]
     names = {item.callspec.params.get("name") for item in items if hasattr(item, "callspec")}
     has_scripts = any(item.name == "test_scripts" for item in items)
     tried = {kind: [row for name, row in rows.items() if name in names] for kind, rows in (
         ("features", FEATURES), ("looks", LOOKS), ("pictures", PICTURES))}
     tried["scripts"] = board_scripts("page", RANDOM_SCRIPTS) if has_scripts else []
-    rows = [*browse(tmp_path_factory.mktemp("browser"), tried)]
-
-    def of(kind, name="all"):
-        found = [row for row in rows if (row["kind"], row.get("name", "all")) == (kind, name)]
-        console = [row["wrong"] for row in rows if row["kind"] == "console"]
-        assert found or kind == "console", console
-        return console if kind == "console" else found[0]
-    return of
+    more = browse(tmp_path_factory.mktemp("browser"), tried)
+    yield Told(more)
+    more.close()
 
 
 @pytest.mark.needs("chromium")
@@ -220,4 +235,4 @@ def test_runs_until_it_is_there(tmp_path):
 
 @pytest.mark.needs("chromium")
 def test_console(told):
-    assert not told("console")
+    assert not told.console(told.more)

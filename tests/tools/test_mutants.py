@@ -1,8 +1,10 @@
 # SPDX-License-Identifier: Apache-2.0 OR BSD-3-Clause
 """tools/mutants, and survivors.txt: a mutant that may survive is one that the tool makes, with a reason, and at most three
-in a hundred of those of its part may."""
+in a hundred of those of its part may. On a small sample the tool does what it says."""
+import sys
 from importlib.machinery import SourceFileLoader
 from importlib.util import module_from_spec, spec_from_loader
+from pathlib import Path
 
 import pytest
 from harness import ROOT, at_least
@@ -23,14 +25,14 @@ MOST = 3   # in a hundred
 @pytest.mark.parametrize("entry", ENTRIES, ids=lambda it: it.splitlines()[1].strip("- ")[:40])
 def test_a_survivor_is_a_mutant_and_has_a_reason(entry):
     file, old, new, reason = entry.split("\n")
-    assert f"{file}\n{old}\n{new}" in map(str, TOOL.mutants(file))
+    assert f"{file}\n{old}\n{new}" in map(str, TOOL.mutants(ROOT, file))
     assert reason.startswith("  ") and len(reason.split()) > 3
 
 
 @pytest.mark.parametrize("part", TOOL.PARTS)
 def test_few_survive(part):
-    files = [path.relative_to(ROOT).as_posix() for path in ROOT.glob(TOOL.PARTS[part][0])]
-    made = at_least(30, [it for file in files for it in TOOL.mutants(file)])
+    files = [path.relative_to(ROOT).as_posix() for path in ROOT.glob(TOOL.PARTS[part].files)]
+    made = at_least(30, [it for file in files for it in TOOL.mutants(ROOT, file)])
     assert 100 * sum(entry.split("\n")[0] in files for entry in ENTRIES) <= MOST * len(made)
 
 
@@ -45,8 +47,120 @@ TURNED = {
 
 
 @pytest.mark.parametrize("line", TURNED)
-def test_a_line_is_turned(line, monkeypatch, tmp_path):
+def test_a_line_is_turned(line, tmp_path):
     (tmp_path / "file.c").write_text(line, encoding="utf-8")
-    monkeypatch.setattr(TOOL, "ROOT", tmp_path)
-    found = [it.new for it in TOOL.mutants("file.c")]
+    found = [it.new for it in TOOL.mutants(tmp_path, "file.c")]
     assert set(TURNED[line]) <= set(found), found
+
+
+# Code of which one mutant is the same, and its tests: one reads the code, and does not run it.
+SAMPLE = {
+    "sample.py": """def larger(a, b):
+    return a if a > b else b
+
+
+def next_one(a):
+    return a + 1
+""",
+    "test_sample.py": """import pathlib
+
+
+def test_larger():
+    import sample
+    assert (sample.larger(1, 2), sample.larger(2, 1)) == (2, 2)
+
+
+def test_text():
+    assert "a - 1" not in pathlib.Path("sample.py").read_text()
+""",
+}
+SAME = "sample.py\n- return a if a > b else b\n+ return a if a >= b else b\n"
+UNREACHED = "sample.py\n- return a + 1\n+ return a + (1 + 1)\n"
+
+
+@pytest.fixture
+def sample(monkeypatch, tmp_path):
+    """Tries the mutants of the sample. A call gives what the tool ends with."""
+    for name, text in SAMPLE.items():
+        (tmp_path / name).write_text(text, encoding="utf-8")
+    part = TOOL.Part("sample.py", ["/usr/bin/python3 -m py_compile {file}"], TOOL.pytest("test_sample.py"), "python")
+    monkeypatch.setattr(TOOL, "ROOT", tmp_path)
+    monkeypatch.setattr(TOOL, "PARTS", {"sample": part})
+    monkeypatch.setattr(TOOL, "LISTED", tmp_path / "survivors.txt")
+    monkeypatch.setattr(sys, "argv", ["mutants", "--jobs", "1"])
+
+    def call(*listed):
+        (tmp_path / "survivors.txt").write_text("\n".join(f"{it}  a reason\n" for it in listed), encoding="utf-8")
+        return TOOL.main()
+    return call
+
+
+@pytest.mark.needs("mutants", "pytest")
+def test_an_unlisted_survivor_is_an_error(sample, capsys):
+    """Of five mutants one is refused by the test that reaches it, one by the test that does not run it."""
+    assert sample(SAME) == "1 survivors are not in survivors.txt"
+    said = capsys.readouterr().out
+    assert said.startswith(f"{SAME}survive\n\n{UNREACHED}survive, and no test reaches it: NOT LISTED\n\n"), said
+    assert "\nsample: 2 killed, 2 survive, 0 do not compile; 0 did not end in time; " in said
+
+
+@pytest.mark.needs("mutants", "pytest")
+def test_listed_survivors_are_none(sample):
+    assert sample(SAME, UNREACHED) == 0
+
+
+@pytest.mark.needs("mutants", "pytest")
+def test_tests_that_fail_are_no_tests(sample, tmp_path):
+    with open(tmp_path / "test_sample.py", "a", encoding="utf-8") as file:
+        file.write("\n\ndef test_wrong():\n    assert False\n")
+    with pytest.raises(SystemExit, match="(?s)^sample: these tests refuse the code as it is\n[^\n]*::test_wrong$"):
+        sample()
+
+
+# What the lines of a program in each language are told as, from 1.
+REACHED = {
+    "gcov": ("sample.c", "int main(void)\n{\n    int a = 1;\n    if (a > 1)\n        a = 2;\n    return a - 1;\n}\n",
+             "cc sample.c -o sample && ./sample", {3: True, 4: True, 5: False, 6: True}),
+    "node": ("sample.mjs", "const a = 1;\nif (a > 1) {\n  a.b();\n}\nfunction none() {\n  return 1;\n}\n",
+             "node sample.mjs", {1: True, 2: True, 3: False, 6: False}),
+    "python": ("sample.py", "a = 1\nif a > 1:\n    a = 2\nassert a == 1\n",
+               "/usr/bin/python3 -c 'import subprocess, sys; subprocess.run([sys.executable, \"sample.py\"])'",
+               {1: True, 2: True, 3: False, 4: True}),
+}
+
+
+@pytest.mark.needs("mutants", "cc", "node")
+@pytest.mark.parametrize("language", REACHED)
+def test_lines_that_are_reached(language, tmp_path):
+    name, text, command, lines = REACHED[language]
+    (tmp_path / "code").mkdir()
+    (tmp_path / "code" / name).write_text(text, encoding="utf-8")
+    copy = TOOL.Copy(tmp_path / "code", tmp_path / "copy")
+    [test] = TOOL.split(command, copy, False)
+    found = TOOL.measured(test, copy, language, [name], "unlimited").lines[name]
+    assert {line: found[line] for line in lines} == lines
+    assert TOOL.measured(test._replace(command="false"), copy, language, [name], "unlimited") is None
+
+
+@pytest.mark.needs("mutants")
+def test_a_command_can_do_no_harm(tmp_path):
+    """It writes into its copy alone, even a super-user's, and has an end."""
+    (tmp_path / "code").mkdir()
+    copy = TOOL.Copy(tmp_path / "code", tmp_path / "copy")
+    outside = tmp_path / "outside"
+    assert copy.run(f"echo > here && echo > {outside} && ! echo > {TOOL.LISTED}; cp here file; mv -f file /dev/full") != "late"
+    assert (copy.folder / "here").exists() and not outside.exists() and TOOL.LISTED.stat().st_size > 1
+    assert Path("/dev/full").is_char_device() and copy.run(f"! echo > {TOOL.LISTED}") == "passed"
+    assert copy.run("sleep 1000 & sleep 1000", seconds=1) == "late"
+    assert copy.run("while :; do :; done", processor=1) == "failed"
+
+
+def test_the_fastest_tests_that_reach_a_line_come_first():
+    def test(name, seconds, reaches):
+        return TOOL.Test("run", name, seconds, {"a.c": {3: reaches, 5: False}})
+    reach = TOOL.Reach([test("slow", 40, True), test("other", 2, False), test("quick", 1, True), test("good", 2, True)])
+    reaching, others = reach.of(TOOL.Mutant("a.c", 3, "", ""))   # in the statement that begins in line 3
+    assert [[it.name for it in some] for some in (reaching, others)] == [["quick", "good", "slow"], ["other"]]
+    assert [*reach.commands(reaching)] == [("run quick good", 2), ("run slow", 40)]
+    assert reach.of(TOOL.Mutant("a.c", 4, "", ""))[0] == []
+    assert len(reach.of(TOOL.Mutant("b.c", 4, "", ""))[1]) == 4

@@ -1,0 +1,156 @@
+# SPDX-License-Identifier: Apache-2.0 OR BSD-3-Clause
+"""Which tests reach a line, and how long each takes. Debian's coverage tells it of Python, Node's own of JavaScript, and
+gcov of C. Of Rust, whose compiler and LLVM's tools may be of different versions, nothing is told."""
+import json
+import re
+import shutil
+import time
+from bisect import bisect_right
+from itertools import groupby
+from pathlib import Path
+from shlex import quote
+from typing import NamedTuple
+from urllib.parse import unquote, urlparse
+
+PYTEST = "/usr/bin/python3 -m pytest -q -x"
+# What a command does while it tells what it reaches, in the folder $REACH of a copy.
+BEGINS = {
+    "python": """export HOME=$REACH COVERAGE_PROCESS_START=$REACH/rc
+site=$(/usr/bin/python3 -m site --user-site); mkdir -p $site
+echo 'import coverage; coverage.process_startup()' > $site/usercustomize.py
+printf '[run]\\nparallel = True\\ndata_file = %s\\nsource = %s\\n' $REACH/data "$PWD" > $REACH/rc""",
+    "node": "export NODE_V8_COVERAGE=$REACH",
+    "gcov": """find $REACH/.. -name '*.gcda' -delete; mkdir $REACH/bin; export PATH=$REACH/bin:$PATH
+printf '#!/bin/sh\\nexec /usr/bin/${0##*/} --coverage -fprofile-update=atomic "$@"\\n' > $REACH/bin/cc
+chmod +x $REACH/bin/cc; cp $REACH/bin/cc $REACH/bin/gcc""",
+    "": "",
+}
+ENDS = {
+    "python": """unset COVERAGE_PROCESS_START; /usr/bin/python3 -m coverage combine -q --rcfile $REACH/rc
+/usr/bin/python3 -m coverage json -q --rcfile $REACH/rc -o $REACH/python.json""",
+    "node": "",
+    "gcov": "find /tmp $REACH/.. -name '*.gcda' -exec gcov --json-format --stdout {} + | grep '^{' > $REACH/gcov",
+    "": "",
+}
+
+
+class Test(NamedTuple):
+    """A command or, with a name, what follows a command that takes several names. It reaches lines of files, as far as
+    one knows: each known line has whether it does."""
+    command: str
+    name: str
+    seconds: float
+    lines: dict
+
+    def __str__(self):
+        return joined([self])
+
+
+def joined(tests):
+    """One command for tests of one command."""
+    return " ".join([tests[0].command, *(quote(it.name) for it in tests if it.name)])
+
+
+def split(command, root_copy, keeps_cases):
+    """The tests of a command: pytest's are told one by one, and the cases of one too if they are to be kept apart."""
+    if not command.startswith(PYTEST):
+        return [Test(command, "", 0, {})]
+    listing = root_copy.folder / "listing"
+    root_copy.run(f"{command} --collect-only > {listing}")
+    names = re.findall(r"^(\S+?\.py::.*)$", listing.read_text(encoding="utf-8"), flags=re.M)
+    begin, _, chosen = command.partition(" -k ")
+    base = PYTEST + (f" -k {chosen}" if chosen else "")
+    return [Test(base, name, 0, {}) for name in dict.fromkeys(it if keeps_cases else it.partition("[")[0] for it in names)]
+
+
+def lines_of_python(folder):
+    """The first line of each statement, by file, and whether it ran."""
+    files = json.loads((folder / "python.json").read_text(encoding="utf-8"))["files"]
+    return {name: {**dict.fromkeys(it["missing_lines"], False), **dict.fromkeys(it["executed_lines"], True)}
+            for name, it in files.items()}
+
+
+def lines_of_node(folder):
+    """The lines of modules: a later range of a module's functions is within an earlier one, or beside it."""
+    found = {}
+    for path in folder.glob("coverage-*.json"):
+        for script in json.loads(path.read_text(encoding="utf-8"))["result"]:
+            source = Path(unquote(urlparse(script["url"]).path))
+            if script["url"].startswith("file:") and source.is_relative_to(folder.parent) and source.is_file():
+                text = source.read_text(encoding="utf-8")
+                runs = bytearray(len(text))
+                for it in (it for function in script["functions"] for it in function["ranges"]):
+                    runs[it["startOffset"]:it["endOffset"]] = bytes([it["count"] > 0]) * (
+                        min(it["endOffset"], len(text)) - it["startOffset"])
+                add_lines(found.setdefault(source.relative_to(folder.parent).as_posix(), {}), text, runs)
+    return found
+
+
+def add_lines(lines, text, runs):
+    """Adds the lines of a text, each of whose characters may have run."""
+    begin = 0
+    for number, line in enumerate(text.split("\n"), 1):
+        first = begin + len(line) - len(line.lstrip())
+        lines[number] = lines.get(number, False) or any(runs[first:begin + len(line)])
+        begin += len(line) + 1
+
+
+def lines_of_gcov(folder, sources):
+    """The lines of C. Tests may compile a copy of a source, which has its name."""
+    found, names = {}, {Path(it).name: it for it in sources}
+    for told in (folder / "gcov").read_text(encoding="utf-8").splitlines():
+        for file in json.loads(told)["files"]:
+            lines = found.setdefault(names.get(Path(file["file"]).name, ""), {})
+            for it in file["lines"]:
+                lines[it["line_number"]] = lines.get(it["line_number"], False) or it["count"] > 0
+    return found
+
+
+LINES = {"python": lambda folder, _: lines_of_python(folder), "node": lambda folder, _: lines_of_node(folder),
+         "gcov": lines_of_gcov, "": lambda *_: {}}
+
+
+def measured(test, copy, language, sources, memory):
+    """A test with its time and what it reaches, or None if it refuses the code as it is."""
+    folder = copy.folder / "reach"
+    shutil.rmtree(folder, ignore_errors=True)
+    folder.mkdir()
+    command = f"export REACH={folder}\n{BEGINS[language]}\n{joined([test])}\nstatus=$?\n{ENDS[language]}\nexit $status"
+    began = time.monotonic()
+    if copy.run(command, memory) != "passed":
+        return None
+    seconds = time.monotonic() - began
+    lines = LINES[language](folder, sources)
+    return test._replace(seconds=seconds, lines={it: lines[it] for it in sources if it in lines})
+
+
+class Reach:
+    """The tests of a part. One that tells nothing of any file may reach all lines."""
+
+    def __init__(self, tests):
+        self.tests = sorted(tests, key=lambda it: it.seconds)
+        self.start = {command: min(it.seconds for it in tests if it.command == command)
+                      for command in {it.command for it in tests}}
+        files = {file for it in tests for file in it.lines}
+        self.known = {file: sorted({line for it in tests for line in it.lines.get(file, ())}) for file in files}
+
+    def of(self, mutant):
+        """The tests that reach the line of a mutant, or the statement in which it is, and all others."""
+        known, line = self.known.get(mutant.file, []), mutant.number + 1
+        line = known[max(0, bisect_right(known, line) - 1)] if known else None
+        reaching = [it for it in self.tests if not it.lines or it.lines.get(mutant.file, {}).get(line)]
+        return reaching, [it for it in self.tests if it not in reaching]
+
+    def commands(self, tests):
+        """Commands for tests, the fastest first, each with the seconds that it takes. After a quick one, each may take
+        four times as long as the one before: a mutant without an end is found soon."""
+        most, groups = 2, [[]]
+        for test in tests:
+            if sum(it.seconds - self.start[it.command] for it in (*groups[-1], test)) > most:
+                most *= 4
+                groups.append([])
+            groups[-1].append(test)
+        for group in groups:
+            for command, found in groupby(sorted(group, key=lambda it: it.command), key=lambda it: it.command):
+                found, start = [*found], self.start[command]
+                yield joined(found), start + sum(it.seconds - start for it in found)
