@@ -1,12 +1,11 @@
 # SPDX-License-Identifier: Apache-2.0 OR BSD-3-Clause
-"""Which tests reach a line, and how long each takes. Debian's coverage tells it of Python, Node's own of JavaScript, and
-gcov of C. Of Rust, whose compiler and LLVM's tools may be of different versions, nothing is told."""
+"""Which tests reach a line, and how long each takes. Debian's coverage tells it of Python, Node's own of JavaScript,
+and gcov of C. Of Rust, whose compiler and LLVM's tools may be of different versions, nothing is told."""
 import json
 import re
 import shutil
 import time
 from bisect import bisect_right
-from itertools import groupby
 from pathlib import Path
 from shlex import quote
 from typing import NamedTuple
@@ -60,7 +59,8 @@ def split(command, root_copy, keeps_cases):
     names = re.findall(r"^(\S+?\.py::.*)$", listing.read_text(encoding="utf-8"), flags=re.M)
     begin, _, chosen = command.partition(" -k ")
     base = PYTEST + (f" -k {chosen}" if chosen else "")
-    return [Test(base, name, 0, {}) for name in dict.fromkeys(it if keeps_cases else it.partition("[")[0] for it in names)]
+    names = dict.fromkeys(it if keeps_cases else it.partition("[")[0] for it in names)
+    return [Test(base, name, 0, {}) for name in names]
 
 
 def lines_of_python(folder):
@@ -129,10 +129,14 @@ class Reach:
 
     def __init__(self, tests):
         self.tests = sorted(tests, key=lambda it: it.seconds)
-        self.start = {command: min(it.seconds for it in tests if it.command == command)
-                      for command in {it.command for it in tests}}
+        self.start = {it.command: it.seconds for it in self.tests[::-1]}
+        self.first = sum(map(self.more, tests)) / 20
         files = {file for it in tests for file in it.lines}
         self.known = {file: sorted({line for it in tests for line in it.lines.get(file, ())}) for file in files}
+
+    def more(self, test):
+        """The seconds of a test, beside those that its command takes to begin."""
+        return test.seconds - self.start[test.command]
 
     def of(self, mutant):
         """The tests that reach the line of a mutant, or the statement in which it is, and all others."""
@@ -142,15 +146,15 @@ class Reach:
         return reaching, [it for it in self.tests if it not in reaching]
 
     def commands(self, tests):
-        """Commands for tests, the fastest first, each with the seconds that it takes. After a quick one, each may take
-        four times as long as the one before: a mutant without an end is found soon."""
-        most, groups = 2, [[]]
+        """Commands for tests, the fastest first, each with the seconds that it takes. The first takes a twentieth of
+        all, and each may take four times as long as the one before: a mutant without an end is found soon."""
+        most, groups = self.first, [[]]
         for test in tests:
-            if sum(it.seconds - self.start[it.command] for it in (*groups[-1], test)) > most:
+            if groups[-1] and sum(map(self.more, [*groups[-1], test])) > most:
                 most *= 4
                 groups.append([])
             groups[-1].append(test)
         for group in groups:
-            for command, found in groupby(sorted(group, key=lambda it: it.command), key=lambda it: it.command):
-                found, start = [*found], self.start[command]
-                yield joined(found), start + sum(it.seconds - start for it in found)
+            for command in dict.fromkeys(it.command for it in group):
+                found = [it for it in group if it.command == command]
+                yield joined(found), self.start[command] + sum(map(self.more, found))

@@ -230,13 +230,13 @@ class Runs(FolderTest):
                               preexec_fn=lambda: signal.signal(signal.SIGINT, signal.default_int_handler)) as process:
             timer = threading.Timer(TIMEOUT, process.kill)  # else a reply that does not come is waited for without end
             timer.start()
+            self.addCleanup(timer.cancel)
             for line, reply in ((b"kr 04\n", b"00\n"), (b"read LSR\n", b"LSR = 0x60  THRE TEMT\n")):
                 process.stdin.write(line)
                 process.stdin.flush()
                 self.assertEqual(reply, process.stdout.readline())
             process.send_signal(signal.SIGINT)
             self.assertEqual((128 + signal.SIGINT, b""), (process.wait(), process.stderr.read()))
-            timer.cancel()
 
 
 PROMPT = "superio> "
