@@ -38,8 +38,9 @@ class Test(NamedTuple):
     one knows: each known line has whether it does."""
     command: str
     name: str
-    seconds: float
-    lines: dict
+    seconds: float = 0
+    processor: float = 0   # seconds of it, as far as they are counted: those of a browser are not
+    lines: dict = {}
 
     def __str__(self):
         return joined([self])
@@ -53,14 +54,14 @@ def joined(tests):
 def split(command, root_copy, keeps_cases):
     """The tests of a command: pytest's are told one by one, and the cases of one too if they are to be kept apart."""
     if not command.startswith(PYTEST):
-        return [Test(command, "", 0, {})]
+        return [Test(command, "")]
     listing = root_copy.folder / "listing"
     root_copy.run(f"{command} --collect-only > {listing}")
     names = re.findall(r"^(\S+?\.py::.*)$", listing.read_text(encoding="utf-8"), flags=re.M)
     begin, _, chosen = command.partition(" -k ")
     base = PYTEST + (f" -k {chosen}" if chosen else "")
     names = dict.fromkeys(it if keeps_cases else it.partition("[")[0] for it in names)
-    return [Test(base, name, 0, {}) for name in names]
+    return [Test(base, name) for name in names]
 
 
 def lines_of_python(folder):
@@ -115,13 +116,16 @@ def measured(test, copy, language, sources, memory):
     folder = copy.folder / "reach"
     shutil.rmtree(folder, ignore_errors=True)
     folder.mkdir()
-    command = f"export REACH={folder}\n{BEGINS[language]}\n{joined([test])}\nstatus=$?\n{ENDS[language]}\nexit $status"
+    command = f"{joined([test])}\nstatus=$?; LC_ALL=C times > $REACH/times"
+    command = f"export REACH={folder}\n{BEGINS[language]}\n{command}\n{ENDS[language]}\nexit $status"
     began = time.monotonic()
     if copy.run(command, memory) != "passed":
         return None
     seconds = time.monotonic() - began
+    times = re.findall(r"(\d+)m([\d.]+)s", (folder / "times").read_text(encoding="ascii"))
     lines = LINES[language](folder, sources)
-    return test._replace(seconds=seconds, lines={it: lines[it] for it in sources if it in lines})
+    return test._replace(seconds=seconds, processor=sum(60 * int(minutes) + float(rest) for minutes, rest in times),
+                         lines={it: lines[it] for it in sources if it in lines})
 
 
 class Reach:
@@ -146,8 +150,9 @@ class Reach:
         return reaching, [it for it in self.tests if it not in reaching]
 
     def commands(self, tests):
-        """Commands for tests, the fastest first, each with the seconds that it takes. The first takes a twentieth of
-        all, and each may take four times as long as the one before: a mutant without an end is found soon."""
+        """Commands for tests, the fastest first, each with the limits of its seconds and of those of a processor. The
+        first takes a twentieth of all, and each may take four times as long as the one before: a mutant without an end
+        is found soon."""
         most, groups = self.first, [[]]
         for test in tests:
             if groups[-1] and sum(map(self.more, [*groups[-1], test])) > most:
@@ -157,4 +162,6 @@ class Reach:
         for group in groups:
             for command in dict.fromkeys(it.command for it in group):
                 found = [it for it in group if it.command == command]
-                yield joined(found), self.start[command] + sum(map(self.more, found))
+                seconds = self.start[command] + sum(map(self.more, found))
+                processor = sum(it.processor for it in found)
+                yield joined(found), 15 + 5 * seconds, round(20 + 5 * min(seconds, processor))
