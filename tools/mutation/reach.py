@@ -1,15 +1,16 @@
 # SPDX-License-Identifier: Apache-2.0 OR BSD-3-Clause
-"""Which tests reach a line, and how long each takes. Debian's coverage tells it of Python, Node's own of JavaScript,
-and gcov of C. Of Rust, whose compiler and LLVM's tools may be of different versions, nothing is told."""
+"""Which tests reach a line, and how long each takes. Debian's coverage tells it of Python, Node and Chromium tell it of
+JavaScript, and gcov of C. Of Rust, whose compiler and LLVM's tools may be of different versions, nothing is told, nor
+of the monitor for KVM, whose tests take gcov's calls of the system for its own."""
 import json
 import re
 import shutil
 import time
 from bisect import bisect_right
+from difflib import SequenceMatcher
 from pathlib import Path
 from shlex import quote
 from typing import NamedTuple
-from urllib.parse import unquote, urlparse
 
 PYTEST = "/usr/bin/python3 -m pytest -q -x"
 # What a command does while it tells what it reaches, in the folder $REACH of a copy.
@@ -18,7 +19,8 @@ BEGINS = {
 site=$(/usr/bin/python3 -m site --user-site); mkdir -p $site
 echo 'import coverage; coverage.process_startup()' > $site/usercustomize.py
 printf '[run]\\nparallel = True\\ndata_file = %s\\nsource = %s\\n' $REACH/data "$PWD" > $REACH/rc""",
-    "node": "export NODE_V8_COVERAGE=$REACH",
+    "node": """export NODE_V8_COVERAGE=$REACH PATH=$REACH/bin:$PATH
+mkdir $REACH/bin; ln -s $PWD/tools/mutation/chromium $REACH/bin/chromium""",
     "gcov": """find $REACH/.. -name '*.gcda' -delete; mkdir $REACH/bin; export PATH=$REACH/bin:$PATH
 printf '#!/bin/sh\\nexec /usr/bin/${0##*/} --coverage -fprofile-update=atomic "$@"\\n' > $REACH/bin/cc
 chmod +x $REACH/bin/cc; cp $REACH/bin/cc $REACH/bin/gcc""",
@@ -71,29 +73,35 @@ def lines_of_python(folder):
             for name, it in files.items()}
 
 
-def lines_of_node(folder):
-    """The lines of modules: a later range of a module's functions is within an earlier one, or beside it."""
-    found = {}
-    for path in folder.glob("coverage-*.json"):
-        for script in json.loads(path.read_text(encoding="utf-8"))["result"]:
-            source = Path(unquote(urlparse(script["url"]).path))
-            if script["url"].startswith("file:") and source.is_relative_to(folder.parent) and source.is_file():
-                text = source.read_text(encoding="utf-8")
-                runs = bytearray(len(text))
-                for it in (it for function in script["functions"] for it in function["ranges"]):
-                    runs[it["startOffset"]:it["endOffset"]] = bytes([it["count"] > 0]) * (
-                        min(it["endOffset"], len(text)) - it["startOffset"])
-                add_lines(found.setdefault(source.relative_to(folder.parent).as_posix(), {}), text, runs)
-    return found
-
-
-def add_lines(lines, text, runs):
-    """Adds the lines of a text, each of whose characters may have run."""
-    begin = 0
-    for number, line in enumerate(text.split("\n"), 1):
-        first = begin + len(line) - len(line.lstrip())
-        lines[number] = lines.get(number, False) or any(runs[first:begin + len(line)])
+def lines_that_ran(script, text):
+    """Whether each line of a script ran: a later range of its functions is within an earlier one, or beside it."""
+    runs, begin, lines = bytearray(len(text)), 0, []
+    for it in (it for function in script["functions"] for it in function["ranges"]):
+        first, end = it["startOffset"], min(it["endOffset"], len(text))
+        runs[first:end] = bytes([it["count"] > 0]) * (end - first)
+    for line in text.split("\n"):
+        lines.append(any(runs[begin + len(line) - len(line.lstrip()):begin + len(line)]))
         begin += len(line) + 1
+    return lines
+
+
+def lines_of_node(folder, sources):
+    """The lines of modules, which a page may have packed into one script, without some lines and without `export`."""
+    found, root = {}, folder.parent
+    texts = {file: (root / file).read_text(encoding="utf-8") for file in sources}
+    urls = {(root / file).as_uri(): file for file in sources}
+    told = [json.loads(path.read_text(encoding="utf-8")) for path in folder.glob("coverage-*.json")]
+    for script in (script for it in told for script in it["result"]):
+        file = urls.get(script["url"])
+        text = texts.get(file) or script.get("text", "")
+        ran = lines_that_ran(script, text)
+        for name in [file] if file else sources if text else []:
+            own = [line.removeprefix("export ") for line in texts[name].split("\n")]
+            theirs, lines = own if file else text.split("\n"), found.setdefault(name, {})
+            for first, second, size in SequenceMatcher(None, theirs, own).get_matching_blocks():
+                for place in range(size):
+                    lines[second + place + 1] = lines.get(second + place + 1, False) or ran[first + place]
+    return found
 
 
 def lines_of_gcov(folder, sources):
@@ -107,8 +115,8 @@ def lines_of_gcov(folder, sources):
     return found
 
 
-LINES = {"python": lambda folder, _: lines_of_python(folder), "node": lambda folder, _: lines_of_node(folder),
-         "gcov": lines_of_gcov, "": lambda *_: {}}
+LINES = {"python": lambda folder, _: lines_of_python(folder), "node": lines_of_node, "gcov": lines_of_gcov,
+         "": lambda *_: {}}
 
 
 def measured(test, copy, language, sources, memory):

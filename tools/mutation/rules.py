@@ -1,5 +1,5 @@
 # SPDX-License-Identifier: Apache-2.0 OR BSD-3-Clause
-"""The mutants of a file of C, Rust, JavaScript or Python: each statement, condition, operator and number turned once."""
+"""The mutants of a file of C, Rust, JavaScript or Python: each turns one statement, condition, operator or number."""
 import re
 from typing import NamedTuple
 
