@@ -1,6 +1,7 @@
 # SPDX-License-Identifier: Apache-2.0 OR BSD-3-Clause
 """tools/mutants, and survivors.txt: a mutant that may survive is one that the tool makes, with a reason, and at most
 three in a hundred of those of its part may. On a small sample the tool does what it says."""
+import json
 import sys
 from importlib.machinery import SourceFileLoader
 from importlib.util import module_from_spec, spec_from_loader
@@ -87,9 +88,9 @@ def sample(monkeypatch, tmp_path):
     monkeypatch.setattr(TOOL, "ROOT", tmp_path)
     monkeypatch.setattr(TOOL, "PARTS", {"sample": part})
     monkeypatch.setattr(TOOL, "LISTED", tmp_path / "survivors.txt")
-    monkeypatch.setattr(sys, "argv", ["mutants", "--jobs", "1"])
 
-    def call(*listed):
+    def call(*listed, every=1):
+        monkeypatch.setattr(sys, "argv", ["mutants", "--jobs", "1", "--every", f"{every}"])
         (tmp_path / "survivors.txt").write_text("\n".join(f"{it}  a reason\n" for it in listed), encoding="utf-8")
         return TOOL.main()
     return call
@@ -105,8 +106,9 @@ def test_an_unlisted_survivor_is_an_error(sample, capsys):
 
 
 @pytest.mark.needs("mutants", "pytest")
-def test_listed_survivors_are_none(sample):
-    assert sample(SAME, UNREACHED) == 0
+def test_listed_survivors_are_none(sample, capsys):
+    assert sample(SAME, every=4) == 0
+    assert "\nsample: 0 killed, 1 survive, 0 do not compile; " in capsys.readouterr().out
 
 
 @pytest.mark.needs("mutants", "pytest")
@@ -140,6 +142,19 @@ def test_lines_that_are_reached(language, tmp_path):
     found = TOOL.measured(test, copy, language, [name], "unlimited").lines[name]
     assert {line: found[line] for line in lines} == lines
     assert TOOL.measured(test._replace(command="false"), copy, language, [name], "unlimited") is None
+
+
+def test_lines_of_a_script_that_a_page_made(tmp_path):
+    """It has the lines of a module, but for comments, and `export`."""
+    (tmp_path / "code.mjs").write_text("// A comment.\nexport const a = 1;\nif (a > 1) {\n  a.b();\n}\n", "utf-8")
+    text = "const other = 0;\nconst a = 1;\nif (a > 1) {\n  a.b();\n}\n"
+    ranges = [(0, len(text), 1), (text.index("{"), text.index("}") + 1, 0)]
+    functions = [{"ranges": [{"startOffset": start, "endOffset": end, "count": count} for start, end, count in ranges]}]
+    (tmp_path / "reach").mkdir()
+    (tmp_path / "reach" / "coverage-1.json").write_text(json.dumps(
+        {"result": [{"url": "", "text": text, "functions": functions}]}), "ascii")
+    found = TOOL.LINES["node"](tmp_path / "reach", ["code.mjs"])
+    assert found["code.mjs"] == {2: True, 3: True, 4: False, 5: False, 6: False}
 
 
 @pytest.mark.needs("mutants")
