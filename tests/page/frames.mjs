@@ -4,14 +4,14 @@
  * in the element `tried`. Tells on the console, as JSON, the kind and the name of each thing, how many, and what is wrong.
  */
 const { address, shown, features, looks, pictures, scripts } = JSON.parse(document.getElementById("tried").textContent);
-const [HEIGHT, WIDTH, SCHEME, MOST_MILLISECONDS] = [860, 1280, "light", 500];
+const [HEIGHT, WIDTH, SCHEME] = [860, 1280, "light"];
 
 const tell = (kind, name, wrong, number = 1) =>
   console.log(JSON.stringify({ kind, name, number, wrong: wrong.join("\n  ") }));
 const until = async (test) => { while (!test()) await new Promise((done) => setTimeout(done)); };
 
-/** The window of the page, and how many milliseconds after its start it was there, at the fastest. */
-let [page, fastest] = [null, Infinity];
+/** The window of the page. */
+let page = null;
 
 /** Opens the page anew, with a fragment of its address. */
 async function open(fragment, width = WIDTH, scheme = SCHEME) {
@@ -21,7 +21,6 @@ async function open(fragment, width = WIDTH, scheme = SCHEME) {
   document.body.replaceChildren(frame);
   await until(() => frame.contentWindow.superio);
   page = frame.contentWindow;
-  fastest = Math.min(fastest, page.superio.shownAfter);
 }
 
 const by = (id) => page.document.getElementById(id);
@@ -33,8 +32,8 @@ const register = (offset) => all("#registers .register:not([hidden])")[offset];
 const set = (id, value, event) => { by(id).value = value; by(id).dispatchEvent(new Event(event)); };
 /** Where the playback stopped. */
 let stops = [];
-/** What was copied. */
-let copied = "";
+/** What was copied, and the keys that do in the list what the page says and not what browsers do. */
+let [copied, taken] = ["", ""];
 /** The playback by hand: what the page asked for, the time, and what is seen of the button. */
 let [turn, now, plays] = [null, 0, []];
 
@@ -75,11 +74,13 @@ const STEPS = {
     for (const passed of milliseconds) turn(now += Number(passed));
     by("play").click();
     plays.push(`${by("play").textContent} ${SEEN.busy()}`);
-    turn(now + MOST_MILLISECONDS);
+    turn(now + 500);
   },
   /** Waits until the page has told the time again, as it does each second. */
   second: () => new Promise((done) => page.setTimeout(done, 1100)),
-  key: (key) => by("list").dispatchEvent(new KeyboardEvent("keydown", { key, cancelable: true })),
+  key: (key) => {
+    if (!by("list").dispatchEvent(new KeyboardEvent("keydown", { key, cancelable: true }))) taken += `${key} `;
+  },
   /** Runs a pasted script: lines, then others so many times, with a semicolon after each. */
   script: (...words) => {
     const [, first, times, others] = /^(.*) (\d+) times (.*)$/.exec(words.join(" "));
@@ -96,7 +97,11 @@ const STEPS = {
     by(id).click();
     await until(() => by("said").textContent);
   },
+  /** The host's time is this from now on, in seconds. */
+  time: (seconds) => { page.Date.now = () => Number(seconds) * 1000; },
   wait: (start) => until(() => SEEN.lines().includes(`${start} `)),
+  /** Until the times of the clock, which go on by themselves, have a text. */
+  times: (...words) => until(() => by("times").textContent.includes(words.join(" "))),
   play: async (times) => {
     for (by("speed").value = "60000"; stops.length < times; stops.push(by("boot-at").value)) {
       by("play").click();
@@ -117,6 +122,7 @@ const SEEN = {
   flipped: () => texts("#registers .flipped").join(" "),
   ignored: () => labels("#registers [aria-label$=ignored]"),
   invalid: () => labels("[aria-invalid=true]"),
+  disabled: () => labels(":disabled"),
   lit: () => texts("#port .lit").join(", "),
   held: () => by("fifo").querySelector("text").textContent,
   ring: () => all("#fifo path").map((path) => path.getAttribute("class") || "-").join(" "),
@@ -144,13 +150,15 @@ const SEEN = {
   start: () => texts("#fifo text")[2],
   opened: () => texts("details[open] summary").join(", "),
   copied: () => copied,
+  taken: () => taken.trim(),
+  stories: () => texts("#stories li").join(" "),
 };
 
 /** Tries a feature, of a name, steps and what is seen. */
 async function tryFeature(feature) {
   const [name, ...lines] = feature.split("\n");
   const wrong = [];
-  stops = [];
+  [stops, taken] = [[], ""];
   await open(lines[0].startsWith("#") ? lines.shift() : "");
   for (const line of lines) {
     const [, what, sign, wanted] = /^([\w-]+) ([=~]) ?(.*)$/.exec(line) ?? [];
@@ -233,6 +241,4 @@ for (const feature of features) await end("feature", feature.split("\n")[0], try
 for (const [width, scheme] of looks) await end("looks", `${width} ${scheme}`, tryLooks(width, scheme));
 for (const picture of pictures) await end("picture", picture[0], take(picture));
 if (scripts.length) await end("scripts", "all", tryScripts());
-if (fastest === Infinity) await open("");
-tell("loading", "all", fastest > MOST_MILLISECONDS ? [`the page took ${fastest} milliseconds at its fastest`] : []);
 console.log(JSON.stringify({ end: true }));

@@ -2,15 +2,18 @@
 """The page docs/try.html: what it has packed, and what it does in a headless Chromium.
 
 Each control does what features.txt says, and the console stays empty: the page lets the browser refuse any request. It
-fits two widths and two schemes of colours, its controls have names for a screen reader, and it loads fast. It replies
-to scripts as a search of the past does, and docs/try.svg and docs/try-narrow.svg show what it does; --write-pictures
-writes them anew.
+fits two widths and two schemes of colours, its controls have names for a screen reader, and it does little until it is
+there. It replies to scripts as a search of the past does, and docs/try.svg and docs/try-narrow.svg show what it does;
+--write-pictures writes them again.
 """
+import itertools
 import json
 import os
 import re
+import socket
 import subprocess
 import threading
+from contextlib import contextmanager
 from pathlib import Path
 
 import pytest
@@ -21,6 +24,7 @@ from script_tests import board_scripts
 
 HERE = Path(__file__).parent
 MOST_BYTES, RANDOM_SCRIPTS = 72_000, 10_000
+MOST_RUNS = 70_000   # of functions and of their parts, until the page is there
 # Frames of files may be read, and elements have the names that a screen reader says. The super-user has no sandbox.
 BROWSER = ["chromium", "--headless", "--disable-gpu", "--no-first-run", "--hide-scrollbars", "--window-size=1300,900",
            "--force-prefers-reduced-motion", "--enable-logging=stderr", "--allow-file-access-from-files",
@@ -44,7 +48,7 @@ DRAWN = """<svg xmlns="http://www.w3.org/2000/svg" width="{0}" height="{1}" view
 </svg>
 """
 FEATURES = re.sub(r"^# .*\n", "", (HERE / "features.txt").read_text("utf-8"), flags=re.M).strip().split("\n\n")
-FEATURES = {feature.split("\n")[0]: feature for feature in at_least(68, FEATURES)}
+FEATURES = {feature.split("\n")[0]: feature for feature in at_least(72, FEATURES)}
 LOOKS = {f"{width} {scheme}": (width, scheme) for width in (1280, 400) for scheme in ("light", "dark")}
 PICTURES = {picture[0]: picture for picture in PICTURES}
 LEAST_CONTROLS = 75   # in each of LOOKS
@@ -154,7 +158,7 @@ def test_looks(told, name):
 @pytest.mark.needs("chromium")
 @pytest.mark.parametrize("name", PICTURES)
 def test_picture(told, name, request):
-    """The picture of the documents is that of the page, but for its height, which depends on the fonts."""
+    """The picture of the documents shows the page. Only its height may differ, since it depends on the fonts."""
     said = told("picture", name)
     assert not said["wrong"]
     path, picture = ROOT / "docs" / name, DRAWN.format(*said["parts"]).replace("\r", "")
@@ -171,9 +175,62 @@ def test_scripts(told):
     assert said["number"] >= 12_300
 
 
+@contextmanager
+def debugged(folder):
+    """A browser with its debugger, as a context: a function that tells it something, and gives what it replies. Each
+    message is JSON, with a zero byte behind it. What the browser tells unasked goes by."""
+    ours, theirs = socket.socketpair()
+    words = ["bash", "-c", f'exec "$@" 3<&{theirs.fileno()} 4>&{theirs.fileno()}', "browser", *BROWSER,
+             "--remote-debugging-pipe", f"--user-data-dir={folder}"]
+    process = subprocess.Popen(words, stdout=subprocess.DEVNULL, stderr=subprocess.DEVNULL, pass_fds=[theirs.fileno()])
+    theirs.close()
+    ours.settimeout(LIMIT)
+    numbers, session, seen = itertools.count(1), {}, b""
+
+    def tell(method, **parameters):
+        nonlocal seen
+        number = next(numbers)
+        message = {"id": number, "method": method, "params": parameters, **session}
+        ours.sendall(json.dumps(message).encode() + b"\0")
+        while True:
+            while b"\0" not in seen:
+                piece = ours.recv(65536)
+                assert piece, "the browser ended"
+                seen += piece
+            reply, _, seen = seen.partition(b"\0")
+            reply = json.loads(reply)
+            if reply.get("id") == number:
+                return reply["result"]
+
+    try:
+        page = tell("Target.createTarget", url="about:blank")["targetId"]
+        session["sessionId"] = tell("Target.attachToTarget", targetId=page, flatten=True)["sessionId"]
+        yield tell
+    finally:
+        process.kill()
+        process.wait()
+        ours.close()
+
+
+# Awaits the page. Its own runs do not count, by the name that it has for the browser.
+UNTIL_THERE = """new Promise((done) => {
+  const at = setInterval(() => { if (window.superio) { clearInterval(at); done(); } });
+})
+//# sourceURL=awaits"""
+
+
 @pytest.mark.needs("chromium")
-def test_loading(told):
-    assert not told("loading")["wrong"]
+def test_runs_until_it_is_there(tmp_path):
+    """A page that is there fast, on any machine: the browser counts how often each part of its scripts runs."""
+    with debugged(tmp_path) as tell:
+        tell("Profiler.enable")
+        tell("Profiler.startPreciseCoverage", callCount=True, detailed=True)
+        tell("Page.navigate", url=PAGE.as_uri())
+        tell("Runtime.evaluate", expression=UNTIL_THERE, awaitPromise=True)
+        scripts = tell("Profiler.takePreciseCoverage")["result"]
+    runs = [part["count"] for script in scripts if script["url"] != "awaits"
+            for function in script["functions"] for part in function["ranges"]]
+    assert len(runs) > 100 and sum(runs) < MOST_RUNS
 
 
 @pytest.mark.needs("chromium")
