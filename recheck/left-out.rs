@@ -10,7 +10,7 @@ extern crate std;
 use core::fmt;
 
 use crate::console::output_ring::OutputRing;
-use crate::saved::SavedStateError;
+use crate::devices::saved::SavedStateError;
 
 impl fmt::Debug for OutputRing {
     fn fmt(&self, f: &mut fmt::Formatter) -> fmt::Result {

@@ -3,7 +3,7 @@
 use core::fmt;
 
 use crate::console::output_ring::OutputRing;
-use crate::saved::SavedStateError;
+use crate::devices::saved::SavedStateError;
 
 /// Not its 4,096 bytes.
 impl fmt::Debug for OutputRing {
