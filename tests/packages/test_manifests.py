@@ -143,3 +143,10 @@ def test_rules_test_unless_told_not_to(options, tests):
     """The build of the packages tests the library."""
     ran = run(["make", "-n", "-f", "debian/rules", "override_dh_auto_test", f"DEB_BUILD_OPTIONS={options}"], cwd=ROOT)
     assert ran.returncode == 0 and ("debian/build/calls\n" in ran.stdout) == tests, ran.stdout
+
+
+@pytest.mark.needs("debian")
+def test_rules_refuse_other_functions():
+    """A build fails if the library shows a function that debian/libsuperio*.symbols lacks, or lacks one that is there."""
+    assert run(["make", "-n", "-f", "debian/rules", "override_dh_makeshlibs"], cwd=ROOT).stdout.splitlines()[-1] \
+        == "dh_makeshlibs -- -c4"
