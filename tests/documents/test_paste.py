@@ -19,7 +19,8 @@ from documents import HEADING, Document, copy_repository
 from harness import ROOT, at_least, run
 from program import alone
 
-DOCUMENTS = ("README.md", "CONTRIBUTING.md", "docs/*.md", "bindings/*/README.md", "tests/README.md")
+DOCUMENTS = ("README.md", "CONTRIBUTING.md", "docs/*.md", "bindings/*/README.md", "examples/*/README.md",
+             "tests/README.md")
 # Their commands are for a folder of the user's own, and for a host with KVM, where tests/kvm runs them.
 ELSEWHERE = ("docs/RATTLE.md", "docs/CLAIMS.md", "docs/MONITOR.md")
 KIT = re.compile(r"^(?:rt|tools/run|tools/prebuild)\b", re.M)

@@ -16,7 +16,7 @@ from superio.view import _PLACES, Viewer, table
 
 RECORDING = ROOT / "examples" / "linux-boot" / "boot.recording.xz"
 WITH_INPUT = RECORDING.with_name("console.recording.xz")
-FIGURE = ROOT / "docs" / "linux-boot.svg"
+FIGURE = RECORDING.with_name("linux-boot.svg")
 
 TRACE = b"""\
 # both conditions, a refusal, and a reset
