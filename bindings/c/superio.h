@@ -543,9 +543,10 @@ typedef struct superio_console_receive_effects {
  *
  * A driver tests the port before it uses it, and throws away some or all of
  * what it finds in the FIFO. So input waits until the guest is ready, which it
- * shows by a write of IER that enables RDA and not THRE. No driver that we ran
- * leaves IER like this while it tests a port. From then on the guest stays
- * ready, whatever it enables, until the machine is reset or suspended.
+ * shows by a write at offset 1 that leaves IER with RDA and without THRE. No
+ * driver that we ran leaves IER like this while it tests a port. From then on
+ * the guest stays ready, whatever it enables, until the machine is reset or
+ * suspended.
  *
  * A guest that polls, such as a boot loader, never gets ready in this way, and
  * neither does one that enables RDA only together with THRE. For such a guest
@@ -659,8 +660,9 @@ superio_console_work superio_console_reset(superio_console *console)
 
 /*
  * The guest is suspended to memory. Input waits from now on, even if the guest
- * polls, until a reset or until a write of IER shows that a driver is ready.
- * This leaves no work.
+ * polls, until a reset or until a write at offset 1 leaves IER with RDA and
+ * without THRE (a write of DLM with such an IER counts too). This leaves no
+ * work.
  */
 void superio_console_suspend(superio_console *console)
     SUPERIO_NONNULL SUPERIO_ACCESS(read_write, 1);

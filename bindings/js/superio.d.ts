@@ -159,7 +159,7 @@ export class Console {
   /**
    * A new port, and no output that waits. If `isPolled`, input goes in at once, as a guest needs it that polls the
    * port, such as a boot loader. Otherwise, and by default, it waits until the guest's driver is ready: until a write
-   * of IER enables RDA and not THRE.
+   * at offset 1 leaves IER with RDA and without THRE.
    */
   constructor(isPolled?: boolean);
   /** The guest reads at an offset. */
@@ -207,7 +207,8 @@ export class Console {
   reset(): Work;
   /**
    * The guest's machine sleeps in memory. It is reset when it wakes, so input waits from now on, even if the guest
-   * polls, until a reset or until a write of IER shows that a driver is ready. This leaves no work.
+   * polls, until a reset or until a write at offset 1 leaves IER with RDA and without THRE (a write of DLM with such an
+   * IER counts too). This leaves no work.
    */
   suspend(): void;
   /** Says whether the guest polls from now on. One guest may do both: its loader polls, and its kernel does not. */

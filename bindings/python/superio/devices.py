@@ -129,8 +129,8 @@ class Console(Saved):
     event loop has to come back. It calls nothing, and knows no file, thread or time: you carry out the `Work` of each
     call, and your event loop polls for what `wants` says.
 
-    Without `polled`, input waits until the guest's driver is ready: until a write of IER enables RDA and not THRE. With
-    it, input goes in at once, as a guest needs it that polls the port, such as a boot loader.
+    Without `polled`, input waits until the guest's driver is ready: until a write at offset 1 leaves IER with RDA and
+    without THRE. With it, input goes in at once, as a guest needs it that polls the port, such as a boot loader.
 
     >>> console = Console()
     >>> console.write("IER", 0x01)
@@ -247,8 +247,8 @@ class Console(Saved):
     def suspend(self) -> None:
         """The guest's machine sleeps in memory. It is reset when it wakes, so input waits from now on.
 
-        It waits until a reset or until a write of IER shows that a driver is ready, even if the guest polls. This
-        leaves no work.
+        It waits, even if the guest polls, until a reset or until a write at offset 1 leaves IER with RDA and without
+        THRE (a write of DLM with such an IER counts too). This leaves no work.
         """
         self._library.superio_console_suspend(self._pointer)
 
