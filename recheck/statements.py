@@ -34,7 +34,9 @@ CLAIMS = """The six claims of docs/PROOFS.md, proved again. Below each sentence 
     as Coq prints it. Only the theorem is proved: judge whether the sentence says the same. After the line that begins
     with 'These are all the theorems' come the definitions. A name that begins with `rs_` is a function of Rust, as our
     translator reads it. If the result is `Some`, the call returns, and does not panic or hang. `valid_Uart` and the
-    other names that begin with `valid_` should hold of every value that Rust can make. Judge whether they do. `inhabited` of a record of facts holds if all these facts hold."""
+    other names that begin with `valid_` should hold of every value that Rust can make. Judge whether they do.
+    `inhabited` of a record of facts holds if all these facts hold: it says that the record has a value, and a value has
+    a proof of each fact."""
 JUDGED = """These are all the theorems of the six claims. Below are the definitions that they use, each after the
     definitions that it uses itself. Judge these too. You need read nothing else to judge the claims."""
 OTHERS = """What is proved beside claims.txt, as Coq prints it: the other theorems, by topic; laws that have conditions,
