@@ -82,25 +82,30 @@ def check_both(guest):
     assert guest.until(b"  -\n", PATIENCE) == digest(sent + content)
 
 
+def next_sum(guest, all_came, seconds):
+    """The sum that the guest says next. Before it the monitor may say how many bytes have come while some wait: once all
+    have come, the sum is awaited for so many seconds."""
+    said = b"0"
+    while said.isdigit():
+        said = guest.until(b"  -\n", seconds if said == all_came else PATIENCE)
+    return said
+
+
 def check_stall(guest):
-    """Without the character timeout a burst waits until one more byte comes, and has lost nothing. One that comes while
-    the handler finds the FIFO empty does not wait, so this makes others until one does: the monitor says so."""
+    """Without the character timeout a burst waits until one more byte comes, and has lost nothing. It does not wait if
+    the handler finds the FIFO empty, or runs once more to send. So this makes bursts until one waits."""
     run(guest, "stty cstopb")  # the monitors of this test make no timeout then, and say what has come and waits
     before = guest.sent
     for number in count():
         content = printable(BURST, f"burst {number}")
         begin_raw(guest, f"head -c {BURST} | md5sum")
         guest.send(content)
-        all_came, said = str(guest.sent - before).encode(), b"0"
-        while said.isdigit() and said != all_came:
-            said = guest.until(b"  -\n", PATIENCE)
-        if said == all_came:
-            break
-        assert said == digest(content)
-    with pytest.raises(Stalled):
-        guest.until(b"  -\n", STALL)
-    guest.send(b"\n")
-    assert guest.until(b"  -\n", PATIENCE) == digest(content)
+        try:
+            assert next_sum(guest, str(guest.sent - before).encode(), STALL) == digest(content)
+        except Stalled:
+            guest.send(b"\n")
+            assert next_sum(guest, b"", PATIENCE) == digest(content)
+            return
 
 
 def check_clock(guest):
