@@ -9,7 +9,8 @@
 //! - Of a clock: [`read`](Rtc::read), [`write`](Rtc::write), [`read_at`](Rtc::read_at), [`write_at`](Rtc::write_at),
 //!   [`interrupt_line`](Rtc::interrupt_line), [`alarm_due`](Rtc::alarm_due) and [`snapshot`](Rtc::snapshot).
 //! - Of saved states: [`SerialState::to_bytes`], [`SerialState::is_coherent`] and
-//!   [`RtcSnapshot::to_bytes`](rtc_pl031::RtcSnapshot::to_bytes).
+//!   [`RtcSnapshot::to_bytes`](rtc_pl031::RtcSnapshot::to_bytes) and
+//!   [`to_five`](rtc_pl031::RtcSnapshot::to_five).
 #![forbid(unsafe_code)]
 #![deny(missing_docs)]
 #![deny(missing_copy_implementations)]

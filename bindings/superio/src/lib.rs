@@ -6,7 +6,9 @@
 //! - Of a console: [`wants`](console::Console::wants), [`refuse`](console::Console::refuse),
 //!   [`reset`](console::Console::reset) and [`suspend`](console::Console::suspend).
 //! - Of a port: [`character_timeout`](Uart::character_timeout).
-//! - Of a clock: [`interrupt_line`](Pl031::interrupt_line) and [`alarm_due`](Pl031::alarm_due).
+//! - Of a clock: [`interrupt_line`](Pl031::interrupt_line), [`alarm_due`](Pl031::alarm_due) and
+//!   [`from_state`](Pl031::from_state); of its state [`to_bytes`](RtcState::to_bytes) and
+//!   [`from_bytes`](RtcState::from_bytes).
 //!
 //! ## A FIFO of your own
 //!
