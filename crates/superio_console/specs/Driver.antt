@@ -99,7 +99,8 @@ pub record AllIsThrough
       → (more : List ℕ) × (sent driver start end
       ≡ sent driver start before ++ take (free_runs driver before (runs_of runs c)) (left driver start before) ++ more)
 
--- with the driver's conditions alone, no byte waits for ever, in either direction
+-- if the runs keep the driver's conditions, they read and send the first bytes first, and after each of them the guest
+-- is interrupted for what is left. The monitor's part is done by the console's calls
 abbrev pub EachByteIsThroughLaw : Type 0
 EachByteIsThroughLaw = (driver : Driver) (start : State) (before : Trace) (c : ConsoleState) (runs : List (List Call))
     → IsAt start before c → AreRuns driver start before runs c → AllIsThrough driver start before runs c

@@ -122,7 +122,7 @@ is_refusal Refuses c = true
 is_refusal call c = false
 
 -- one of these calls asked for an interrupt, and since then the guest did not read IIR, and no interrupt was refused.
--- So it was raised, and runs the guest's driver
+-- So a monitor that raises what calls ask for has raised it, and the guest has not answered it yet
 pub record IsRaised (calls : List Call) (c : ConsoleState) : Type 0 where
   pub earlier : List Call
   pub call : Call

@@ -44,11 +44,16 @@ pub fn refusals()
 }
 
 /// These laws hold for any guest, as long as it is not reset. Suppose that a condition is pending in the end and was
-/// not pending at first, as after a read of IIR. Then one of the calls asked for the interrupt, and the guest is
-/// interrupted. For edges this means that no `refuse` followed since a call asked, and the guest did not read IIR; or
-/// that `wants` names a turn, which asks. If IER masks the condition, the write that enables it asks. For levels it
-/// means that the line is up while IER enables the condition. The same holds for RDA while bytes are held: if RDA is
-/// not pending yet, `wants` names a turn, which asks and leaves the line up.
+/// not pending at first, as after a read of IIR. Then one of the calls asked for an interrupt, and the guest is
+/// interrupted.
+///
+/// For edges this means one of two things. Either a call asked for an interrupt, and since then there was no `refuse`
+/// and the guest did not read IIR. Or an interrupt is due: if IER enables the condition, `wants` names a turn, which
+/// asks, and if IER masks it, the write that enables it asks. For levels it means that the line is up while IER enables
+/// the condition.
+///
+/// The same holds for RDA while bytes are held. If RDA is not pending yet, `wants` names a turn, which asks and leaves
+/// the line up.
 pub fn interrupted()
     ensures asked { AskedLaw }
     ensures pending { PendingLaw }
@@ -66,17 +71,21 @@ pub fn sending()
 }
 
 /// The bytes that the guest read out and those that resets lost, followed by those held, are those held at first,
-/// followed by those that arrived: the input that went in, and the bytes that the guest looped back, each in order.
+/// followed by those that arrived, all in order. What arrives is the input that went in, and each byte that the guest
+/// looped back while the FIFO had room.
 pub fn input()
     ensures in_order { InputLaw }
 {
     by_lemmas();
 }
 
-/// When input goes in. After `new` and after a reset, no input goes in before a write of IER that enables RDA and not
-/// THRE, unless the guest polls. After a suspend, none goes in before such a write or a reset, even if the guest polls.
-/// From such a write on, until a reset or a suspend, `wants` names all the room of the FIFO outside loopback. While the
-/// guest polls and does not sleep, `wants` always names it.
+/// When input goes in. A driver shows that it is ready by a write at the offset of IER that leaves IER with RDA enabled
+/// and THRE not. A write of DLM counts too, if IER is so already.
+///
+/// After `new` and after a reset, no input goes in before such a write, unless the guest polls. After a suspend, none
+/// goes in before such a write or a reset, even if the guest polls. From such a write on, until a reset or a suspend,
+/// `wants` names all the room of the FIFO outside loopback. While the guest polls and does not sleep, `wants` always
+/// names it.
 pub fn gate()
     ensures shut { GateLaw }
     ensures asleep { SleepLaw }
@@ -86,8 +95,9 @@ pub fn gate()
     by_lemmas();
 }
 
-/// Suppose that in each run that begins while a byte is held, at least one byte leaves the FIFO, by a read of RBR or by
-/// a reset. Then the bytes held at first leave first, in order, at least one in each run, whatever arrives meanwhile.
+/// A run is a list of calls. Suppose that in each run that begins while a byte is held, at least one byte leaves the
+/// FIFO, by a read of RBR or by a reset. Then the bytes held at first leave first, in order, at least one in each run
+/// until none of them is left, whatever arrives meanwhile.
 #[tactic(auto, using(crate::proofs::Lemmas::Taken::taken_law))]
 pub fn taken()
     ensures { TakenLaw }
@@ -118,15 +128,18 @@ pub fn history()
     by_lemmas();
 }
 
-/// If a driver keeps the driver's conditions of `superio_laws::console_driver`, no byte waits for ever, in either
-/// direction. The monitor has three duties: it makes a turn while `wants` names one, raises each interrupt that a call
-/// tells it to raise, and calls `refuse` if it cannot.
+/// This law supposes that each of a driver's runs keeps the driver's conditions of `superio_laws::console_driver`, and
+/// that no run has a reset.
 ///
 /// After each run the guest is interrupted, as [`interrupted`] says, if bytes are held, or if the driver has bytes left
-/// to send and flow control does not stop it. No turn has to come first if the driver read IIR until nothing was
-/// pending, and IER enables RDA. Each run reads out at least one of the bytes held at first, in order, and each run
-/// without a stop sends at least one of the bytes left to send. So a byte that has i bytes before it in its direction
-/// is through within i + 1 such runs, whatever arrives meanwhile.
+/// to send and flow control does not stop it. If bytes are held, IER enables RDA, and the driver read IIR until nothing
+/// was pending, then RDA is pending at once, without a turn. The bytes held at first are read out first, in order, at
+/// least one in each run until none of them is left. If the driver sends its bytes in order, the same holds for the
+/// bytes left to send at first, with each run in which flow control did not stop it.
+///
+/// So a byte that has i bytes before it in its direction is through after i + 1 such runs, whatever arrives meanwhile.
+/// That these runs come is up to two others. The monitor makes a turn while `wants` names one, raises each interrupt
+/// that a call tells it to raise, and calls `refuse` if it cannot. The guest runs its handler when it is interrupted.
 pub fn each_byte_is_through()
     ensures { EachByteIsThroughLaw }
 {

@@ -174,8 +174,8 @@ InputInOrder events replies old new =
     KeepsInput (in_each left_at (calls_of events) old.console) (accepted events replies)
     (in_each looped_at (calls_of events) old.console) old.console new.console
 
--- a call after which input may go in: a ready driver's write of IER, the monitor's word that the guest polls, or a
--- reset of a guest that polls
+-- a call after which input may go in: a write that shows that a driver is ready, the monitor's word that the guest
+-- polls, or a reset of a guest that polls
 abbrev pub may_open : (call : Call) (c : ConsoleState) → Bool
 may_open call c = is_ready_write call c || lets_poll call c || (is_reset call c && c.is_polled)
 

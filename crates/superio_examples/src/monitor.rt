@@ -248,8 +248,8 @@ impl Monitor {
         }
     }
 
-    /// A law: if a guest's driver keeps the conditions of `superio_laws::console_driver`, no byte waits for ever, in
-    /// either direction, as [`superio_console::laws::each_byte_is_through`] says.
+    /// A law: what [`superio_console::laws::each_byte_is_through`] says of a driver's runs holds for this monitor's
+    /// console.
     pub fn each_byte_is_through()
         ensures { EachByteIsThrough }
     {

@@ -1,6 +1,7 @@
 -- SPDX-License-Identifier: Apache-2.0 OR BSD-3-Clause
--- The laws of a console: a driver takes received bytes and sends its own when an interrupt runs it, and a monitor
--- makes character timeouts. No byte waits for ever, in either direction.
+-- The laws of a driver that takes received bytes and sends its own when an interrupt runs it, over a port whose monitor
+-- makes character timeouts. After each run an interrupt has been asked for, for what is held and for what is left to
+-- send, and each run moves the first bytes first.
 use Rattle.std.specs.Prelude.{◌≡◌, ⊤, ℕ, ◌+◌, ◌<◌, ◌≤◌, Bool, false, not, ◌&&◌, ◌||◌, if◌then◌else◌, List, [], ◌∷◌, ◌++◌, length, take, drop, ◌⊎◌, IsTrue}
 use Rattle.superio_laws.specs.Serial.{Asked, is_refused_at_once, count_if, TraceEntry, Trace, IirRead, IerWrite, ThrWrite, is_iir_read, is_rbr_read, sent_by, has_bits, State, not_empty, Rda, Thre, Condition, ier_bit}
 use Rattle.superio_laws.specs.Serial.History.{ier_after, held_bytes, read_out_bytes, decode_at, is_call_due, is_pending, NoneAcknowledges}

@@ -29,7 +29,7 @@ abbrev pub RdaFollowsTimeoutsLaw : Type 0
 RdaFollowsTimeoutsLaw =
     (start : State) (trace : Trace) → IsTrue (is_fitting start trace) → RdaFollowsTimeouts start trace
 
--- ---- a driver that is run by interrupts, whatever else it does: no byte waits for ever
+-- ---- a driver that is run by interrupts, whatever else it does: its runs take all that is held
 
 -- entries after `before`, newest first, of a driver's run, and of others meanwhile, such as the host. They take a byte
 -- if one is held at first, and the last reads IIR
