@@ -82,9 +82,10 @@
  * superio_serial_interrupt_line(&console.port).
  *
  * With such a loop no byte waits for ever, neither one that the console has
- * accepted nor one that the guest has to send. This holds for each driver that
- * meets the conditions of the law each_byte_is_through in docs/THEOREM.md. The
- * drivers of Linux and Xen meet them. examples/c/monitor.c is a whole program.
+ * accepted nor one that the guest has to send. We conclude this from the law
+ * each_byte_is_through in docs/THEOREM.md, for each driver that meets its
+ * conditions. By our reading, the drivers of Linux and Xen do. A whole program
+ * is examples/c/monitor.c.
  *
  * If you want the port alone, without a queue of output and a gate for input,
  * take a superio_serial. docs/PORT.md says what you then do yourself.
