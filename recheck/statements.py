@@ -30,10 +30,11 @@ IMPORTED = ("Prelude", "Machine", "Definitions", "Code", "Acts", "ShellCode", "C
 KEYWORD = r"(?:Theorem|Definition|Fixpoint|Inductive|CoInductive|Variant|Record)"
 SCHEME = re.compile(r"\w+_(?:ind|sind|rec|rect)")
 SEPARATOR = "I\n     : True\n"  # what `Check I.` prints
-CLAIMS = """The six claims of docs/PROOFS.md, proved again. Below each sentence of ours stands the theorem that says it,
-    as Coq prints it. Only the theorem is proved: judge whether the sentence says the same. After the line that begins
-    with 'These are all the theorems' come the definitions. A name that begins with `rs_` is a function of Rust, as our
-    translator reads it. If the result is `Some`, the call returns, and does not panic or hang. `valid_Uart` and the
+CLAIMS = """The six claims of docs/PROOFS.md, proved again. Under the words of each claim stand the theorems that we
+    chose for it by hand: no tool judges whether together they say what the claim says. Above each theorem stands a
+    sentence of ours, and below it the theorem as Coq prints it. Only the theorem is proved: judge whether the sentence
+    says the same. After the line that begins with 'These are all the theorems' come the definitions. A name that begins
+    with `rs_` is a function of Rust, as our translator reads it. If the result is `Some`, the call returns, and does not panic or hang. `valid_Uart` and the
     other names that begin with `valid_` should hold of every value that Rust can make. Judge whether they do.
     `inhabited` of a record of facts holds if all these facts hold: it says that the record has a value, and a value has
     a proof of each fact."""
