@@ -1,6 +1,6 @@
 # SPDX-License-Identifier: Apache-2.0 OR BSD-3-Clause
 """Wrong bodies and wrong definitions, one at a time: Coq has to refuse each, in the proof about it. And harmless
-changes, which have to pass. They take ten minutes of a processor, so they run at a release, with RECHECK_PLANTS set."""
+changes, which have to pass. Each proves a part again, so they run at a release, with RECHECK_PLANTS set."""
 import os
 import shutil
 
