@@ -105,7 +105,7 @@ pub struct Console {
 impl Console {
     /// Makes a console with a new port and no output. Set `is_polled` for a guest that polls the port, such as a boot
     /// loader: input then goes in at once. Otherwise input waits until the guest's driver is ready, that is, until a
-    /// write of IER enables RDA and not THRE.
+    /// write at the offset of IER leaves IER with RDA enabled and THRE not.
     // Clauses in crates/superio_console/src/lib.rt: state, coherent.
     pub fn new(is_polled: bool) -> Console {
         Console {
@@ -141,7 +141,7 @@ impl Console {
     /// The guest writes `value` at `offset` from the port's base. A byte that it sends waits for the reader. If 4,096
     /// bytes wait already, the byte is dropped and counted: [`is_full`](Self::is_full) tells before the write.
     ///
-    /// A write of IER asks again for a refused interrupt.
+    /// A write at the offset of IER asks again for a refused interrupt.
     // Clauses in crates/superio_console/src/lib.rt: work, at_most_2, state, coherent.
     pub fn write(&mut self, offset: u8, value: u8) -> Work {
         if !may_change_wants(offset) {
@@ -245,7 +245,8 @@ impl Console {
     }
 
     /// The guest's machine goes to sleep in memory. It is reset when it wakes, so input waits from now on, even if the
-    /// guest polls, until a reset or until a write of IER shows that a driver is ready. This leaves no work.
+    /// guest polls, until a reset or until a driver shows that it is ready, as [`new`](Self::new) says. This leaves no
+    /// work.
     // Clauses in crates/superio_console/src/lib.rt: state, port.
     pub fn suspend(&mut self) {
         self.is_ready = 0;
@@ -285,8 +286,8 @@ impl Console {
     ///
     /// # Errors
     ///
-    /// Returns the first check that fails, in the order of [`SavedStateError`]. A console never fails with
-    /// [`SavedStateError::InvalidArmed`].
+    /// Returns the first check that fails. The console's own bytes are checked first, then those of its port, both in
+    /// the order of [`SavedStateError`]. A console never fails with [`SavedStateError::InvalidArmed`].
     // Clauses in crates/superio_console/src/lib.rt: encoding, at_most_64, read, fault.
     pub fn from_bytes(bytes: &[u8]) -> Result<Console, SavedStateError> {
         let (flags, dropped, output, port) = decode_console(bytes)?;
