@@ -116,7 +116,7 @@ def test_one_call(tmp_path):
 @pytest.mark.parametrize("document, of, typed, printed", [
     ("README.md", "Console", "", HI), ("README.md", "Trigger", "", "!"), ("docs/RUST.md", "Cell", "", "h"), ("docs/RUST.md", "from_snapshot", "", "h"),
     ("docs/RUST.md", "CONSOLE_SAVED_MAX", "", "h"), ("docs/RUST.md", "Pl031", "", "the line is up: true\n"),
-    ("docs/USING.md", "fn main", "hello\n", "HELLO\n"),
+    ("docs/RUST.md", "fn serve_input", "hello\n", "HELLO\n"),
     ("docs/PORT.md", "Serial", "", "all came back\n")])
 def test_rust(document, of, typed, printed, tmp_path):
     """By the lines for Cargo.toml in README.md. The `Machine` of docs/PORT.md is around a guest."""
