@@ -57,7 +57,7 @@ def listed():
 
 def likely():
     """The edits and tests that the table of likely bugs names."""
-    table = Document("docs/WRONG-BODIES.md").text.split("| A port that |")[1].split("\n\n")[0]
+    table = Document("docs/WRONG-BODIES.md").text.split("| What the port does wrong |")[1].split("\n\n")[0]
     return CODE.findall(table)
 
 

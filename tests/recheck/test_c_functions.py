@@ -15,7 +15,8 @@ FUNCTION = r"^.*\bfn (\w+)"
 
 def test_unsafe_lines_are_listed():
     listed = re.search(r"```rust\n(.*?)```", RECHECK.partition("\n## The C functions\n")[2], re.S)[1].splitlines()
-    assert listed == [line.strip() for line in SOURCE.splitlines() if re.search(r"\bunsafe\b", line)]
+    found = [line.strip() for line in SOURCE.splitlines() if re.search(r"\bunsafe\b", line)]
+    assert [line.strip() for line in listed if line] == found  # the page leaves a line between functions
 
 
 def test_what_is_left_out():
