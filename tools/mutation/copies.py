@@ -2,7 +2,9 @@
 """Copies of the repository, in which a mutant can do no harm."""
 import shutil
 import subprocess
+from concurrent.futures import ThreadPoolExecutor
 from contextlib import contextmanager
+from queue import Queue
 
 from cargo import Cargo
 
@@ -45,3 +47,22 @@ class Copy:
             yield
         finally:
             path.write_text(text, encoding="utf-8")
+
+
+class Copies:
+    """Copies that are used side by side, each by one thread at a time."""
+
+    def __init__(self, root, folder, count):
+        self.free, self.threads = Queue(), ThreadPoolExecutor(count)
+        for number in range(count):
+            self.free.put(Copy(root, folder / str(number)))
+
+    def map(self, use, items):
+        """What `use` of an item and a copy returns, item by item, as soon as it and all before it are known."""
+        def used(item):
+            copy = self.free.get()
+            try:
+                return use(item, copy)
+            finally:
+                self.free.put(copy)
+        return self.threads.map(used, items)
