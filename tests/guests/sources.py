@@ -132,8 +132,9 @@ def found_in_blocks(archive, paths):
     for path in paths:
         name = f"{top}/{path}"
         _, number = begins[max(bisect_right(begins, (name, len(places))) - 1, 0)]
-        start = read(number).find(name.encode() + b"\0")
-        if start >= 0 and start % HEADER == 0:
+        named = re.finditer(re.escape(name.encode() + b"\0"), read(number))
+        start = next((match.start() for match in named if match.start() % HEADER == 0), None)
+        if start is not None:
             text = read(number)[start:]
             end = HEADER + tarfile.TarInfo.frombuf(text[:HEADER], "utf-8", "strict").size
             while end > len(text):   # the file goes on in the next block

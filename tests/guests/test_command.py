@@ -49,6 +49,7 @@ def test_unpacked_files(tmp_path, words, is_in_order):
     archive if it has no blocks, or another order."""
     texts = {f"{folder}/{number}": random.Random(number).randbytes(number)
              for folder in ("a", "b.c", "b") for number in (0, 100, 5000, 60000, 200000)}
+    texts["a/200000"] += b"top-1.0/a/5000\0"   # which is no header
     names = sorted(texts) if is_in_order else sorted(texts, reverse=True)
     with tarfile.open(tmp_path / "archive", "w") as archive:
         for name in names:
