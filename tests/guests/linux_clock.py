@@ -49,8 +49,8 @@ class Clock(NamedTuple):
     def verify(self, cbmc, entry, monitor):
         """What CBMC says of an entry of clock_prove.c for a monitor with these faults, for which it is compiled once."""
         faults = "".join(f"[{fault}]=true," for fault in monitor.faults)
-        built = compiled_once(compiler_of(cbmc), HARNESS / "clock_prove.c", self.folder / "-".join(["clock", *monitor.faults]),
-                              *self.words, f"-DHAS={faults or 0}")
+        built = compiled_once(compiler_of(cbmc), HARNESS / "clock_prove.c",
+                              self.folder / "-".join(["clock", *monitor.faults]), *self.words, f"-DHAS={faults or 0}")
         return assertions([*cbmc, built, "--function", entry, "--unwind", "3"])
 
 
