@@ -3,6 +3,7 @@
 out/guests/cbmc."""
 import shutil
 import subprocess
+from pathlib import Path
 
 from debian import download, make_whole
 from sources import KEPT
@@ -27,6 +28,11 @@ def fetched():
     if not installed():
         make_whole(FOLDER, lambda folder: download(folder, RELEASE, PACKAGES))
     return installed()
+
+
+def compiler_of(command):
+    """The words of a command that runs CBMC's compiler of C, which stands beside it."""
+    return [*command[:-1], Path(command[-1]).with_name("goto-cc")]
 
 
 def version(command):

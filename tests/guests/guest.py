@@ -5,6 +5,7 @@ import re
 from pathlib import Path
 from typing import NamedTuple
 
+from cbmc import compiler_of
 from documents import Document
 from harness import ROOT, check, run
 from sources import HERE
@@ -41,6 +42,10 @@ class Monitor(NamedTuple):
     faults: tuple = ()
     has_console: bool = False
 
+    @property
+    def name(self):
+        return "-".join(["levels" if self.has_level else "edges", *self.faults, *["console"] * self.has_console])
+
     def text(self):
         return "" if self.has_console else port_code(self.has_level, self.faults)
 
@@ -68,34 +73,54 @@ def port_code(has_level, faults):
 
 
 class Driver(NamedTuple):
-    """A driver in a folder, by its own text, with the folder of its harness and what a compiler of C has to be told."""
+    """A driver in a folder, by its own text, with the folder of its harness and what a compiler of C has to be told. The
+    driver is compiled once for all monitors, and each monitor once."""
     folder: Path
     harness: Path
     words: list
-    proof: list  # and CBMC beside it
+    proof: list        # what CBMC has to be told beside it
+    files: tuple = ()  # of C, beside each program of the harness
 
-    def all_words(self, monitor):
-        (self.folder / "port.c").write_text(monitor.text(), encoding="utf-8")
-        return [f"-I{self.folder}", f"-I{self.folder}/include", f"-I{self.harness}", f"-I{ROOT}/bindings/c",
-                *self.words, *monitor.options]
+    def driver_object(self, compiler, file, *options):
+        return compiled_once(compiler, file, self.folder / f"{file.stem}{''.join(options)}", *options, f"-I{self.folder}",
+                             f"-I{self.folder}/include", f"-I{self.harness}", f"-I{ROOT}/bindings/c", *self.words)
+
+    def monitor_object(self, compiler, monitor):
+        folder = self.folder / monitor.name
+        folder.mkdir(exist_ok=True)
+        (folder / "port.c").write_text(monitor.text(), encoding="utf-8")
+        return compiled_once(compiler, HERE / "monitor" / "monitor.c", folder / "monitor", f"-I{folder}",
+                             f"-I{ROOT}/bindings/c", *monitor.options)
 
     def compiled(self, program, library, monitor, *options):
         """A program of the harness over the C library. Its text is mostly the driver's, so no warning of it counts."""
+        compiler = ["gcc", "-std=gnu11", "-w", "-O1"]
+        objects = [self.driver_object(compiler, file, *options) for file in (self.harness / program, *self.files)]
         built = self.folder / Path(program).stem
-        check(["gcc", "-std=gnu11", "-w", "-O1", *self.all_words(monitor), *options, self.harness / program, library,
-               "-o", built])
+        check(["gcc", *objects, self.monitor_object(compiler, monitor), library, "-o", built])
         return built
 
     def verify(self, cbmc, entry, monitor, *options):
-        """What CBMC says of an entry of prove.c."""
-        return assertions([*cbmc, *self.all_words(monitor), *options, "-DABSTRACT_BYTES", self.harness / "prove.c",
-                           HERE / "monitor" / "device.c", "--function", entry, *self.proof])
+        """What CBMC says of an entry of prove.c, which itself depends on the kind of line and on the poll's limit."""
+        compiler = compiler_of(cbmc)
+        objects = [self.driver_object(compiler, self.harness / "prove.c", *options, *monitor.options),
+                   self.monitor_object(compiler, monitor),
+                   self.driver_object(compiler, HERE / "monitor" / "device.c", "-DABSTRACT_BYTES")]
+        return assertions([*cbmc, *objects, "--function", entry, *self.proof])
+
+
+def compiled_once(compiler, file, built, *words):
+    """What a compiler makes of a file of C, if it has not made it before."""
+    built = built.with_name(f"{built.name}.{Path(compiler[-1]).name}")
+    if not built.exists():
+        check([*compiler, "-c", file, *words, "-o", built])
+    return built
 
 
 def assertions(command):
     """What CBMC says, told these words: each assertion's text, and whether it holds."""
     said = run([*command, "--drop-unused-functions", "--slice-formula", "--object-bits", "12", "--no-standard-checks",
-                "--unwinding-assertions"])
+                "--unwinding-assertions", "--max-field-sensitivity-array-size", "8"])   # the FIFO is one variable
     found = re.findall(r"^\[\S+\] line \d+ (.*): (SUCCESS|FAILURE)$", said.stdout, re.M)
     failed = ["FAILURE" for _, result in found if result == "FAILURE"]
     assert f"VERIFICATION {'FAILED' if failed else 'SUCCESSFUL'}\n" in said.stdout and found, said.stdout

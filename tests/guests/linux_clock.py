@@ -1,8 +1,10 @@
 # SPDX-License-Identifier: Apache-2.0 OR BSD-3-Clause
 """Linux's driver of a PL031, as it is in Debian's source, around a clock in a monitor: what is compiled of both."""
+from pathlib import Path
 from typing import NamedTuple
 
-from guest import assertions
+from cbmc import compiler_of
+from guest import assertions, compiled_once
 from harness import ROOT, check
 from sources import HERE, extract, sources
 
@@ -30,12 +32,13 @@ def write(folder):
     (folder / "clock_driver.c").write_text("\n".join(text), encoding="utf-8")
     (folder / "clock_alone.c").write_text(text[0], encoding="utf-8")
     linux /= "include"
-    return Clock([f"-I{path}" for path in (
+    return Clock(folder, [f"-I{path}" for path in (
         folder, folder / "include", HARNESS, ROOT / "bindings/c", linux, linux / "uapi")])
 
 
 class Clock(NamedTuple):
-    """The driver, by what a compiler of C has to be told to find it."""
+    """The driver in a folder, by what a compiler of C has to be told to find it."""
+    folder: Path
     words: list
 
     def compiled(self, built, library):
@@ -43,11 +46,12 @@ class Clock(NamedTuple):
         check(["gcc", "-std=gnu11", "-w", "-O1", *self.words, HARNESS / "clock.c", library, "-o", built])
         return built
 
-    def verify(self, cbmc, entry, monitor, *options):
-        """What CBMC says of an entry of clock_prove.c for a monitor with these faults."""
+    def verify(self, cbmc, entry, monitor):
+        """What CBMC says of an entry of clock_prove.c for a monitor with these faults, for which it is compiled once."""
         faults = "".join(f"[{fault}]=true," for fault in monitor.faults)
-        return assertions([*cbmc, *self.words, *options, f"-DHAS={faults or 0}", HARNESS / "clock_prove.c",
-                           "--function", entry, "--unwind", "3"])
+        built = compiled_once(compiler_of(cbmc), HARNESS / "clock_prove.c",
+                              self.folder / "-".join(["clock", *monitor.faults]), *self.words, f"-DHAS={faults or 0}")
+        return assertions([*cbmc, built, "--function", entry, "--unwind", "3"])
 
 
 # Beside each entry of clock_prove.c: what it is about.

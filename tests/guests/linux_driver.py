@@ -20,8 +20,8 @@ OTHER_NAMES = {"linux-6.12": {"uart_port_lock": "uart_port_ref_lock", "uart_port
 OPTIONS = ["-DCONFIG_SERIAL_CORE_CONSOLE", "-DCONFIG_SERIAL_8250_CONSOLE", "-DCONFIG_MAGIC_SYSRQ_SERIAL",
            "-DCONFIG_SERIAL_8250_NR_UARTS=32"]
 VERSIONS = {"linux": [], "linux-5.10": ["-DLINUX_5_10"], "linux-6.12": ["-DLINUX_6_12"]}
-PROOF = ["-DCUT=8", "--unwind", "5", "--unwindset",
-         "interrupt.0:3,serial8250_tx_chars.0:65,serial8250_rx_chars.0:9,serial8250_interrupt.0:5"]
+PROOF = ["--unwind", "5", "--unwindset", "interrupt.0:3,serial8250_tx_chars.0:65,serial8250_rx_chars.0:9,"
+         "serial8250_interrupt.0:5,wait_for_lsr.0:1,fifo_wait_for_lsr.0:1,serial8250_console_fifo_write.1:2"]
 
 
 def write(folder, name="linux"):

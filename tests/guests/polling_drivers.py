@@ -53,4 +53,4 @@ def write(name, folder):
     more = "\n".join(extract(source / file, names) for file, names in driver.functions)
     (folder / "driver.c").write_text(f'#include "{source / driver.file}"\n{more}', encoding="utf-8")
     words = [*(f"-I{source / path}" for path in driver.includes), *driver.options, *["-DKEEPS_ALL"] * driver.keeps_all]
-    return Driver(folder, HARNESS, [*words, HARNESS / f"{name}.c"], [])
+    return Driver(folder, HARNESS, words, [], (HARNESS / f"{name}.c",))

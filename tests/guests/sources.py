@@ -6,8 +6,12 @@ NAME-VERSION.sha256 beside this file has the files that are taken, with their su
 """
 import gzip
 import hashlib
+import lzma
 import re
 import subprocess
+import tarfile
+from bisect import bisect_right
+from functools import lru_cache
 from pathlib import Path
 from typing import NamedTuple
 
@@ -15,6 +19,7 @@ from debian import download, download_source, make_whole
 from harness import ROOT
 
 HERE = Path(__file__).resolve().parent
+HEADER = 512  # bytes before each file in an archive of tar
 KEPT = ROOT / "out" / "guests"
 PACKAGES = ROOT / "out" / "packages"  # where tools/install-packages unpacks packages for another user than root
 
@@ -91,19 +96,79 @@ def is_recorded(name):
 
 
 def sources(name):
-    """The folder with the files of a source. They are unpacked once, which takes a quarter of a minute."""
+    """The folder with the files of a source. They are unpacked once."""
     text = sums(name).read_text(encoding="ascii")
     wanted = {path: number for number, path in (line.split("  ") for line in text.splitlines())}
     # Another list has another folder.
     folder = KEPT / f"{sums(name).stem}-{hashlib.sha256(text.encode()).hexdigest()[:8]}"
-    make_whole(folder, lambda folder: subprocess.run(
-        ["tar", "--extract", f"--file={files(name)[0]}", f"--directory={folder}", "--strip-components=1", "--wildcards",
-         "--no-wildcards-match-slash", *(f"*/{path}" for path in wanted)], check=True))
+    make_whole(folder, lambda folder: unpack(files(name)[0], sorted(wanted), folder))
     other = [path for path, number in wanted.items()
              if hashlib.sha256((folder / path).read_bytes()).hexdigest() != number]
     if other:
         raise ValueError(f"{sums(name).name} names other sums than those of {', '.join(other)}")
     return folder
+
+
+def unpack(archive, paths, folder):
+    """Unpacks files of an archive into a folder. What is not found in its blocks alone is looked for in all of it, up to the
+    last of these files, which takes up to a quarter of a minute."""
+    for path, text in found_in_blocks(archive, paths):
+        (folder / path).parent.mkdir(parents=True, exist_ok=True)
+        (folder / path).write_bytes(text)
+    if missing := [f"*/{path}" for path in paths if not (folder / path).exists()]:
+        subprocess.run(["tar", "--extract", f"--file={archive}", f"--directory={folder}", "--strip-components=1",
+                        "--wildcards", "--no-wildcards-match-slash", "--occurrence", *missing], check=True)
+
+
+def found_in_blocks(archive, paths):
+    """Files of an archive, with their texts, if xz has compressed it in blocks, as Debian's of Linux 6. Its files are in
+    the order of their names, so the first names of some blocks say which of them have a file."""
+    places = blocks(archive)
+    if len(places) < 2:
+        return
+    begins = [(name, number) for number, place in enumerate(places) if (name := first_name(archive, place))]
+    top = begins[0][0].split("/")[0]
+    read = lru_cache(maxsize=2)(lambda number: read_block(archive, places[number]))
+    for path in paths:
+        name = f"{top}/{path}"
+        _, number = begins[max(bisect_right(begins, (name, len(places))) - 1, 0)]
+        named = re.finditer(re.escape(name.encode() + b"\0"), read(number))
+        start = next((match.start() for match in named if match.start() % HEADER == 0), None)
+        if start is not None:
+            text = read(number)[start:]
+            end = HEADER + tarfile.TarInfo.frombuf(text[:HEADER], "utf-8", "strict").size
+            while end > len(text):   # the file goes on in the next block
+                number += 1
+                text += read(number)
+            yield path, text[HEADER:end]
+
+
+def blocks(archive):
+    """Where each block of an archive of xz begins, and how long it is."""
+    listed = subprocess.run(["xz", "--robot", "--list", "-vv", archive], stdout=subprocess.PIPE, stderr=subprocess.DEVNULL,
+                            text=True).stdout   # nothing of an archive of gzip
+    rows = (line.split("\t") for line in listed.splitlines())
+    return [(int(row[4]), int(row[6])) for row in rows if row[0] == "block"]
+
+
+def read_block(archive, place, most=-1):
+    """What is in a block of an archive of xz, or at most so much of it."""
+    start, size = place
+    with open(archive, "rb") as file:
+        header = file.read(12)   # of all blocks
+        file.seek(start)
+        return lzma.LZMADecompressor().decompress(header + file.read(size), most)
+
+
+def first_name(archive, place):
+    """The name of the first file that begins near the begin of a block of an archive, or none."""
+    text = read_block(archive, place, 1 << 20)
+    for start in range(0, len(text) - HEADER + 1, HEADER):
+        if text[start + 257:start + 262] == b"ustar":
+            member = tarfile.TarInfo.frombuf(text[start:start + HEADER], "utf-8", "replace")
+            if member.isfile():
+                return member.name
+    return None
 
 
 def extract(path, names):

@@ -2,6 +2,10 @@
 """What `tools/guests` prints at its end, of each part how many checks were as they should be, and what it keeps."""
 import importlib.machinery
 import importlib.util
+import io
+import random
+import subprocess
+import tarfile
 
 import cbmc
 import proofs
@@ -36,6 +40,35 @@ def test_links(tmp_path):
     assert {path.name: path.read_text(encoding="ascii") for path in folder.iterdir()} == dict.fromkeys(
         ("file", "link", "second"), "its text")
     assert not [path for path in folder.iterdir() if path.is_symlink()]
+
+
+@pytest.mark.parametrize("words", [["xz", "--block-size=65536"], ["xz"], ["gzip"]], ids=" ".join)
+@pytest.mark.parametrize("is_in_order", [True, False])
+def test_unpacked_files(tmp_path, words, is_in_order):
+    """Files come out of the blocks that have them, also one that goes on in the next blocks. They come out of the whole
+    archive if it has no blocks, or another order."""
+    texts = {f"{folder}/{number}": random.Random(number).randbytes(number)
+             for folder in ("a", "b.c", "b") for number in (0, 100, 5000, 60000, 200000)}
+    texts["a/200000"] += b"top-1.0/a/5000\0"   # which is no header
+    names = sorted(texts) if is_in_order else sorted(texts, reverse=True)
+    with tarfile.open(tmp_path / "archive", "w") as archive:
+        for name in names:
+            member = tarfile.TarInfo(f"top-1.0/{name}")
+            member.size = len(texts[name])
+            archive.addfile(member, io.BytesIO(texts[name]))
+    with open(tmp_path / "archive", "rb") as plain, open(tmp_path / "packed", "wb") as packed:
+        subprocess.run([*words, "--stdout"], stdin=plain, stdout=packed, check=True)
+    found = dict(sources.found_in_blocks(tmp_path / "packed", sorted(texts)))
+    assert found.items() <= texts.items()
+    if len(words) == 1:
+        assert not found
+    elif is_in_order:
+        assert found == texts
+    (tmp_path / "folder").mkdir()
+    wanted = ["a/100", "b.c/60000", "b/200000", "b/5000"]
+    sources.unpack(tmp_path / "packed", wanted, tmp_path / "folder")
+    assert {str(path.relative_to(tmp_path / "folder")): path.read_bytes() for path in (tmp_path / "folder").rglob("*/*")
+            } == {path: texts[path] for path in wanted}
 
 
 @pytest.mark.where("CBMC 6")

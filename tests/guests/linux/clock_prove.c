@@ -15,7 +15,13 @@ uint64_t model_alarm_due(const superio_rtc *clock, uint64_t moment);
 #define superio_rtc_alarm_due model_alarm_due
 #include "../monitor/clock_device.c"
 #undef superio_rtc_alarm_due
-#define check(is_good, what) __CPROVER_assert(is_good, what)
+/* What is proved of a place may be used after it. If it is not proved, that is told of this place. */
+#define check(is_good, what)                                                                                          \
+    do {                                                                                                              \
+        bool holds = is_good;                                                                                         \
+        __CPROVER_assert(holds, what);                                                                                \
+        __CPROVER_assume(holds);                                                                                      \
+    } while (0)
 static unsigned choose(unsigned bound) {
     unsigned number = nondet_unsigned();
     __CPROVER_assume(number < bound);

@@ -71,12 +71,7 @@ static void exchange(enum line line) {
 
 int main(void) {
     static const char *const NAMES[] = {"single edges", "merged edges", "level"};
-#ifdef LEVELS
-    enum line first = LEVEL, last = LEVEL;
-#else
-    enum line first = SINGLE, last = MERGED;
-#endif
-    for (enum line line = first; line <= last; line++) {
+    for (enum line line = has_level ? LEVEL : SINGLE; line <= (has_level ? LEVEL : MERGED); line++) {
         exchange(line);
         printf("%s: %lu bytes sent, %lu received, %u held, %u in the queue; a turn %s due\n", NAMES[line], sent, received,
                port_of_monitor()->len, mon.waiting, is_turn_due() ? "is" : "is not");

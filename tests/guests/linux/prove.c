@@ -5,6 +5,8 @@
  * access. So it holds after any number of steps. ../README.md has the argument.
  */
 
+#define CUT 8 /* so many bytes a pass of the handler receives at most */
+
 /* The loop that receives bytes in a pass of the handler, or what `received` and `looked` prove of it. */
 #ifdef ANY_PASS
 #define RX_CHARS receives_some

@@ -5,7 +5,7 @@
 #else
 #include "driver.c" /* 8250_port.c as a whole, and functions of serial_core.c and 8250_core.c, line by line */
 #endif
-#include "../monitor/monitor.c"
+#include "../monitor/accesses.c"
 
 /* ---- the guest: what the driver belongs to */
 

@@ -1,12 +1,11 @@
 /* SPDX-License-Identifier: Apache-2.0 OR BSD-3-Clause */
 /*
- * Random exchanges over the library, whatever the driver is, on a line that takes levels if LEVELS is defined, and
- * otherwise edges. After monitor.c.
+ * Random exchanges over the library, whatever the driver and the monitor are. After accesses.c.
  *
- *     run EXCHANGES SEED
+ *     run EXCHANGES SEED [STALLS]
  *
  * Prints how many exchanges stalled: nothing is in flight, no turn is owed, and a byte is held, in the monitor's queue,
- * or to send. Exits 1 if a byte comes out of order, or twice, or is lost.
+ * or to send. Ends after so many stalls. Exits 1 if a byte comes out of order, or twice, or is lost.
  */
 #include <stdio.h>
 #include <stdlib.h>
@@ -81,12 +80,12 @@ static void turn_between(void) {
 static void begin_exchange(void) {
     static const unsigned PAUSES[] = {2, 8, 64, 512};
     input = output = queued = arrived = offered = sent = received = accesses = 0;
-#ifdef LEVELS
-    make_monitor(LEVEL);
-#else
-    make_monitor(choose(2));
-    mon.can_refuse = choose(2);
-#endif
+    if (has_level)
+        make_monitor(LEVEL);
+    else {
+        make_monitor(choose(2));
+        mon.can_refuse = choose(2);
+    }
     pauses = PAUSES[choose(4)];
     has_turns = choose(2);
     input = choose(2) ? choose(30) : choose(1000);
@@ -94,9 +93,10 @@ static void begin_exchange(void) {
 }
 
 int main(int count, char **arguments) {
-    unsigned long exchanges = count > 1 ? strtoul(arguments[1], 0, 0) : 10000, stalled = 0, in = 0, out = 0;
+    unsigned long exchanges = count > 1 ? strtoul(arguments[1], 0, 0) : 10000, stalled = 0, in = 0, out = 0, i = 0;
+    unsigned long most = count > 3 ? strtoul(arguments[3], 0, 0) : exchanges;
     x ^= (count > 2 ? strtoull(arguments[2], 0, 0) : 0) * 0x9e3779b97f4a7c15ull;
-    for (unsigned long i = 0; i < exchanges; i++) {
+    for (; i < exchanges && stalled < most; i++) {
         begin_exchange();
         stalled += exchange();
         if (!superio_serial_is_coherent(port_of_monitor()) || received > arrived || sent > queued)
@@ -104,7 +104,7 @@ int main(int count, char **arguments) {
         in += received;
         out += sent;
     }
-    printf("%lu of %lu exchanges stalled; %lu bytes in, %lu out, %lu interrupts, %lu unhandled\n", stalled, exchanges,
-           in, out, interrupts_taken, unhandled);
+    printf("%lu of %lu exchanges stalled; %lu bytes in, %lu out, %lu interrupts, %lu unhandled\n", stalled, i, in,
+           out, interrupts_taken, unhandled);
     return 0;
 }

@@ -1,35 +1,17 @@
 /* SPDX-License-Identifier: Apache-2.0 OR BSD-3-Clause */
 /*
  * A monitor with a serial port, for whatever driver: the code of docs/PORT.md over a bare port or, if CONSOLE is defined, a
- * console. exchanges.c chooses at random, and proof.c leaves open, what `choose` says.
+ * console. It is a file of its own, so that no driver has to be compiled again for another monitor.
  */
-#include <stdbool.h>
-#include <stddef.h>
-#include <stdint.h>
-#include "superio.h"
+#include "monitor.h"
 
-unsigned choose(unsigned bound); /* any number below */
-void between(void);              /* what others do before an access of the guest */
-
-enum { MANY = 1000000 };
-enum line { SINGLE, MERGED, LEVEL }; /* edges that the guest takes one by one, edges that merge until then, a level */
-
-static struct monitor {
-    superio_serial port;
-    bool is_polled, is_ready, is_refused;
-    enum line line;
-    unsigned edges;   /* that the guest has not taken */
-    bool was_up;      /* the level */
-    bool has_timer;   /* a turn of the event loop comes */
-    bool can_refuse;
-    unsigned waiting; /* bytes of input in the monitor's queue */
-} mon;
-
-static unsigned long offered, sent, received, rbr_reads, thr_writes;
-static bool has_read, has_written;
-
-void input_bytes(unsigned char *bytes, unsigned count); /* the next bytes of input */
-void output_byte(unsigned char byte);                   /* a byte goes out */
+#ifdef LEVELS
+const bool has_level = true;
+#else
+const bool has_level = false;
+#endif
+struct monitor mon;
+unsigned long offered;
 
 /* An edge, unless it is refused. */
 bool raise_interrupt(void) {
@@ -78,17 +60,17 @@ void remove_input(size_t count) {
 #undef reset
 
 /* A turn of the event loop, and so much input has come. Its timer may go off, or not yet. */
-static void turn(unsigned input) {
+void turn(unsigned input) {
     if (mon.has_timer)
         mon.has_timer = choose(2);
     mon.waiting += input < MANY - mon.waiting ? input : MANY - mon.waiting; /* the queue is bounded */
     turn_of_page();
 }
 
-static void make_monitor(enum line line) { mon = (struct monitor){.port = superio_serial_new(), .line = line}; }
-static void set_polled(bool is_polled) { mon.is_polled = mon.is_ready = is_polled; }
-static bool is_turn_due(void) { return mon.has_timer; }
-static const superio_serial *port_of_monitor(void) { return &mon.port; }
+void make_monitor(enum line line) { mon = (struct monitor){.port = superio_serial_new(), .line = line}; }
+void set_polled(bool is_polled) { mon.is_polled = mon.is_ready = is_polled; }
+bool is_turn_due(void) { return mon.has_timer; }
+const superio_serial *port_of_monitor(void) { return &mon.port; }
 #else
 static superio_console console_of_monitor;
 static bool is_awake;             /* a call has woken the event loop */
@@ -106,13 +88,13 @@ static void carry_out(superio_console_work work) {
     is_awake |= work.wakes;
 }
 
-static uint8_t read_access(uint8_t offset) {
+uint8_t read_access(uint8_t offset) {
     superio_console_read_effects done = superio_console_read(&console_of_monitor, offset);
     carry_out(done.work);
     return done.byte;
 }
 
-static void write_access(uint8_t offset, uint8_t value) {
+void write_access(uint8_t offset, uint8_t value) {
     uint8_t bytes[1];
     carry_out(superio_console_write(&console_of_monitor, offset, value));
     if (superio_console_output(&console_of_monitor, bytes, 1)) { /* a reader that takes each byte at once */
@@ -122,7 +104,7 @@ static void write_access(uint8_t offset, uint8_t value) {
 }
 
 /* A turn of the event loop, and so much input has come at its source. */
-static void turn(unsigned input) {
+void turn(unsigned input) {
     uint8_t bytes[SUPERIO_SERIAL_FIFO_SIZE];
     size_t most = superio_console_wants(&console_of_monitor).input;
     mon.waiting += input;
@@ -136,43 +118,14 @@ static void turn(unsigned input) {
     is_awake = false;
 }
 
-static void make_monitor(enum line line) {
+void make_monitor(enum line line) {
     mon = (struct monitor){.line = line};
     superio_console_new(&console_of_monitor, false);
     wanted = superio_console_wants(&console_of_monitor);
     is_awake = false;
 }
 
-static void set_polled(bool is_polled) { carry_out(superio_console_set_polled(&console_of_monitor, is_polled)); }
-static bool is_turn_due(void) { return is_awake || wanted.turn || (wanted.input > 0 && mon.waiting > 0); }
-static const superio_serial *port_of_monitor(void) { return &console_of_monitor.port; }
+void set_polled(bool is_polled) { carry_out(superio_console_set_polled(&console_of_monitor, is_polled)); }
+bool is_turn_due(void) { return is_awake || wanted.turn || (wanted.input > 0 && mon.waiting > 0); }
+const superio_serial *port_of_monitor(void) { return &console_of_monitor.port; }
 #endif
-
-/* What a harness does after each read. */
-#ifndef AFTER_READ
-#define AFTER_READ(offset, byte)
-#endif
-
-static bool has_divisor(void) { return port_of_monitor()->line_control & 0x80; }
-
-uint8_t inb(unsigned long address) {
-    unsigned offset = address - 0x3f8;
-    between();
-    if (offset == 0 && !has_divisor()) {
-        rbr_reads++;
-        has_read = true;
-    }
-    uint8_t byte = read_access(offset);
-    AFTER_READ(offset, byte);
-    return byte;
-}
-
-void outb(uint8_t value, unsigned long address) {
-    unsigned offset = address - 0x3f8;
-    between();
-    if (offset == 0 && !has_divisor() && !(port_of_monitor()->modem_control & 0x10)) {
-        thr_writes++;
-        has_written = true;
-    }
-    write_access(offset, value);
-}

@@ -1,5 +1,5 @@
 /* SPDX-License-Identifier: Apache-2.0 OR BSD-3-Clause */
-/* What a proof says of the monitor and the port, whatever the driver is. After monitor.c. */
+/* What a proof says of the monitor and the port, whatever the driver is. After accesses.c. */
 
 unsigned nondet_unsigned(void);
 _Bool nondet_bool(void);

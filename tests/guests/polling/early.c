@@ -8,7 +8,7 @@
 #include <stdio.h>
 #include <stdlib.h>
 #define outb write_of_guest
-#include "../monitor/monitor.c"
+#include "../monitor/accesses.c"
 #undef outb
 #include "driver.h"
 

@@ -4,7 +4,7 @@
  * has polled until nothing came, and no turn is owed. With NOT_POLLED the monitor takes the guest for one with interrupts.
  * Unless KEEPS_ALL is defined, the driver may throw input away as it gets ready.
  */
-#include "../monitor/monitor.c"
+#include "../monitor/accesses.c"
 #include "../monitor/exchanges.c"
 #include "driver.h"
 

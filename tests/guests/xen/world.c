@@ -1,7 +1,7 @@
 /* SPDX-License-Identifier: Apache-2.0 OR BSD-3-Clause */
 /* Xen's driver, unchanged, on a serial port in a monitor. run.c makes random exchanges of it, and prove.c proves. */
 #include "driver.c" /* serial.c and ns16550.c as a whole */
-#include "../monitor/monitor.c"
+#include "../monitor/accesses.c"
 
 /* ---- the guest: what the driver belongs to */
 
