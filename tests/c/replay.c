@@ -32,14 +32,20 @@ static int trigger_calls;
 
 /* What the call did: its reply, and then the calls of objects. */
 static char reply[MOST_TEXT], events[MOST_TEXT];
+static const char DIGITS[] = "0123456789abcdef";
 
 static uint64_t number(int place) { return strtoull(words[place], NULL, 16); }
 
 #define add(text, ...) sprintf((text) + strlen(text), __VA_ARGS__)
 
+/* Without `add`, which goes over all of the reply each time: an emulator takes long for a console's 4,096 bytes. */
 static void add_bytes(const void *bytes, size_t count) {
-    for (size_t i = 0; i < count; i++)
-        add(reply, "%02x", ((const uint8_t *)bytes)[i]);
+    char *end = reply + strlen(reply);
+    for (size_t i = 0; i < count; i++) {
+        *end++ = DIGITS[((const uint8_t *)bytes)[i] >> 4];
+        *end++ = DIGITS[((const uint8_t *)bytes)[i] & 15];
+    }
+    *end = '\0';
 }
 
 /* Nobody may touch the pages beside those. */
@@ -55,12 +61,14 @@ static void *beside_guard(int page, size_t size) {
     return memory + page * PAGE + (line_number % 2 == 0 ? 0 : PAGE - size);
 }
 
+static int value_of(char digit) { return (int)(strchr(DIGITS, digit) - DIGITS); }
+
 /* The bytes of a word, or NULL if there are none. */
 static uint8_t *bytes_of(const char *digits, size_t *count) {
     *count = *digits == '-' ? 0 : strlen(digits) / 2;
     uint8_t *bytes = (uint8_t *)beside_guard(BYTES_PAGE, *count);
     for (size_t i = 0; i < *count; i++)
-        sscanf(digits + 2 * i, "%2" SCNx8, &bytes[i]);
+        bytes[i] = (uint8_t)(value_of(digits[2 * i]) << 4 | value_of(digits[2 * i + 1]));
     return *count > 0 ? bytes : NULL;
 }
 
@@ -383,12 +391,16 @@ int main(void) {
         if (!equals)
             continue;
         line[strcspn(line, "\n")] = '\0';
-        sprintf(text, "%.*s", (int)(equals - line), line);
+        memcpy(text, line, (size_t)(equals - line));
+        text[equals - line] = '\0';
         line_number++;
-        /* Any bytes are a device, so the devices can be moved as bytes. */
-        port = (superio_serial *)memmove(beside_guard(PORT_PAGE, sizeof *port), port, sizeof *port);
-        rtc = (superio_rtc *)memmove(beside_guard(CLOCK_PAGE, sizeof *rtc), rtc, sizeof *rtc);
-        console = (superio_console *)memmove(beside_guard(CONSOLE_PAGE, sizeof *console), console, sizeof *console);
+        /* Any bytes are a device, so the one that is called can be moved as bytes. */
+        if (*text == 's')
+            port = (superio_serial *)memmove(beside_guard(PORT_PAGE, sizeof *port), port, sizeof *port);
+        if (*text == 'c')
+            rtc = (superio_rtc *)memmove(beside_guard(CLOCK_PAGE, sizeof *rtc), rtc, sizeof *rtc);
+        if (*text == 'l')
+            console = (superio_console *)memmove(beside_guard(CONSOLE_PAGE, sizeof *console), console, sizeof *console);
         follow(text);
         strcat(reply, events);
         if (strcmp(reply, equals + 3) == 0)

@@ -17,8 +17,9 @@ COMPARISON = ROOT / "tests" / "compare"
 ORIGINAL = Path(os.environ["VM_SUPERIO"]).resolve() if "VM_SUPERIO" in os.environ else None
 # Debian's compiler, beside which another may come first in PATH.
 DEBIAN_RUSTC = Path("/usr/bin/rustc")
-# Most is built once, and nothing is debugged.
-SETTINGS = {"CARGO_INCREMENTAL": "0", "CARGO_PROFILE_DEV_DEBUG": "0", "CARGO_NET_OFFLINE": "true"}
+# Most is built once, and nothing is debugged: a linker takes a second for what a debugger needs of Rust's own library.
+SETTINGS = {"CARGO_INCREMENTAL": "0", "CARGO_PROFILE_DEV_DEBUG": "0", "CARGO_PROFILE_DEV_STRIP": "debuginfo",
+            "CARGO_NET_OFFLINE": "true"}
 # A program over bindings/rust or, without the feature `further`, over a vm-superio, which it takes by the line of the
 # README. It needs no default feature of it.
 PROGRAM = """

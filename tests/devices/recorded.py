@@ -12,6 +12,8 @@ from made import CLOCK_CALLS, CONTROLLER_CALLS, PORT_CALLS, clock_state, drawn, 
 from script import call_of, line_of
 
 CALLS = ROOT / "tests" / "data" / "calls"
+# The names of its recordings, and one of what `every_answer` makes.
+RECORDINGS, EVERY_ANSWER = [path.name for path in sorted(CALLS.glob("*.txt*"))], "every answer"
 RUN = 40   # calls of a random run
 # Words after a random call, which say how the objects behave in it.
 BEHAVIOURS = [*[""] * 6, *"12nfui", "1 2", "1 f", "1 u", "2 n"]

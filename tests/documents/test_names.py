@@ -11,7 +11,9 @@ may be cited of another function, such as `Uart::read`. Of LIBRARIES they also h
 clause has no name. docs/USING.md has to name each call of a console. README.md has to show the logic that `rt version` prints: proofs depend on it alone.
 """
 import re
+from collections import defaultdict
 from dataclasses import replace
+from functools import cached_property
 
 import pytest
 from contracts import functions_of, without_generics
@@ -43,20 +45,27 @@ class Sources:
                  if path.is_file() and not {".git", *BUILT} & set(path.relative_to(ROOT).parts)]
         drivers = re.findall(r"(?<=  ).+", "".join(path.read_text() for path in (ROOT / "tests/guests").glob("*.sha256")))
         self.files = "".join(f"/{name}\n" for name in [*(path.relative_to(ROOT) for path in paths), *drivers])
-        texts = {path: path.read_text(encoding="utf-8", errors="ignore") for path in paths if path.suffix != ".md"}
-        self.words = ELSEWHERE.union(*(re.findall(r"--[\w-]+|\w+", text) for text in [*texts.values(), self.files]))
+        self.texts = {path: path.read_text(encoding="utf-8", errors="ignore") for path in paths if path.suffix != ".md"}
         self.functions = []
-        for path, text in sorted(texts.items()):
+        for path, text in sorted(self.texts.items()):
             if path.suffix in (".rs", ".rt"):
                 modules = [it for it in path.relative_to(ROOT).with_suffix("").parts
                            if it not in ("crates", "src", "lib", "main")]
                 self.functions += [replace(it, path=(*modules, *it.path)) for it in functions_of(text)]
+        self.by_name = defaultdict(list)   # which their path ends with
+        for function in self.functions:
+            self.by_name[function.name].append(function)
+
+    @cached_property   # which nothing needs as long as tests are collected
+    def words(self):
+        return ELSEWHERE.union(*(re.findall(r"--[\w-]+|\w+", text) for text in [*self.texts.values(), self.files]))
 
     def named(self, path):
         """The functions that a path names: those with clauses, or if none has any, all. `laws`, a module of
         `vm_superio`, also has what `superio_laws` has."""
         paths = [path.split("::"), re.sub(r"\blaws\b", "superio_laws", path).split("::")]
-        found = [function for function in self.functions if any(map(function.is_named, paths))]
+        ends = dict.fromkeys(it[-1] for it in paths)
+        found = [it for end in ends for it in self.by_name.get(end, ()) if any(map(it.is_named, paths))]
         return [function for function in found if function.clauses] or found
 
     def lacks(self, code):

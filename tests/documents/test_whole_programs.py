@@ -1,5 +1,6 @@
 # SPDX-License-Identifier: Apache-2.0 OR BSD-3-Clause
 """The programs of README.md and of the pages that explain do what is said of them, as they stand there."""
+import os
 import platform
 import re
 
@@ -101,14 +102,20 @@ fn main() {{
 """
 
 
+@pytest.fixture(scope="module")
+def built(tmp_path_factory):
+    """An environment in which Cargo compiles the crates once for all programs."""
+    return {**os.environ, "CARGO_TARGET_DIR": str(tmp_path_factory.mktemp("target"))}
+
+
 @pytest.mark.needs("cargo")
-def test_one_call(tmp_path):
+def test_one_call(built, tmp_path):
     """The lines of README.md compile as they stand there, and interrupt the guest again."""
     (tmp_path / "src").mkdir()
     (tmp_path / "src" / "main.rs").write_text(ONE_CALL.format(code("README.md", "rust", "CharacterTimeout")), "utf-8")
     manifest = PACKAGE + code("README.md", "toml", "patch").replace("CLONE", str(ROOT))
     (tmp_path / "Cargo.toml").write_text(manifest, encoding="utf-8")
-    said = check(["cargo", "run", "--quiet", "--offline"], cwd=tmp_path)
+    said = check(["cargo", "run", "--quiet", "--offline"], cwd=tmp_path, env=built)
     assert said.splitlines()[-1] == "2 interrupts, false", said
 
 
@@ -118,7 +125,7 @@ def test_one_call(tmp_path):
     ("docs/RUST.md", "CONSOLE_SAVED_MAX", "", "h"), ("docs/RUST.md", "Pl031", "", "the line is up: true\n"),
     ("docs/RUST.md", "fn serve_input", "hello\n", "HELLO\n"),
     ("docs/PORT.md", "Serial", "", "all came back\n")])
-def test_rust(document, of, typed, printed, tmp_path):
+def test_rust(document, of, typed, printed, built, tmp_path):
     """By the lines for Cargo.toml in README.md. The `Machine` of docs/PORT.md is around a guest."""
     (tmp_path / "src").mkdir()
     program = code(document, "rust", of)
@@ -128,4 +135,4 @@ def test_rust(document, of, typed, printed, tmp_path):
         (tmp_path / "src" / "lib.rs").write_text(program, encoding="utf-8")
         program = (ROOT / "tests/documents/bare_serial.rs").read_text(encoding="utf-8")
     (tmp_path / "src" / "main.rs").write_text(program, encoding="utf-8")
-    check(["cargo", "run", "--quiet", "--offline"], printed, cwd=tmp_path, input=typed)
+    check(["cargo", "run", "--quiet", "--offline"], printed, cwd=tmp_path, env=built, input=typed)

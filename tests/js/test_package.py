@@ -10,7 +10,7 @@ import pytest
 from console import random_runs
 from documents import Document
 from harness import ROOT, at_least, check, run
-from recorded import every_answer, recording_of, recordings
+from recorded import EVERY_ANSWER, RECORDINGS, every_answer, recording_of, recordings
 from script_tests import board_scripts
 from seeds import seeds
 
@@ -20,7 +20,6 @@ VERSION = (ROOT / "VERSION").read_text("ascii").strip()
 REPLAY, SCRIPTS, CONSOLES = (PACKAGE / "tests" / f"{name}.mjs"
                              for name in ("replay_calls", "run_scripts", "replay_consoles"))
 RANDOM_SCRIPTS, RANDOM_CONSOLES = 2_000, 300
-RECORDED = {"every answer": recording_of(every_answer()), **recordings()}
 # The first program of a document, as a module that `require` serves has it.
 IMPORT = re.compile(r'^import (\{.*\}) from ("superio");', re.M)
 # What TypeScript takes for each kind of module, and lines of which it refuses each.
@@ -93,17 +92,22 @@ export const reason: "too long" = new SavedStateError("too short").reason;
 """
 
 
-def test_number_of_calls():
-    assert sum(recording.count(" = ") for recording in RECORDED.values()) >= 251_000
+@pytest.fixture(scope="module")
+def recorded():
+    return {EVERY_ANSWER: recording_of(every_answer()), **recordings()}
+
+
+def test_number_of_calls(recorded):
+    assert sum(recording.count(" = ") for recording in recorded.values()) >= 251_000
 
 
 @pytest.mark.parametrize("command", [pytest.param(["node"], id="node", marks=pytest.mark.needs("node")),
                                      pytest.param(["deno", "run", "-R"], id="deno", marks=pytest.mark.where("Deno"))])
-@pytest.mark.parametrize("name", at_least(4, RECORDED))
-def test_calls(name, command):
+@pytest.mark.parametrize("name", at_least(4, [EVERY_ANSWER, *RECORDINGS]))
+def test_calls(recorded, name, command):
     """The package makes each recorded call as it was."""
-    number = RECORDED[name].count(" = ")
-    check([*command, REPLAY], f"{number} calls did the same, 0 did not\n", input=RECORDED[name])
+    number = recorded[name].count(" = ")
+    check([*command, REPLAY], f"{number} calls did the same, 0 did not\n", input=recorded[name])
 
 
 @pytest.mark.needs("node")

@@ -2,7 +2,7 @@
 """The monitor of examples/kvm.
 
 Over host.c, a host that is a script in place of KVM, it does what scripts.txt says, by the C library and by the Rust
-crate's `Serial`, and sanitizers find nothing. Under KVM guest.S echoes a paste of 100,000 bytes by interrupts, although
+crate's `Serial`, and sanitizers find nothing. Under KVM guest.S echoes a paste of 70,000 bytes by interrupts, although
 it takes at most 256 bytes for an interrupt; sleeps until an alarm; echoes what came meanwhile; and resets the machine,
 which ends the monitor, or with -r starts it again.
 Two monitors whose guests echo each other go on after the socket between them was full in both directions.
@@ -24,9 +24,9 @@ from tools import is_place
 
 pytestmark = [pytest.mark.needs("cc", "make"), pytest.mark.where("Linux on x86-64")]
 
-# How many bytes are pasted, and commands of the guest.
-PASTED, AWAIT_ALARM, RESET = 100_000, "\x14", "\x04"
-CROWD = 100_000   # how many bytes two guests send to each other
+# How many bytes are pasted, more than a pipe holds, and commands of the guest.
+PASTED, AWAIT_ALARM, RESET = 70_000, "\x14", "\x04"
+CROWD = 40_000   # how many bytes each of two guests gets, several times what is between them
 # Loaded before the C library, it holds a guest until the event loop has written, however late a busy machine runs that:
 # after a second the monitor would drop output.
 PATIENT = """

@@ -153,7 +153,7 @@ def builds(debian):
     shutil.copytree(debian, other, symlinks=True)
     strange = {**OF_DEBIAN, "TZ": "Asia/Tokyo", "LC_ALL": "C", "USER": "other", "DEB_BUILD_OPTIONS": "nocheck"}
     return {folder: check(["dpkg-buildpackage", "-us", "-uc", "-F"], cwd=debian, env=OF_DEBIAN),
-            other.parent: check(["sh", "-c", "umask 077 && dpkg-buildpackage -us -uc -b"], cwd=other, env=strange)}
+            other.parent: check(["sh", "-c", "umask 077 && dpkg-buildpackage -us -uc -b -nc"], cwd=other, env=strange)}
 
 
 @pytest.fixture(scope="module")

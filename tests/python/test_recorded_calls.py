@@ -4,7 +4,7 @@ import re
 
 import pytest
 from harness import at_least
-from recorded import difference, every_answer, recording_of, recordings, rows_of
+from recorded import EVERY_ANSWER, RECORDINGS, difference, every_answer, recording_of, recordings, rows_of
 
 from superio import Board, Command, Rtc, RtcState, Serial, SerialState
 from superio.board import Counts
@@ -70,11 +70,13 @@ def of_device(reply):
     return re.sub(r" W\w\w(?= W)| [Flo]\b", "", reply).replace("io", "ok")
 
 
-RECORDED = {**recordings(), "every answer": recording_of(every_answer())}
+@pytest.fixture(scope="module")
+def recorded():
+    return {**recordings(), EVERY_ANSWER: recording_of(every_answer())}
 
 
-@pytest.mark.parametrize("name", at_least(4, RECORDED))
-def test_calls(name):
-    rows, devices = [(call, of_device(reply)) for call, reply in rows_of(RECORDED[name])], Devices()
+@pytest.mark.parametrize("name", at_least(4, [*RECORDINGS, EVERY_ANSWER]))
+def test_calls(recorded, name):
+    rows, devices = [(call, of_device(reply)) for call, reply in rows_of(recorded[name])], Devices()
     assert rows
     assert not difference(rows, [devices.make(call) for call, _ in rows])

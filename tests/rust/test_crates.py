@@ -91,7 +91,8 @@ def test_on(target, crate, tmp_path):
     _, compiler, emulator = TARGETS[target]
     name = f"CARGO_TARGET_{target.upper().replace('-', '_')}"
     settings = {f"{name}_LINKER": compiler, f"{name}_RUNNER": f"{emulator} -L /usr/{compiler[:-len('-gcc')]}",
-                "CARGO_PROFILE_DEV_OPT_LEVEL": "1"}   # else the emulator takes long
+                "CARGO_PROFILE_DEV_OPT_LEVEL": "1",   # else the emulator takes long
+                "CARGO_PROFILE_DEV_CODEGEN_UNITS": "1"}   # several are optimized twice, each alone and together
     cargo = copied_crate(tmp_path, toolchain_for(target), crate)
     assert cargo.test("--lib", "--tests", "--target", target, **settings) == number_of_tests(crate)
 

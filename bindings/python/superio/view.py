@@ -1,7 +1,6 @@
 # SPDX-License-Identifier: Apache-2.0 OR BSD-3-Clause
 """The viewer of a recorded trace: call by call, as a table, or as a picture."""
 import os
-import pydoc
 import re
 import sys
 from itertools import groupby
@@ -167,7 +166,11 @@ def view(path: str, table_path: Optional[str], svg_path: Optional[str]) -> None:
     if table_path:
         write_text(table_path, table(steps))
     elif table_path is not None:
-        (pydoc.pager if sys.stdout.isatty() else sys.stdout.write)(table(steps))
+        if sys.stdout.isatty():
+            from pydoc import pager   # here, as no other start has to wait for it
+            pager(table(steps))
+        else:
+            sys.stdout.write(table(steps))
     elif not svg_path:
         viewer = Viewer(steps, name, sys.stdout)
         viewer.greet()
