@@ -57,8 +57,8 @@ def run_pytest(folder, text, *words, path="/nowhere"):
     return run([sys.executable, "-m", "pytest", "tests", *words], cwd=folder, env={"PATH": path})
 
 
-# Runs pytest in each folder, as `python3 -m pytest` does, and writes there what it prints. Each run has a process of its
-# own, which is forked after the slowest modules are there. Prints with what status each ends.
+# Runs pytest in each folder, as `python3 -m pytest` does, and writes there what it prints. Each run has a process of
+# its own, which is forked after the slowest modules are there. Prints with what status each ends.
 FORKED = """import os, sys
 import hypothesis, pytest
 for folder in sys.argv[1:]:
