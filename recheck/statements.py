@@ -104,8 +104,10 @@ class Statements:
         self.list_definitions()
         asked = [*self.defined, *self.theorems, *self.witnesses]
         requires = [f"Require Recheck.{file}." for file in dict.fromkeys([*IMPORTED, *SHOWN])]
-        settings = [*requires, "Set Printing All.", "Set Printing Width 1000."]
-        self.full, rests = self.printed(asked, settings, rests_on(f"Recheck.{name}" for name in self.witnesses))
+        in_full = [*requires, "Set Printing All.", "Set Printing Width 1000."]
+        to_read = ["Unset Printing All.", *(f"Import Recheck.{file}." for file in IMPORTED), "Set Printing Width 120."]
+        rest = rests_on(f"Recheck.{name}" for name in self.witnesses)
+        (self.full, text), rests = self.printed(asked, [in_full, to_read], rest)
         if rests != "Closed under the global context":
             raise Failed(f"witnesses rest on something:\n{rests}")
         self.uses = {name: self.used_by(name) for name in asked}
@@ -113,8 +115,7 @@ class Statements:
         always = [name for name in self.defined if not name.startswith(tuple(f"{file}." for file in IF_USED))]
         self.all = self.closure([*always, *self.theorems, *self.witnesses])
         shown = [name for name in asked if name in self.all and not self.is_projection(name)]
-        imports = [f"Import Recheck.{file}." for file in IMPORTED]
-        self.text, _ = self.printed(shown, [*requires, *imports, "Set Printing Width 120."], [])
+        self.text = {name: text[name] for name in shown}
         self.sum = hashlib.sha256("\n".join(self.full[name] for name in shown).encode()).hexdigest()
 
     def said(self, *lines: str) -> str:
@@ -140,12 +141,15 @@ class Statements:
                     for part in re.findall(r"(\w+)\s:(?!=)|:=\s+(\w+)", declared):
                         self.owners[f"{file}.{part[0] or part[1]}"].add(path)
 
-    def printed(self, names: list[str], settings: list[str], more: list[str]) -> tuple[dict[str, str], str]:
-        """What Coq prints of each name, a whole definition or what a theorem states, and then of more."""
+    def printed(self, names: list[str], ways: list[list[str]], more: list[str]) -> tuple[list[dict[str, str]], str]:
+        """What Coq prints of each name after the settings of each way, a whole definition or what a theorem states, and
+        then of more."""
         asked = [f"{'Print ' if name in self.defined else 'Check @'}Recheck.{name}. Check I." for name in names]
-        said = re.sub(r"^\n?Arguments .*(?:\n .*)*\n", "", self.said(*settings, *asked, *more), flags=re.M)
+        lines = [line for settings in ways for line in [*settings, *asked]]
+        said = re.sub(r"^\n?Arguments .*(?:\n .*)*\n", "", self.said(*lines, *more), flags=re.M)
         *found, last = (re.sub(r" +$", "", text, flags=re.M).strip() for text in said.split(SEPARATOR))
-        return dict(zip(names, found, strict=True)), last
+        parts = [found[place:place + len(names)] for place in range(0, len(found), len(names))]
+        return [dict(zip(names, part, strict=True)) for part in parts], last
 
     def used_by(self, name: str) -> set[str]:
         """The definitions that it names, each with its file since no file is imported."""

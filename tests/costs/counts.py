@@ -6,6 +6,7 @@ Counts do not depend on what else the machine does, but on the compilers, which 
 what accesses cost through a console, counted by the program `console`, beside the port in it.
 """
 import re
+import shutil
 import subprocess
 from functools import lru_cache
 from pathlib import Path
@@ -178,6 +179,12 @@ def count(program, rows):
 
 
 @lru_cache(maxsize=None)
+def rust_folder(crate):
+    """The folder in which the programs over a crate are built, one after the other, and the crate once."""
+    return TemporaryDirectory(prefix="counts-")
+
+
+@lru_cache(maxsize=None)
 def program_of(column):
     """The program of a column."""
     folder = TemporaryDirectory(prefix="counts-")
@@ -185,10 +192,12 @@ def program_of(column):
     if column not in (BY_HAND, LIBRARY):
         name = "console" if column in CONSOLE_COLUMNS else "accesses"
         features = ["bare"] if column == PORT else []
-        comparison = Comparison(path, ORIGINAL if column == THEIRS else None, name, features)
+        crate = ORIGINAL if column == THEIRS else None
+        comparison = Comparison(Path(rust_folder(crate).name, "accesses"), crate, name, features)
         built = comparison.build(**RUST_FLAGS)
         assert built.returncode == 0, built.stdout
-        return Program(comparison.program, folder)
+        shutil.copy(comparison.program, path)
+        return Program(path, folder)
     port = ["-DBY_HAND", COMPARISON / "uart.c"] if column == BY_HAND else [C_LIBRARY]
     check(["gcc", *C_FLAGS, COMPARISON / "accesses.c", *port, "-o", path], "")
     return Program(path, folder)

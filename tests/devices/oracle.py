@@ -61,7 +61,10 @@ class Device:
 
     def last(self, name):
         """What the newest call that changed it made of a register or bit."""
-        return next(fact.made[name] for fact in reversed(self.past) if name in fact.made)
+        for fact in reversed(self.past):
+            if name in fact.made:
+                return fact.made[name]
+        raise KeyError(name)
 
 
 class Port(Device):

@@ -6,6 +6,8 @@ that crate. Rust makes further calls: those of tests/c/shared.txt and tests/comp
 state, loads of any bytes, and random calls, others with each commit. These have to do what the search of the past says.
 tests/c, tests/js and tests/python make recorded calls, too.
 """
+from functools import cache
+
 import model
 import oracle
 import pytest
@@ -23,11 +25,24 @@ FURTHER = {name: rows_of(text) for name, text in
 RUNS = 1_025   # of 40 calls each
 
 
+@cache
+def answers():
+    """Every answer in every state, as rows with what the search of the past says."""
+    return rows_of(recording_of(every_answer()))
+
+
+@cache
+def loads():
+    """Loads of any bytes, with the replies that the search of the past gives."""
+    calls = [*every_load()]
+    return calls, replies_of(Board(oracle), calls)
+
+
 def test_number_of_calls():
     assert sum(map(len, RECORDED.values())) >= 211_850
     assert sum(map(len, FURTHER.values())) >= 150
-    at_least(39_552, every_answer())
-    at_least(62_000, every_load())
+    at_least(39_552, answers())
+    at_least(62_000, loads()[0])
 
 
 @pytest.mark.parametrize("devices", [oracle, model], ids=lambda it: it.__name__)
@@ -39,10 +54,12 @@ def test_models(name, devices):
 
 def test_models_agree():
     """Both models do the same in every answer, in loads and in random calls."""
-    for calls in [[*every_answer()], *random_recorded(seeds("Rust", RUNS))]:
-        assert not difference(rows_of(recording_of(calls)), [*map(Recorder(model).make, calls)])
-    calls = [*every_load()]
-    assert replies_of(Board(oracle), calls) == replies_of(Board(model), calls)
+    runs = [rows_of(recording_of(calls)) for calls in random_recorded(seeds("Rust", RUNS))]
+    for rows in [answers(), *runs]:
+        recorder = Recorder(model)
+        assert not difference(rows, [recorder.make(call) for call, _ in rows])
+    calls, replies = loads()
+    assert replies == replies_of(Board(model), calls)
 
 
 @pytest.fixture(scope="module")
@@ -63,14 +80,13 @@ def test_rust(rust, name):
 
 @pytest.mark.needs("cargo", "cc")
 def test_every_answer_in_rust(rust):
-    rows = rows_of(recording_of(every_answer()))
-    assert not difference(rows, rust([call for call, _ in rows]))
+    assert not difference(answers(), rust([call for call, _ in answers()]))
 
 
 @pytest.mark.needs("cargo", "cc")
 def test_every_load_in_rust(rust):
-    calls = [*every_load()]
-    rows = list(zip([line_of(*call) for call in calls], replies_of(Board(), calls)))
+    calls, replies = loads()
+    rows = list(zip([line_of(*call) for call in calls], replies))
     assert not difference(rows, rust([call for call, _ in rows]))
 
 

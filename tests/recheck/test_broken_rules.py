@@ -4,6 +4,9 @@ nothing.
 
 BROKEN has edits of the translators, for each rule of the tables in recheck/README.md. The tests of the translators
 compare the rules themselves with rustc's code, on the same cases.
+
+For an edit, the cases come first for which the translators run the edited lines. Coq computes the first one that is
+translated in another way and, if that does not show the edit, up to seven more.
 """
 import importlib
 import re
@@ -26,7 +29,9 @@ RECHECK = ROOT / "recheck"
 # The modules that each one imports.
 IMPORTS = {file.stem: set(re.findall(r"^(?:from|import) (\w+)", file.read_text(), re.M))
            for file in RECHECK.glob("*.py")}
-CASES_OF_ONE = 8   # how many cases are computed for a broken rule, of those whose translation it changes
+# How many cases are computed for a broken rule at first, and how many if these do not show it, of those whose
+# translation it changes.
+CASES_OF_ONE = (1, 8)
 
 # The rule, the file, what stands there, and what breaks it.
 BROKEN = [
@@ -318,11 +323,36 @@ def translated(modules, folder, at):
         return fault
 
 
-def changed_by(edit, right, cases, folder):
-    """The first cases that are translated in another way with this edit: their numbers and what is written."""
+def traced(cases, at):
+    """What the translators write for a case, and which lines of theirs it runs: each a file and a number."""
+    ran, files = set(), {str(file): file.name for file in RECHECK.glob("*.py")}
+
+    def line(frame, event, _):
+        if event == "line":
+            ran.add((files[frame.f_code.co_filename], frame.f_lineno))
+        return line
+    before = sys.gettrace()
+    sys.settrace(lambda frame, *_: line if frame.f_code.co_filename in files else None)
+    try:
+        return translated((rust2coq, shell2coq), cases, at), ran
+    finally:
+        sys.settrace(before)
+
+
+def lines_of(edit):
+    """The lines that an edit changes."""
+    file, old, _ = edit
+    first = (RECHECK / file).read_text().partition(old)[0].count("\n") + 1
+    return {(file, line) for line in range(first, first + old.count("\n") + 1)}
+
+
+def changed_by(edit, right, ran, count, cases, folder):
+    """Cases that are translated in another way with this edit, so many at most: their numbers and what is written."""
+    edited = lines_of(edit)
+    order = sorted(range(len(CASES)), key=lambda at: edited.isdisjoint(ran[at]))
     with translators(edit, folder) as modules:
-        found = ((at, translated(modules, cases, at)) for at in range(len(CASES)))
-        return [*islice((one for one in found if one[1] != right[one[0]]), CASES_OF_ONE)]
+        found = ((at, translated(modules, cases, at)) for at in order)
+        return [*islice((one for one in found if one[1] != right[one[0]]), count)]
 
 
 def results(cases, folder):
@@ -346,15 +376,15 @@ def results(cases, folder):
 def test_broken_rules(tmp_path):
     cases = tmp_path / "cases"
     write_cases(cases)
-    right = [translated((rust2coq, shell2coq), cases, at) for at in range(len(CASES))]
-    texts = [(kind, text) for (kind, _), text in zip(CASES, right)]
-    changed = {}   # by each edit, for each case that it changes: the places of what is right and of what is written
-    for number, (_, *edit) in enumerate(BROKEN):
-        changed[number] = []
-        for at, text in changed_by(edit, right, cases, tmp_path / str(number)):
-            changed[number].append((at, len(texts)))
-            texts.append((CASES[at][0], text))
-    computed = results(texts, tmp_path)
-    assert computed.keys() >= {*range(len(CASES))}
-    assert [BROKEN[number] for number, places in changed.items()
-            if all(computed[at] == computed.get(place) for at, place in places)] == []
+    right, ran = zip(*(traced(cases, at) for at in range(len(CASES))))
+    kinds = [kind for kind, _ in CASES]
+    computed = results([*zip(kinds, right)], tmp_path)
+    assert computed.keys() == {*range(len(CASES))}
+    left = BROKEN
+    for count in CASES_OF_ONE:
+        changed = [(at, text, number) for number, (_, *edit) in enumerate(left)
+                   for at, text in changed_by(edit, right, ran, count, cases, tmp_path / f"{count}-{number}")]
+        found = results([(kinds[at], text) for at, text, _ in changed], tmp_path)
+        shown = {number for place, (at, _, number) in enumerate(changed) if found.get(place) != computed[at]}
+        left = [edit for number, edit in enumerate(left) if number not in shown]
+    assert left == []

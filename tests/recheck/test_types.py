@@ -10,8 +10,8 @@ MOST_LINES = 325
 
 
 @pytest.mark.needs("mypy")
-def test_types(tmp_path):
-    check([sys.executable, "-m", "mypy", "--strict", f"--cache-dir={tmp_path}", *FILES], cwd=ROOT / "recheck")
+def test_types():
+    check([sys.executable, "-m", "mypy", "--strict", "--cache-dir=/dev/null", *FILES], cwd=ROOT / "recheck")
 
 
 @pytest.mark.parametrize("file", FILES, ids=lambda it: it.name)

@@ -88,6 +88,7 @@ def sample(monkeypatch, tmp_path):
     monkeypatch.setattr(TOOL, "ROOT", tmp_path)
     monkeypatch.setattr(TOOL, "PARTS", {"sample": part})
     monkeypatch.setattr(TOOL, "LISTED", tmp_path / "survivors.txt")
+    monkeypatch.setenv("PYTEST_DISABLE_PLUGIN_AUTOLOAD", "1")   # which the sample needs not, and which begin slowly
 
     def call(*listed, every=1):
         monkeypatch.setattr(sys, "argv", ["mutants", "--jobs", "1", "--every", f"{every}"])

@@ -41,23 +41,55 @@ def write_test(folder, text, name="test_it.py"):
     (folder / "tests" / name).write_text(text + "\n", encoding="utf-8")
 
 
-def run_pytest(folder, text, *words, path="/nowhere"):
-    """Runs a test alone, without any tool."""
+def write_tests(folder, text):
+    """A folder with a test, our rules, and what these import."""
     write_test(folder, text)
     (folder / "tests" / "common").mkdir()
     for name in ("conftest.py", "pytest.ini"):
         shutil.copy(ROOT / name, folder)
     for path_of in (ROOT / "tests" / "common").glob("*.py"):
         shutil.copy(path_of, folder / "tests" / "common")
+
+
+def run_pytest(folder, text, *words, path="/nowhere"):
+    """Runs a test alone, without any tool."""
+    write_tests(folder, text)
     return run([sys.executable, "-m", "pytest", "tests", *words], cwd=folder, env={"PATH": path})
 
 
-@pytest.mark.parametrize("text, end", BROKEN.values(), ids=BROKEN)
-def test_what_pytest_counts(text, end, tmp_path):
-    ran = run_pytest(tmp_path, text, "--without=node")
-    counts = re.findall(r"\d+ (?:passed|failed|skipped|error)", ran.stdout.splitlines()[-1])
-    assert counts == [end], ran.stdout
-    assert (ran.returncode == 0) == (end in ("1 passed", "1 skipped"))
+# Runs pytest in each folder, as `python3 -m pytest` does, and writes there what it prints. Each run has a process of
+# its own, which is forked after the slowest modules are there. Prints with what status each ends.
+FORKED = """import os, sys
+import hypothesis, pytest
+for folder in sys.argv[1:]:
+    if not (child := os.fork()):
+        os.chdir(folder)
+        sys.path[0] = folder
+        said = os.open("said", os.O_CREAT | os.O_WRONLY)
+        os.dup2(said, 1), os.dup2(said, 2)
+        status = pytest.main(["tests", "--without=node"])
+        sys.stdout.flush(), sys.stderr.flush()
+        os._exit(status)
+    print(os.waitstatus_to_exitcode(os.waitpid(child, 0)[1]))
+"""
+
+
+@pytest.fixture(scope="module")
+def ran(tmp_path_factory):
+    """With what status pytest ends at each of these tests alone, without any tool, and what it prints."""
+    folders = [tmp_path_factory.mktemp("rules") for _ in BROKEN]
+    for folder, (text, _) in zip(folders, BROKEN.values()):
+        write_tests(folder, text)
+    statuses = check([sys.executable, "-c", FORKED, *folders], env={"PATH": "/nowhere"}).split()
+    return {name: (int(status), (folder / "said").read_text("utf-8"))
+            for name, status, folder in zip(BROKEN, statuses, folders, strict=True)}
+
+
+@pytest.mark.parametrize("name", BROKEN)
+def test_what_pytest_counts(name, ran):
+    (status, said), (_, end) = ran[name], BROKEN[name]
+    assert re.findall(r"\d+ (?:passed|failed|skipped|error)", said.splitlines()[-1]) == [end], said
+    assert (status == 0) == (end in ("1 passed", "1 skipped"))
 
 
 def test_what_workers_count(tmp_path):
@@ -109,14 +141,13 @@ def test_sums_are_written(tmp_path):
     assert re.sub("^#.*\n", "", text, flags=re.M) == "tests: 3\ntests, Deno: 1\n"
 
 
-def test_a_missing_tool_names_its_package(tmp_path):
-    text = BROKEN["a tool that is missing"][0]
-    assert "chromium is missing: install chromium, or run with --without chromium" in run_pytest(tmp_path, text).stdout
+def test_a_missing_tool_names_its_package(ran):
+    said = ran["a tool that is missing"][1]
+    assert "chromium is missing: install chromium, or run with --without chromium" in said
 
 
-def test_what_was_not_tried_is_named(tmp_path):
-    text = BROKEN["a tool that is left out"][0]
-    assert "NOT TRIED: 1 tests, since --without names node\n" in run_pytest(tmp_path, text, "--without=node").stdout
+def test_what_was_not_tried_is_named(ran):
+    assert "NOT TRIED: 1 tests, since --without names node\n" in ran["a tool that is left out"][1]
 
 
 def test_a_failure_names_the_seed(tmp_path):
