@@ -47,9 +47,13 @@ def test_kept_scripts(runs):
         assert test.difference(runs.ended(test.script)) is None, test.place
 
 
+@pytest.mark.parametrize("most", [40_000, 2 * LONGEST])
 @pytest.mark.parametrize("size", [0, 6, LONGEST - 1, LONGEST, LONGEST + 1, LONGEST + 2, 2 * LONGEST])
-def test_no_byte_is_read_past_the_limit(runs, size):
-    status, *_ = runs.ended(b"kr 04\n" * (size // 6) + b"\n" * (size % 6))
+def test_no_byte_is_read_past_the_limit(runs, size, most):
+    """Not even if a read gives less than is asked for."""
+    read = os.read
+    with mock.patch("os.read", lambda file, count: read(file, min(count, most))):
+        status, *_ = runs.ended(b"kr 04\n" * (size // 6) + b"\n" * (size % 6))
     assert (runs.taken, status) == (min(size, LONGEST + 1), 4 if size > LONGEST else 1 if size % 6 else 0)
 
 

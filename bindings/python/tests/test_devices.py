@@ -64,6 +64,7 @@ REFUSED = [
     (lambda: Serial().enqueue(3), TypeError, "data is 3", BYTES),
     (lambda: Serial.from_bytes("a"), TypeError, "data is 'a'", BYTES),
     (lambda: Serial.from_state(None), TypeError, "state is None", "SerialState is wanted"),
+    (lambda: Rtc.from_state(SerialState()), TypeError, "state is SerialState(", "RtcState is wanted"),
     (lambda: SerialState(scratch=256), ValueError, "scratch is 256", BYTE),
     (lambda: SerialState(in_buffer=3), TypeError, "in_buffer is 3", BYTES),
     (lambda: SerialState(in_buffer=bytes(65)), ValueError, "in_buffer has 65 bytes", "a port holds at most 64"),
