@@ -1,15 +1,13 @@
 -- SPDX-License-Identifier: Apache-2.0 OR BSD-3-Clause
 -- A list of operations on a port without objects, and one call of it.
-use Rattle.std.proofs.Common.{◌≡◌, ℕ, ◌+◌, ◌-◌, ◌*◌, ◌≤◌, Bool, true, false, not, ◌&&◌, ◌||◌, List, [], ◌∷◌, ◌++◌, length, take, drop, min, refl, ap, sym, ◌∙◌, subst, arith, append_assoc, append-nil, if◌then◌else◌, IsTrue}
-use Rattle.std.specs.Bool.{IsFalse}
+use Rattle.std.proofs.Common.{◌≡◌, ℕ, ◌+◌, ◌-◌, ◌*◌, ◌≤◌, Bool, true, false, not, ◌&&◌, List, [], ◌∷◌, ◌++◌, length, take, refl, ap, sym, ◌∙◌, subst, arith, append_assoc, append-nil, if◌then◌else◌}
 use Rattle.std.proofs.lemmas.List.{take-append-drop, take_min, length-take}
-use Rattle.superio_laws.specs.Serial.{Asked, Op, Read, Write, Enqueue, CharacterTimeout, DecodedOp, IerWrite, is_iir_read, is_rbr_read, State, not_empty, has_bits, only_bits, ier_bits, Rda, Thre, Trace, Coherent, RdaCoversHeldBytes, turns_on, count_if, decode_in, decode_read, decode_write, Other, RxInput, step, step_calls, decoded_calls, sent_by, bytes_that_fit, enqueued_bytes, becomes_pending, iir_after_raise, rda_becomes_pending, is_dlab, is_loopback, register_at, Register, EnqueueEffects, IsUartEnqueue, turned_on_count}
-use Rattle.superio_laws.specs.Serial.History.{acknowledges, accepted_by, read_out_by, accepted_bytes, read_out_bytes, held_bytes, decode_at, output, calls_due, state_of_history}
+use Rattle.superio_laws.specs.Serial.{Asked, Op, Read, Write, Enqueue, CharacterTimeout, DecodedOp, IerWrite, is_iir_read, is_rbr_read, State, not_empty, has_bits, only_bits, ier_bits, Rda, Thre, Trace, Coherent, RdaCoversHeldBytes, turns_on, count_if, decode_in, decode_read, decode_write, Other, RxInput, step, step_calls, decoded_calls, sent_by, bytes_that_fit, enqueued_bytes, becomes_pending, iir_after_raise, is_dlab, is_loopback, register_at, Register, turned_on_count}
+use Rattle.superio_laws.specs.Serial.History.{acknowledges, accepted_by, read_out_by, accepted_bytes, read_out_bytes, held_bytes, decode_at, output}
 use Rattle.superio_laws.specs.Serial.Laws.{state_after}
-use Rattle.superio_laws.specs.Serial.Laws.UartRun.{UartCall, UartRead, UartWrite, UartEnqueue, UartTimeout, UartRestore, IsUartCall, op_of_call, interrupts_of, without_results, trace_with, UartTurnedOnLaw, UartAcceptsLaw, AcceptsFirst, acknowledges_rda, UartCoversLaw}
-use Rattle.superio_laws.specs.Serial.Laws.ListsOfOps.{state_by, read_out_in, accepted_in, sent_in, asked_in, acknowledged_in, all_calls_due, ListAgrees, ListLaw, ListJoins, ListJoinLaw, ListIsHistory, ListHistoryLaw}
+use Rattle.superio_laws.specs.Serial.Laws.UartRun.{UartCall, UartRead, UartWrite, UartEnqueue, UartTimeout, UartRestore, op_of_call, without_results, trace_with, UartTurnedOnLaw, UartAcceptsLaw, acknowledges_rda, UartCoversLaw}
+use Rattle.superio_laws.specs.Serial.Laws.ListsOfOps.{state_by, read_out_in, accepted_in, sent_in, asked_in, acknowledged_in, all_calls_due, ListLaw, ListJoinLaw, ListHistoryLaw}
 use Rattle.superio_core.proofs.Lemmas.Serial.Step.{by_kind, next_by_kind}
-use Rattle.superio_core.proofs.Lemmas.Serial.Coherence.{coherence_law}
 use Rattle.superio_laws.proofs.Lemmas.Serial.Laws.{same_kind, held_bytes_law}
 use Rattle.superio_core.proofs.Lemmas.Serial.{enables_rda}
 use Rattle.superio_laws.proofs.Lemmas.Serial.Laws.Interrupts.{coherent_after}
