@@ -126,12 +126,16 @@ abbrev pub may_set_time : (access : Access) → Bool
 may_set_time (read _ _) = false
 may_set_time (write offset _ _) = (offset == 0x008) || (offset == 0x00C)
 
--- no other access changes how far guest time is ahead of the host's
+-- no other access changes how far guest time is ahead of the host's, and no trace of others does
 abbrev pub KeepsTimeLaw : Type 0
 KeepsTimeLaw = (state : RtcState) (access : Access) → may_set_time access ≡ false
     → (clock_step state access).offset ≡ state.offset
 
--- over such accesses a clock goes on as before. So guest time never goes back from one moment to a later one, while 32
+abbrev pub KeepsTimeInTraceLaw : Type 0
+KeepsTimeInTraceLaw = (state : RtcState) (trace : List Access) → list_any may_set_time trace ≡ false
+    → (state_after_accesses state trace).offset ≡ state.offset
+
+-- while that stays, a clock goes on as before. So guest time never goes back from one moment to a later one, while 32
 -- bits hold it and the moment
 pub record TimeGoesOn (state after : RtcState) (value now : ℕ) : Type 0 where
   pub goes_on : GoesOnFrom after value now
@@ -140,5 +144,5 @@ pub record TimeGoesOn (state after : RtcState) (value now : ℕ) : Type 0 where
       → guest_time_in state (host_time (now + earlier)) ≤ guest_time_in after (host_time (now + later))
 
 abbrev pub TimeGoesOnLaw : Type 0
-TimeGoesOnLaw = (state : RtcState) (trace : List Access) (value now : ℕ) → list_any may_set_time trace ≡ false
-    → GoesOnFrom state value now → TimeGoesOn state (state_after_accesses state trace) value now
+TimeGoesOnLaw = (state after : RtcState) (value now : ℕ) → after.offset ≡ state.offset → GoesOnFrom state value now
+    → TimeGoesOn state after value now

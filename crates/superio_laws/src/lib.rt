@@ -16,7 +16,7 @@ ghost use Rattle.superio_laws.specs.Serial.Laws.Consequences.{PendingByPrefixesL
 ghost use Rattle.superio_laws.specs.Serial.Laws.Line.{NoByteWaitsLaw, TimeoutCallsLaw, RdaFollowsTimeoutsLaw, InterruptAfterPassLaw, ReadOutAfterPassesLaw, LineAfterLaw, UpAfterCallLaw, GoesUpLaw, StaysUpLaw, LineOfHistoryLaw};
 ghost use Rattle.superio_laws.specs.Serial.Laws.Transmit.{IerWriteAsksLaw, ThrWriteAsksLaw, RefusedWriteLaw, RetriedLaw, CalledSinceLaw};
 ghost use Rattle.superio_laws.specs.Serial.Laws.Console.{InterruptToReadLaw, InterruptToSendLaw, ReadOutInPassesLaw, SentInPassesLaw, HandlerRunLaw, HandlerEndsLaw};
-ghost use Rattle.superio_laws.specs.Rtc.{ClockIsHistory, RawBitsByHistory, AlarmDueByHistory, SetTimeLaw, CounterLaw, SetClockLaw, GuestTimeLaw, KeepsTimeLaw, TimeGoesOnLaw};
+ghost use Rattle.superio_laws.specs.Rtc.{ClockIsHistory, RawBitsByHistory, AlarmDueByHistory, SetTimeLaw, CounterLaw, SetClockLaw, GuestTimeLaw, KeepsTimeLaw, KeepsTimeInTraceLaw, TimeGoesOnLaw};
 ghost use Rattle.superio_laws.specs.Serial.Laws.UartRun.{UartRunLaw, UartOutputLaw, UartBoundLaw, UartTurnedOnLaw, UartAcceptsLaw, UartCoversLaw};
 ghost use Rattle.superio_laws.specs.Serial.Laws.ListsOfOps.{ListLaw, ListJoinLaw, ListHistoryLaw};
 ghost use Rattle.superio_laws.specs.Serial.Laws.OneCall.{OneCallLaw, OneReadLaw, ReceivedLaw, RbrReadLaw, RbrDataReadyLaw, ThrWriteLaw, OutcomeEventsLaw, TurnedBitsLaw};
@@ -335,13 +335,14 @@ pub fn set_time()
 
 /// Guest time from one moment to another, in any state. A clock whose counter is not negative goes on from it, second by
 /// second, while 32 bits hold both guest time and the moment. A write of RTCLR sets guest time to its value, RTCDR shows
-/// guest time, and no access but a write of RTCLR or RTCCR changes how far it is ahead of the host's time. So over any
-/// other accesses a clock goes on as before, and guest time never goes back.
+/// guest time, and no access but a write of RTCLR or RTCCR changes how far it is ahead of the host's time. While that
+/// stays, a clock goes on as before, and guest time never goes back.
 pub fn time_goes_on()
     ensures counter { CounterLaw }
     ensures set { SetClockLaw }
     ensures time { GuestTimeLaw }
     ensures keeps_time { KeepsTimeLaw }
+    ensures in_a_trace { KeepsTimeInTraceLaw }
     ensures goes_on { TimeGoesOnLaw }
 {}
 

@@ -13,7 +13,7 @@ use Rattle.std.proofs.lemmas.Nat.Bits.{bit_at_or, bit_at_ones_above, bit_at-lt, 
 use Rattle.superio_core.specs.declared.rtc_pl031.ClockRegister.{ClockRegister}
 use Rattle.superio_core.specs.declared.rtc_pl031.ClockRegister.TheVariants.{Mr, Lr, Cr, Imsc, Icr}
 use Rattle.superio_core.specs.Bits.{with_bits, without_bits}
-use Rattle.superio_laws.specs.Rtc.{ClockIsHistory, ReadsByHistory, GoesOnByHistory, is_cleared, RaisesAt, RaisesNothingAt, AlarmDueByHistory, SetTimeLaw, GoesOnFrom, CounterLaw, SetClockLaw, GuestTimeLaw, may_set_time, KeepsTimeLaw, TimeGoesOnLaw, RtcState, Access, read, write, clock_register_at, host_time, guest_time, clock_register_read, bytes_left, moment_of, fresh_clock, guest_time_in, after_alarm, after_write, clock_step, clock_response, state_after_accesses, is_alarm_reached, Setting, load, reset, setting_of, load_by, counter_by, newest_found, value_written, clock_of_history, clock_history_response, counter, cleared_bits, cleared_by, guest_time_at, match_value, match_written, is_alarm_set, guest_times_since_match, is_reached, is_armed, is_alarm_raised}
+use Rattle.superio_laws.specs.Rtc.{ClockIsHistory, ReadsByHistory, GoesOnByHistory, is_cleared, RaisesAt, RaisesNothingAt, AlarmDueByHistory, SetTimeLaw, GoesOnFrom, CounterLaw, SetClockLaw, GuestTimeLaw, may_set_time, KeepsTimeLaw, KeepsTimeInTraceLaw, TimeGoesOnLaw, RtcState, Access, read, write, clock_register_at, host_time, guest_time, clock_register_read, bytes_left, moment_of, fresh_clock, guest_time_in, after_alarm, after_write, clock_step, clock_response, state_after_accesses, is_alarm_reached, Setting, load, reset, setting_of, load_by, counter_by, newest_found, value_written, clock_of_history, clock_history_response, counter, cleared_bits, cleared_by, guest_time_at, match_value, match_written, is_alarm_set, guest_times_since_match, is_reached, is_armed, is_alarm_raised}
 use Rattle.superio_core.proofs.Lemmas.{bit_at-without, without-twice, without-of-or, or-twice}
 
 -- ---- the alarm at an access
@@ -352,20 +352,18 @@ keeps_time_law state (write offset value now) other =
     kept_by_register (clock_register_at offset) (after_alarm state (host_time now)) value (host_time now) (setting_at offset other)
     ∙ offset-if (is_alarm_reached state (host_time now)) _ state refl
 
-neither : (one others : Bool) → (one || others) ≡ false → (one ≡ false) × (others ≡ false)
+pub neither : (one others : Bool) → (one || others) ≡ false → (one ≡ false) × (others ≡ false)
 neither one others none = (grind arith, grind arith)
 
-offset-kept : (state : RtcState) (trace : List Access) → list_any may_set_time trace ≡ false
-    → (state_after_accesses state trace).offset ≡ state.offset
-offset-kept state [] none = refl
-offset-kept state (access ∷ trace) none =
+pub keeps_time_in_trace_law : KeepsTimeInTraceLaw
+keeps_time_in_trace_law state [] none = refl
+keeps_time_in_trace_law state (access ∷ trace) none =
     let both = neither (may_set_time access) (list_any may_set_time trace) none in
-    keeps_time_law (state_after_accesses state trace) access both.0 ∙ offset-kept state trace both.1
+    keeps_time_law (state_after_accesses state trace) access both.0 ∙ keeps_time_in_trace_law state trace both.1
 
 pub time_goes_on_law : TimeGoesOnLaw
-time_goes_on_law state trace value now none goes =
-    let kept = offset-kept state trace none in
-    let on : GoesOnFrom (state_after_accesses state trace) value now =
+time_goes_on_law state after value now kept goes =
+    let on : GoesOnFrom after value now =
     λ seconds moment fits.
     let time = host_time (now + seconds) in ap (λ offset. guest_time (pos time +ℤ offset) time) kept ∙ goes seconds moment fits in
     record {
