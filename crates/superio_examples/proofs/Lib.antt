@@ -2,3 +2,5 @@
 pub mod EchoLemmas
 pub mod MonitorLemmas
 pub mod QueueLemmas
+mod TracedLemmas
+mod TwoPortsLemmas

@@ -6,4 +6,6 @@ pub mod Mmio
 pub mod Monitor
 pub mod Queues
 pub mod SavedMonitor
+pub mod Traced
 pub mod Triggers
+pub mod TwoPorts

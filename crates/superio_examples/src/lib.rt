@@ -1,6 +1,6 @@
 // SPDX-License-Identifier: Apache-2.0 OR BSD-3-Clause
 //! Short modules to copy into a monitor: a bus, a clock's window in memory, triggers, output that waits, a whole monitor
-//! and its migration, and first claims about the devices.
+//! and its migration, a machine of two ports, and claims about the devices and about loops.
 #![tactic(auto)]
 
 pub mod bus;
@@ -11,4 +11,6 @@ pub mod mmio;
 pub mod monitor;
 pub mod queues;
 pub mod saved_monitor;
+pub mod traced;
 pub mod triggers;
+pub mod two_ports;

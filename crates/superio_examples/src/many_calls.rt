@@ -1,9 +1,9 @@
 // SPDX-License-Identifier: Apache-2.0 OR BSD-3-Clause
 //! Claims about a list of calls, in two ways.
 //!
-//! **A loop of your own** uses the clauses of the calls that it makes: its invariant states what each of them keeps. A
-//! law over traces does not help there, since your loop records no trace. **`run`** makes a list of calls and records
-//! each, and its contract is about all of them together, by the history.
+//! **A loop of your own** uses the clauses of the calls that it makes: its invariant states what each of them keeps. It
+//! can also use laws over traces, as the loops of `traced` do. **`run`** makes a list of calls and records each, and its
+//! contract is about all of them together, by the history.
 ghost use Rattle.std.specs.Prelude.{◌≡◌, ◌+◌, ◌≤◌, ◌++◌, [], IfOk};
 ghost use Rattle.vm_superio.specs.Claims.{Coherent, held, pending_count, transmitter};
 ghost use Rattle.vm_superio.specs.Claims.{answers_in_records, acknowledged_in as acknowledged_by_calls};

@@ -1,10 +1,13 @@
 -- SPDX-License-Identifier: Apache-2.0 OR BSD-3-Clause
 -- The laws that join the step of an access and the history of a clock.
 pub mod History
-use Rattle.std.specs.Prelude.{if◌then◌else◌, List, [], ◌∷◌, ◌≡◌, ℕ, ◌+◌, ◌^◌, ◌<◌, Bool, true, false, ◌==◌, ◌&&◌, Option, None, pos, ◌+ℤ◌}
+use Rattle.std.specs.Prelude.{if◌then◌else◌, List, [], ◌∷◌, ◌≡◌, ℕ, ◌+◌, ◌^◌, ◌<◌, ◌≤◌, Bool, true, false, ◌==◌, ◌&&◌, ◌||◌, Option, Some, None, pos, ◌+ℤ◌}
 use Rattle.std.specs.Int.{bit_at, w32, to_le_bytes}
 use Rattle.std.specs.List.{list_any}
 pub use Rattle.superio_core.specs.declared.rtc_pl031.encoding.RtcState.{RtcState}
+pub use Rattle.superio_core.specs.declared.rtc_pl031.Pl031.{Pl031}
+pub use Rattle.superio_core.specs.declared.rtc_pl031.ClockRegister.{ClockRegister}
+pub use Rattle.superio_core.specs.declared.rtc_pl031.ClockRegister.TheVariants.{Dr, Mr, Lr, Cr, Imsc, Ris, Mis, Icr, Id, Reserved}
 pub use Rattle.superio_core.specs.Rtc.{Access, read, write, clock_register_at, is_readable, is_writable, write_of, moment_of, bytes_left, host_time, guest_time, guest_time_in, clock_register_read, after_write, fresh_clock, state_of_clock}
 pub use Rattle.superio_core.specs.Rtc.Step.{clock_response, clock_step, state_after_accesses, IsDueIn, IsAlarmDue, after_alarm, is_alarm_reached, rtc_irq_level}
 pub use Rattle.superio_laws.specs.Rtc.History.{counter, clock_of_history, clock_history_response, cleared_by, match_written, raises_alarm, is_alarm_raised, Setting, load, reset, setting_of, load_by, counter_by, newest_found, value_written, cleared_bits, guest_time_at, match_value, is_alarm_set, guest_times_since_match, is_reached, is_armed}
@@ -102,3 +105,44 @@ SetTimeLaw = (before after : RtcState) (value now seconds : ℕ) (bytes shown : 
     → shown ≡ bytes_left (clock_response after (read 0x000 (now + seconds))) []
     → now + seconds < 2 ^ 32 → value + seconds < 2 ^ 32
     → shown ≡ to_le_bytes w32 (value + seconds)
+
+-- ---- guest time from one moment to another
+
+-- a clock goes on from its counter, if this is not negative
+abbrev pub CounterLaw : Type 0
+CounterLaw = (state : RtcState) (value now : ℕ) → pos now +ℤ state.offset ≡ pos value → GoesOnFrom state value now
+
+-- a write of RTCLR sets guest time, whatever it was
+abbrev pub SetClockLaw : Type 0
+SetClockLaw = (state : RtcState) (value now : ℕ) → GoesOnFrom (clock_step state (write 0x008 value now)) value now
+
+-- RTCDR shows guest time
+abbrev pub GuestTimeLaw : Type 0
+GuestTimeLaw = (state : RtcState) (now : ℕ)
+    → clock_response state (read 0x000 now) ≡ Some (guest_time_in state (host_time now))
+
+-- the accesses that may set guest time: writes of RTCLR, and of RTCCR
+abbrev pub may_set_time : (access : Access) → Bool
+may_set_time (read _ _) = false
+may_set_time (write offset _ _) = (offset == 0x008) || (offset == 0x00C)
+
+-- no other access changes how far guest time is ahead of the host's, and no trace of others does
+abbrev pub KeepsTimeLaw : Type 0
+KeepsTimeLaw = (state : RtcState) (access : Access) → may_set_time access ≡ false
+    → (clock_step state access).offset ≡ state.offset
+
+abbrev pub KeepsTimeInTraceLaw : Type 0
+KeepsTimeInTraceLaw = (state : RtcState) (trace : List Access) → list_any may_set_time trace ≡ false
+    → (state_after_accesses state trace).offset ≡ state.offset
+
+-- while that stays, a clock goes on as before. So guest time never goes back from one moment to a later one, while 32
+-- bits hold it and the moment
+pub record TimeGoesOn (state after : RtcState) (value now : ℕ) : Type 0 where
+  pub goes_on : GoesOnFrom after value now
+  pub not_back :
+      (earlier later : ℕ) → earlier ≤ later → now + later < 2 ^ 32 → value + later < 2 ^ 32
+      → guest_time_in state (host_time (now + earlier)) ≤ guest_time_in after (host_time (now + later))
+
+abbrev pub TimeGoesOnLaw : Type 0
+TimeGoesOnLaw = (state after : RtcState) (value now : ℕ) → after.offset ≡ state.offset → GoesOnFrom state value now
+    → TimeGoesOn state after value now

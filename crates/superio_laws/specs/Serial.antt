@@ -14,6 +14,7 @@ pub use Rattle.superio_core.specs.declared.serial.WriteEffects.{WriteEffects}
 pub use Rattle.superio_core.specs.declared.serial.registers.Condition.{Condition}
 pub use Rattle.superio_core.specs.declared.serial.registers.Condition.TheVariants.{Rda, Thre}
 pub use Rattle.superio_core.specs.declared.serial.registers.Register.{Register}
-pub use Rattle.superio_core.specs.declared.serial.registers.Register.TheVariants.{Ier, Iir, Data, Unassigned}
+pub use Rattle.superio_core.specs.declared.serial.registers.Register.TheVariants.{Dll, Dlm, Data, Ier, Iir, Lcr, Mcr, Lsr, Msr, Scr, Unassigned}
 pub use Rattle.superio_core.specs.declared.serial.Asked.{Asked}
 pub use Rattle.superio_core.specs.declared.serial.Sent.{Sent}
+pub use Rattle.superio_core.specs.declared.serial.Uart.{Uart}

@@ -16,8 +16,9 @@ ghost use Rattle.superio_laws.specs.Serial.Laws.Consequences.{PendingByPrefixesL
 ghost use Rattle.superio_laws.specs.Serial.Laws.Line.{NoByteWaitsLaw, TimeoutCallsLaw, RdaFollowsTimeoutsLaw, InterruptAfterPassLaw, ReadOutAfterPassesLaw, LineAfterLaw, UpAfterCallLaw, GoesUpLaw, StaysUpLaw, LineOfHistoryLaw};
 ghost use Rattle.superio_laws.specs.Serial.Laws.Transmit.{IerWriteAsksLaw, ThrWriteAsksLaw, RefusedWriteLaw, RetriedLaw, CalledSinceLaw};
 ghost use Rattle.superio_laws.specs.Serial.Laws.Console.{InterruptToReadLaw, InterruptToSendLaw, ReadOutInPassesLaw, SentInPassesLaw, HandlerRunLaw, HandlerEndsLaw};
-ghost use Rattle.superio_laws.specs.Rtc.{ClockIsHistory, RawBitsByHistory, AlarmDueByHistory, SetTimeLaw};
-ghost use Rattle.superio_laws.specs.Serial.Laws.UartRun.{UartRunLaw, UartOutputLaw, UartBoundLaw};
+ghost use Rattle.superio_laws.specs.Rtc.{ClockIsHistory, RawBitsByHistory, AlarmDueByHistory, SetTimeLaw, CounterLaw, SetClockLaw, GuestTimeLaw, KeepsTimeLaw, KeepsTimeInTraceLaw, TimeGoesOnLaw};
+ghost use Rattle.superio_laws.specs.Serial.Laws.UartRun.{UartRunLaw, UartOutputLaw, UartBoundLaw, UartTurnedOnLaw, UartAcceptsLaw, UartCoversLaw};
+ghost use Rattle.superio_laws.specs.Serial.Laws.ListsOfOps.{ListLaw, ListJoinLaw, ListHistoryLaw};
 ghost use Rattle.superio_laws.specs.Serial.Laws.OneCall.{OneCallLaw, OneReadLaw, ReceivedLaw, RbrReadLaw, RbrDataReadyLaw, ThrWriteLaw, OutcomeEventsLaw, TurnedBitsLaw};
 
 /// From any start, each register that stores writes holds its last effective one, and MSR never changes.
@@ -98,6 +99,26 @@ pub fn whole_runs_of_uarts()
     ensures run { UartRunLaw }
     ensures output { UartOutputLaw }
     ensures bound { UartBoundLaw }
+{}
+
+/// One call of a `Uart`, in any state. It asks for the interrupt once for each condition that becomes pending. An enqueue
+/// accepts the first bytes, which come last among those held, and leaves the others to you. Suppose that RDA is pending
+/// whenever bytes are held and IER enables it. This stays so, unless the call reads IIR or RBR.
+pub fn one_uart_call()
+    ensures turned_on { UartTurnedOnLaw }
+    ensures accepted { UartAcceptsLaw }
+    ensures covers { UartCoversLaw }
+{}
+
+/// The laws of a list of operations on a `Uart`, for a loop of your own. From any start, the bytes that they read out,
+/// followed by those held, are those held at first, followed by those accepted. They ask for the interrupt at most
+/// twice, and once more for each condition that they acknowledge. A list in two parts does what the first part does, and
+/// then what the second does. From a coherent start, the trace of the list says the same as the list: the state after
+/// it, the bytes read out, accepted and sent, and how often the interrupt is asked for.
+pub fn lists_of_ops()
+    ensures agree { ListLaw }
+    ensures join { ListJoinLaw }
+    ensures history { ListHistoryLaw }
 {}
 
 /// From any start, a condition is pending exactly if it was raised at some point or pending at the start, and no later
@@ -311,6 +332,19 @@ pub fn set_time()
 {
     by_lemmas();
 }
+
+/// Guest time from one moment to another, in any state. A clock whose counter is not negative goes on from it, second by
+/// second, while 32 bits hold both guest time and the moment. A write of RTCLR sets guest time to its value, RTCDR shows
+/// guest time, and no access but a write of RTCLR or RTCCR changes how far it is ahead of the host's time. While that
+/// stays, a clock goes on as before, and guest time never goes back.
+pub fn time_goes_on()
+    ensures counter { CounterLaw }
+    ensures set { SetClockLaw }
+    ensures time { GuestTimeLaw }
+    ensures keeps_time { KeepsTimeLaw }
+    ensures in_a_trace { KeepsTimeInTraceLaw }
+    ensures goes_on { TimeGoesOnLaw }
+{}
 
 /// The prover's search does not apply the lemmas of these laws. So the functions above that state them call this one,
 /// and its answers cite the lemmas.

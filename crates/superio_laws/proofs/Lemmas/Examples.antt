@@ -1,13 +1,22 @@
 -- SPDX-License-Identifier: Apache-2.0 OR BSD-3-Clause
 -- Worked examples of words that laws only assume, or bound by, since with a wrong one they would say less.
 pub mod Console
-use Rattle.std.proofs.Common.{◌≡◌, ℕ, ◌≤◌, true, false, List, [], ◌∷◌, ◌++◌, length, map, count_by, refl, arith}
-use Rattle.superio_laws.specs.Serial.{Asked, Sent, Coherent, State, fresh_state, Op, Read, Write, Enqueue, Response, ByteRead, WriteOk, EnqueueOk, Trace, TraceEntry, IerWrite, ThrWrite, is_iir_read, is_rbr_read, Rda, Thre, conditions_due, has_bits, only_bits, with_bits}
+use Rattle.std.proofs.Common.{◌≡◌, ℕ, ◌≤◌, true, false, List, [], ◌∷◌, ◌++◌, length, map, count_by, pos, ◌-ℤ◌, refl, arith}
+use Rattle.superio_laws.specs.Serial.{Asked, Sent, Coherent, State, fresh_state, Op, Read, Write, Enqueue, Response, ByteRead, WriteOk, EnqueueOk, Trace, TraceEntry, IerWrite, ThrWrite, is_iir_read, is_rbr_read, Rda, Thre, ReadEffects, conditions_due, has_bits, only_bits, with_bits}
 use Rattle.superio_laws.specs.Serial.History.{held_bytes, read_out_bytes, decoded_ops, covers_waiting_bytes}
 use Rattle.superio_laws.specs.Serial.Laws.Consequences.{polls, polls_after_data_ready}
 use Rattle.superio_laws.specs.Serial.Laws.Line.{HandlerPasses, ReadOutAfterPassesLaw, may_lower_line}
-use Rattle.superio_laws.specs.Serial.Laws.UartRun.{UartCall, UartCallsFollow, ops_of_calls, trace_with, interrupts_to_raise, UartBoundLaw}
-use Rattle.superio_laws.specs.Rtc.{Access, read, write, fresh_clock, guest_times_since_match, is_armed}
+use Rattle.superio_laws.specs.Serial.Laws.ListsOfOps.{asked_in, acknowledged_in, read_out_in}
+use Rattle.superio_laws.specs.Serial.Laws.UartRun.{UartRead, UartTimeout, acknowledges_rda, UartCall, UartCallsFollow, ops_of_calls, trace_with, interrupts_to_raise, UartBoundLaw}
+use Rattle.superio_laws.specs.Rtc.{RtcState, guest_time_in, host_time, may_set_time, Access, read, write, fresh_clock, guest_times_since_match, is_armed}
+
+-- what a read of no event gives
+abbrev none_read : ReadEffects
+none_read = record { byte = 0; buffer_read = false; in_buffer_empty = false }
+
+-- a clock that is 100 seconds behind the host's time
+abbrev behind : RtcState
+behind = record fresh_clock { offset = pos 0 -ℤ pos 100 }
 
 -- ---- the bound on interrupts that a caller is told
 
@@ -83,6 +92,40 @@ armed_until_reached :
     ∷ []
     ≡ true ∷ false ∷ true ∷ false ∷ []
 armed_until_reached = refl
+
+-- ---- lists of operations
+
+-- a read of IIR acknowledges two conditions, and one of RBR one. The IER write and the byte ask once each
+abbrev few : List Op
+few = Write 1 0x03 ∷ Enqueue (0x61 ∷ []) ∷ Read 2 ∷ Read 0 ∷ Read 5 ∷ []
+
+asks_and_acknowledges :
+    asked_in fresh_state few ∷ acknowledged_in fresh_state few ∷ length (read_out_in fresh_state few) ∷ [] ≡ 2 ∷ 3 ∷ 1 ∷ []
+unfolding has_bits only_bits with_bits
+asks_and_acknowledges = refl
+
+-- with DLAB set, offset 0 is not RBR
+only_reads_acknowledge :
+    acknowledges_rda (UartRead 2 none_read) fresh_state
+    ∷ acknowledges_rda (UartRead 0 none_read) fresh_state
+    ∷ acknowledges_rda (UartRead 0 none_read) (record fresh_state { line_control = 0x80 })
+    ∷ acknowledges_rda (UartTimeout 0) fresh_state
+    ∷ []
+    ≡ true ∷ true ∷ false ∷ false ∷ []
+unfolding has_bits
+only_reads_acknowledge = refl
+
+-- ---- guest time
+
+set_by_two_registers :
+    map may_set_time (write 0x008 5 0 ∷ write 0x00C 1 0 ∷ write 0x004 5 0 ∷ read 0x008 0 ∷ []) ≡ true ∷ true ∷ false ∷ false ∷ []
+set_by_two_registers = refl
+
+-- a counter that is negative shows the host's time, and then begins at 0: so guest time goes back there
+goes_back_to_0 :
+    guest_time_in behind (host_time 99) ∷ guest_time_in behind (host_time 100) ∷ guest_time_in behind (host_time 101) ∷ []
+    ≡ 99 ∷ 0 ∷ 1 ∷ []
+goes_back_to_0 = refl
 
 -- ---- restores
 

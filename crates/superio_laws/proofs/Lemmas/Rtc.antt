@@ -13,7 +13,7 @@ use Rattle.std.proofs.lemmas.Nat.Bits.{bit_at_or, bit_at_ones_above, bit_at-lt, 
 use Rattle.superio_core.specs.declared.rtc_pl031.ClockRegister.{ClockRegister}
 use Rattle.superio_core.specs.declared.rtc_pl031.ClockRegister.TheVariants.{Mr, Lr, Cr, Imsc, Icr}
 use Rattle.superio_core.specs.Bits.{with_bits, without_bits}
-use Rattle.superio_laws.specs.Rtc.{ClockIsHistory, ReadsByHistory, GoesOnByHistory, is_cleared, RaisesAt, RaisesNothingAt, AlarmDueByHistory, SetTimeLaw, RtcState, Access, read, write, clock_register_at, host_time, guest_time, clock_register_read, bytes_left, moment_of, fresh_clock, guest_time_in, after_alarm, after_write, clock_step, clock_response, state_after_accesses, is_alarm_reached, Setting, load, reset, setting_of, load_by, counter_by, newest_found, value_written, clock_of_history, clock_history_response, counter, cleared_bits, cleared_by, guest_time_at, match_value, match_written, is_alarm_set, guest_times_since_match, is_reached, is_armed, is_alarm_raised}
+use Rattle.superio_laws.specs.Rtc.{ClockIsHistory, ReadsByHistory, GoesOnByHistory, is_cleared, RaisesAt, RaisesNothingAt, AlarmDueByHistory, SetTimeLaw, GoesOnFrom, CounterLaw, SetClockLaw, GuestTimeLaw, may_set_time, KeepsTimeLaw, KeepsTimeInTraceLaw, TimeGoesOnLaw, RtcState, Access, read, write, clock_register_at, host_time, guest_time, clock_register_read, bytes_left, moment_of, fresh_clock, guest_time_in, after_alarm, after_write, clock_step, clock_response, state_after_accesses, is_alarm_reached, Setting, load, reset, setting_of, load_by, counter_by, newest_found, value_written, clock_of_history, clock_history_response, counter, cleared_bits, cleared_by, guest_time_at, match_value, match_written, is_alarm_set, guest_times_since_match, is_reached, is_armed, is_alarm_raised}
 use Rattle.superio_core.proofs.Lemmas.{bit_at-without, without-twice, without-of-or, or-twice}
 
 -- ---- the alarm at an access
@@ -275,22 +275,22 @@ alarm_due_law = record {
 -- ---- a clock that was set goes on from there
 
 -- a moment that 32 bits hold is the host's time
-host_time-small : (now : ℕ) → now < 2 ^ 32 → host_time now ≡ now
+pub host_time-small : (now : ℕ) → now < 2 ^ 32 → host_time now ≡ now
 host_time-small now fits = grind (arith, common_steps)
 
 -- so is a counter the guest's
-guest_time-small : (value : ℕ) → value < 2 ^ 32 → (time : ℕ) → guest_time (pos value) time ≡ value
+pub guest_time-small : (value : ℕ) → value < 2 ^ 32 → (time : ℕ) → guest_time (pos value) time ≡ value
 guest_time-small value fits time = grind (arith, common_steps)
 
-counter-later : (value now seconds : ℕ) → pos (now + seconds) +ℤ (pos value -ℤ pos now) ≡ pos (value + seconds)
+pub counter-later : (value now seconds : ℕ) → pos (now + seconds) +ℤ (pos value -ℤ pos now) ≡ pos (value + seconds)
 counter-later value now seconds = omega (arith, ints)
 
 -- an alarm that is reached changes no offset
-offset-if : (reached : Bool) (raised state : RtcState) → raised.offset ≡ state.offset → (if reached then raised else state).offset ≡ state.offset
+pub offset-if : (reached : Bool) (raised state : RtcState) → raised.offset ≡ state.offset → (if reached then raised else state).offset ≡ state.offset
 offset-if reached raised state same = grind arith
 
 -- what the clock shows, by its offset
-shown-by-offset : (after : RtcState) (value now seconds : ℕ) → after.offset ≡ pos value -ℤ pos now
+pub shown-by-offset : (after : RtcState) (value now seconds : ℕ) → after.offset ≡ pos value -ℤ pos now
     → now + seconds < 2 ^ 32 → value + seconds < 2 ^ 32
     → guest_time_in (after_alarm after (host_time (now + seconds))) (host_time (now + seconds)) ≡ value + seconds
 shown-by-offset after value now seconds set moment fits =
@@ -311,6 +311,66 @@ set_time_law before after value now seconds bytes shown are made seen moment fit
     ap (λ (s : RtcState). s.offset) made ∙ ap (λ n. pos n -ℤ pos (host_time now)) is_value
     ∙ ap (λ n. pos value -ℤ pos n) (host_time-small now (omega (arith, moment))) in
     seen ∙ ap (λ n. to_le_bytes w32 n) (shown-by-offset after value now seconds set moment fits)
+
+-- ---- guest time from one moment to another
+
+pub counter_law : CounterLaw
+counter_law state value now counts seconds moment fits =
+    let count : pos (now + seconds) +ℤ state.offset ≡ pos (value + seconds) = omega (arith, ints, counts) in
+    ap (λ time. guest_time_in state time) (host_time-small (now + seconds) moment)
+    ∙ ap (λ counter. guest_time counter (now + seconds)) count
+    ∙ guest_time-small (value + seconds) fits (now + seconds)
+
+pub set_clock_law : SetClockLaw
+set_clock_law state value now seconds moment fits =
+    let after : RtcState = clock_step state (write 0x008 value now) in
+    let set : after.offset ≡ pos value -ℤ pos now =
+    ap (λ n. pos value -ℤ pos n) (host_time-small now (omega (arith, moment))) in
+    counter_law after value now (omega (arith, ints, set)) seconds moment fits
+
+pub guest_time_law : GuestTimeLaw
+guest_time_law state now =
+    let time = host_time now in
+    ap (λ offset. Some (guest_time (pos time +ℤ offset) time)) (offset-if (is_alarm_reached state time) _ state refl)
+
+-- the registers that set guest time
+abbrev is_setting : ClockRegister → Bool
+is_setting Lr = true
+is_setting Cr = true
+is_setting _ = false
+
+setting_at : (offset : ℕ) → ((offset == 0x008) || (offset == 0x00C)) ≡ false → is_setting (clock_register_at offset) ≡ false
+setting_at offset other = grind (arith, common_steps)
+
+kept_by_register : (register : ClockRegister) (state : RtcState) (value time : ℕ) → is_setting register ≡ false
+    → (after_write state register value time).offset ≡ state.offset
+kept_by_register register state value time other = grind arith
+
+pub keeps_time_law : KeepsTimeLaw
+keeps_time_law state (read offset now) other = offset-if (is_alarm_reached state (host_time now)) _ state refl
+keeps_time_law state (write offset value now) other =
+    kept_by_register (clock_register_at offset) (after_alarm state (host_time now)) value (host_time now) (setting_at offset other)
+    ∙ offset-if (is_alarm_reached state (host_time now)) _ state refl
+
+pub neither : (one others : Bool) → (one || others) ≡ false → (one ≡ false) × (others ≡ false)
+neither one others none = (grind arith, grind arith)
+
+pub keeps_time_in_trace_law : KeepsTimeInTraceLaw
+keeps_time_in_trace_law state [] none = refl
+keeps_time_in_trace_law state (access ∷ trace) none =
+    let both = neither (may_set_time access) (list_any may_set_time trace) none in
+    keeps_time_law (state_after_accesses state trace) access both.0 ∙ keeps_time_in_trace_law state trace both.1
+
+pub time_goes_on_law : TimeGoesOnLaw
+time_goes_on_law state after value now kept goes =
+    let on : GoesOnFrom after value now =
+    λ seconds moment fits.
+    let time = host_time (now + seconds) in ap (λ offset. guest_time (pos time +ℤ offset) time) kept ∙ goes seconds moment fits in
+    record {
+      goes_on = on;
+      not_back = λ earlier later order moment fits.
+          omega (arith, goes earlier (omega (arith, order, moment)) (omega (arith, order, fits)), on later moment fits, order);
+    }
 
 -- ---- a fresh clock is that of no access
 

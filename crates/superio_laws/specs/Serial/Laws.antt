@@ -3,6 +3,7 @@
 pub mod Console
 pub mod Consequences
 pub mod Line
+pub mod ListsOfOps
 pub mod OneCall
 pub mod UartRun
 pub mod Transmit

@@ -13,11 +13,11 @@ nothing_there : (after before : Trace) (x : TraceEntry) → [] ≡ after ++ x �
 nothing_there [] before x e = cc
 nothing_there (y ∷ after) before x e = cc
 
-abbrev all_places : (check : Trace → TraceEntry → Bool) (newest : Trace) → Bool
+abbrev pub all_places : (check : Trace → TraceEntry → Bool) (newest : Trace) → Bool
 all_places check [] = true
 all_places check (entry ∷ newest) = check newest entry && all_places check newest
 
-each_place : (check : Trace → TraceEntry → Bool) (newest : Trace) → IsTrue (all_places check newest)
+pub each_place : (check : Trace → TraceEntry → Bool) (newest : Trace) → IsTrue (all_places check newest)
     → (later earlier : Trace) (entry : TraceEntry) → newest ≡ later ++ entry ∷ earlier → IsTrue (check earlier entry)
 each_place check [] all later earlier entry place = absurd (nothing_there later earlier entry place)
 each_place check (first ∷ newest) all [] earlier entry place =
@@ -56,7 +56,7 @@ either start earlier entry now false true same all is = inr (raised_by start ear
 either start earlier entry true false false same all is = absurd (false≢true all)
 either start earlier entry false false false same all is = absurd (false≢true is)
 
-abbrev asks_at : (driver : Driver) (start : State) (before earlier : Trace) (entry : TraceEntry) → Bool
+abbrev pub asks_at : (driver : Driver) (start : State) (before earlier : Trace) (entry : TraceEntry) → Bool
 asks_at driver start before earlier entry =
     not (has_to_send driver start (entry ∷ earlier ++ before)) || has_to_send driver start (earlier ++ before)
     || is_raised Thre start (earlier ++ before) entry
@@ -68,7 +68,7 @@ asks_by driver start before newest all later earlier entry place has =
     (each_place (asks_at driver start before) newest all later earlier entry place) has
 
 -- an entry that reads no IIR that shows nothing pending
-abbrev shows_some : (start : State) (before earlier : Trace) (entry : TraceEntry) → Bool
+abbrev pub shows_some : (start : State) (before earlier : Trace) (entry : TraceEntry) → Bool
 shows_some start before earlier entry =
     not (is_iir_read (decode_at start (earlier ++ before) entry.op)) || is_pending Thre start (earlier ++ before)
     || is_pending Rda start (earlier ++ before)
@@ -76,12 +76,12 @@ shows_some start before earlier entry =
 shown : (kind : DecodedOp) (thre rda : Bool) → kind ≡ IirRead → thre ≡ false → rda ≡ false → IsTrue (not (is_iir_read kind) || thre || rda) → ⊥
 shown kind thre rda reads no_thre no_rda some = grind arith
 
-no_none_by : (start : State) (before newest : Trace) → IsTrue (all_places (shows_some start before) newest)
+pub no_none_by : (start : State) (before newest : Trace) → IsTrue (all_places (shows_some start before) newest)
     → TimeoutAfterNone start before newest
 no_none_by start before newest all after earlier entry place reads none =
     absurd (shown _ _ _ reads none.0 none.1 (each_place (shows_some start before) newest all after earlier entry place))
 
-rule_by : (start : State) (before others : Trace) (read : TraceEntry) (asked : Asked) → IsTrue (all_places (shows_some start before) others)
+pub rule_by : (start : State) (before others : Trace) (read : TraceEntry) (asked : Asked) → IsTrue (all_places (shows_some start before) others)
     → TimeoutAfterNone start before (timeout_entry asked ∷ read ∷ others)
 rule_by start before others read asked all [] earlier entry place reads none =
     let same : timeout_entry asked ≡ entry = cc in

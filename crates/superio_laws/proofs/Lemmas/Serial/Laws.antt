@@ -4,6 +4,7 @@ pub mod Console
 pub mod Consequences
 pub mod InterruptDriver
 pub mod Interrupts
+pub mod ListsOfOps
 pub mod OneCall
 pub mod Reads
 pub mod StepsOfHistory

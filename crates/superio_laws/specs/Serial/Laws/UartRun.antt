@@ -1,9 +1,9 @@
 -- SPDX-License-Identifier: Apache-2.0 OR BSD-3-Clause
 -- The laws by which a port without objects and the history agree. What the caller finds when it carries out the effects
 -- changes nothing, so the start and the operations alone determine every read, interrupt, event and byte sent.
-use Rattle.std.specs.Prelude.{◌≡◌, ⊤, ℕ, ◌+◌, ◌*◌, ◌≤◌, not, ◌==◌, ◌&&◌, ◌||◌, nat_le, if◌then◌else◌, List, [], ◌∷◌, ◌++◌, length, count_by}
-use Rattle.superio_laws.specs.Serial.{Asked, Sent, events_of_read, Read, Write, Enqueue, CharacterTimeout, Restore, TraceEntry, Trace, Op, sent_by, is_iir_read, is_rbr_read, ReadEffects, WriteEffects, EnqueueEffects, State, not_empty, Coherent, conditions_due, IsUartRead, IsUartWrite, IsUartEnqueue, IsUartTimeout}
-use Rattle.superio_laws.specs.Serial.History.{calls_due, history_events, guest_read, output, state_of_history, decode_at, loopback_after, accepted_by, held_bytes, conditions_due_after, decoded_ops}
+use Rattle.std.specs.Prelude.{◌≡◌, ⊤, ℕ, ◌+◌, ◌*◌, ◌≤◌, not, ◌==◌, ◌&&◌, ◌||◌, nat_le, if◌then◌else◌, List, [], ◌∷◌, ◌++◌, length, take, drop, count_by, Bool, false}
+use Rattle.superio_laws.specs.Serial.{turned_on_count, enqueued_bytes, RdaCoversHeldBytes, Rda, decode_in, Asked, Sent, events_of_read, Read, Write, Enqueue, CharacterTimeout, Restore, TraceEntry, Trace, Op, sent_by, is_iir_read, is_rbr_read, ReadEffects, WriteEffects, EnqueueEffects, State, not_empty, Coherent, conditions_due, IsUartRead, IsUartWrite, IsUartEnqueue, IsUartTimeout}
+use Rattle.superio_laws.specs.Serial.History.{calls_due, history_events, guest_read, output, state_of_history, decode_at, loopback_after, accepted_by, held_bytes, conditions_due_after, decoded_ops, acknowledges}
 
 -- a call with its effects
 pub data UartCall : Type 0 where
@@ -124,3 +124,31 @@ UartBoundLaw = (start end : State) (calls : List UartCall) → Coherent start
     → UartCallsFollow start calls end
     → let kinds = decoded_ops start (trace_with [] (ops_of_calls calls)) in
     interrupts_to_raise calls ≤ 2 + 2 * count_by is_iir_read kinds + count_by is_rbr_read kinds
+
+-- ---- one call, in any state
+
+-- the interrupt is asked for once for each condition that becomes pending. A read makes none pending, and what a restore
+-- asks for was pending before
+abbrev pub UartTurnedOnLaw : Type 0
+UartTurnedOnLaw = (call : UartCall) (old new : State) → IsUartCall call old new
+    → interrupts_of call ≡ turned_on_count old new
+
+-- an enqueue accepts the first bytes, which come last among those held, and leaves the others to the caller
+pub record AcceptsFirst (bytes : List ℕ) (effects : EnqueueEffects) (old new : State) : Type 0 where
+  pub first : take effects.accepted bytes ≡ enqueued_bytes old bytes
+  pub held : new.in_buffer ≡ old.in_buffer ++ take effects.accepted bytes
+  pub rest : take effects.accepted bytes ++ drop effects.accepted bytes ≡ bytes
+
+abbrev pub UartAcceptsLaw : Type 0
+UartAcceptsLaw = (bytes : List ℕ) (effects : EnqueueEffects) (old new : State) → IsUartEnqueue bytes effects old new
+    → AcceptsFirst bytes effects old new
+
+-- the call reads IIR, or RBR
+abbrev pub acknowledges_rda : (call : UartCall) (s : State) → Bool
+acknowledges_rda (UartRead offset effects) s = acknowledges Rda (decode_in s (Read offset))
+acknowledges_rda call s = false
+
+-- if RDA is pending whenever bytes are held and IER enables it, every other call leaves it so
+abbrev pub UartCoversLaw : Type 0
+UartCoversLaw = (call : UartCall) (old new : State) → IsUartCall call old new → acknowledges_rda call old ≡ false
+    → RdaCoversHeldBytes old → RdaCoversHeldBytes new

@@ -173,7 +173,7 @@ pub ruleset bits = (rda_left, rda_sets, rda_cleared, thre_left, thre_set, thre_k
 -- ---- one operation
 
 -- an IER write, first for RDA, and then for THRE, unless the trigger refused
-ier_write_turned : (held refused : Bool) (enable old : ℕ)
+pub ier_write_turned : (held refused : Bool) (enable old : ℕ)
     → let first = if held then iir_after_raise Rda enable old else old in
     count_if (held && becomes_pending Rda enable old) + count_if (becomes_pending Thre enable first && not refused)
     ≡ count old (if refused then first else iir_after_raise Thre enable first)

@@ -136,7 +136,7 @@ whole_run_law start end calls coherent follow = run_from start [] calls end cohe
 -- ---- one call
 
 -- it is a step without a refusal
-step-of-call : (call : UartCall) (old new : State) → IsUartCall call old new → new ≡ step old (op_of_call call) Asked.Nothing
+pub step-of-call : (call : UartCall) (old new : State) → IsUartCall call old new → new ≡ step old (op_of_call call) Asked.Nothing
 step-of-call call old new is = grind arith
 
 read-possible :
