@@ -47,9 +47,9 @@ def functions():
 
 
 def listed():
-    """The functions that the table of docs/WRONG-BODIES.md names."""
-    table = Document("docs/WRONG-BODIES.md").text.split("| Functions without an edit |")[1].split("\n\n")[0]
-    for code in CODE.findall(table):
+    """The functions that docs/WRONG-BODIES.md names in the sentence about those without an edit."""
+    sentence = Document("docs/WRONG-BODIES.md").text.split("These functions have no edit: ")[1].split(". ")[0]
+    for code in CODE.findall(sentence):
         owner = code.rpartition("::")[0]
         for name in code.removeprefix(f"{owner}::").split(", "):
             yield f"{owner}::{name}" if owner else name
