@@ -1,9 +1,9 @@
 // SPDX-License-Identifier: Apache-2.0 OR BSD-3-Clause
 //! A monitor of one's own: two serial ports without I/O, a clock and the reset command, with a loop of its own. Each
 //! claim about it has a proof of at most 20 lines, most by a law of `superio_laws`.
-ghost use Rattle.std.specs.Prelude.{◌≡◌, ◌≤◌, ◌+◌, ◌++◌, ℕ, [], ◌∷◌, take, drop, false, if◌then◌else◌};
+ghost use Rattle.std.specs.Prelude.{◌≡◌, ◌≤◌, ◌+◌, ◌++◌, ℕ, [], ◌∷◌, false, if◌then◌else◌};
 ghost use Rattle.std.specs.List.{list_any};
-ghost use Rattle.superio_laws.specs.Serial.{Asked, Coherent, CoherentUart, RdaCoversHeldBytes, Write, decode_in, sends_byte, sent_by, state_of_uart, step, step_calls, turned_on_count};
+ghost use Rattle.superio_laws.specs.Serial.{Asked, Coherent, CoherentUart, RdaCoversHeldBytes, Write, decode_in, enqueued_bytes, sends_byte, sent_by, state_of_uart, step, step_calls, turned_on_count};
 ghost use Rattle.superio_laws.specs.Serial.History.{state_of_history};
 ghost use Rattle.superio_laws.specs.Serial.Laws.ListsOfOps.{accepted_in, acknowledged_in, read_out_in};
 ghost use Rattle.superio_laws.specs.Serial.Laws.UartRun.{trace_with};
@@ -171,9 +171,10 @@ pub fn no_byte_is_lost(machine: &mut TwoPorts, events: &[Event])
     machine.run(events);
 }
 
-/// A guest causes at most two interrupts of each port, and one more for each condition that its reads acknowledge.
+/// The ports ask for at most two interrupts each, plus two for each read of IIR and one for each read of RBR.
 pub fn interrupts_are_bounded(machine: &mut TwoPorts, events: &[Event]) -> u64
-    ensures { result ≤ 4 + acknowledged_in (state_of_uart machine.old.first) (ops_on_first events.now)
+    ensures asked { result ≡ asked_in_all events.now (machine_of machine.old) }
+    ensures bound { result ≤ 4 + acknowledged_in (state_of_uart machine.old.first) (ops_on_first events.now)
         + acknowledged_in (state_of_uart machine.old.second) (ops_on_second events.now) }
 {
     superio_laws::lists_of_ops();
@@ -217,10 +218,11 @@ pub fn a_set_clock_goes_on(clock: &mut Pl031, value: u32, now: u64)
     clock.write(RTCLR, value, now);
 }
 
-/// The part of the input that a port accepts, and the part that is left, are the input. Returns the second.
+/// The port holds what it accepts of the input behind the bytes that it held. Returns the rest of the input.
 pub fn offer<'a>(port: &mut Uart, input: &'a [u8]) -> &'a [u8]
-    ensures { (count : ℕ) × (result.now ≡ drop count input.now)
-        × ((state_of_uart port.new).in_buffer ≡ (state_of_uart port.old).in_buffer ++ take count input.now) }
+    ensures held { (state_of_uart port.new).in_buffer
+        ≡ (state_of_uart port.old).in_buffer ++ enqueued_bytes (state_of_uart port.old) input.now }
+    ensures rest { enqueued_bytes (state_of_uart port.old) input.now ++ result.now ≡ input.now }
 {
     superio_laws::one_uart_call();
     let effects = port.enqueue_raw_bytes(input);

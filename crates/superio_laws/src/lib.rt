@@ -112,9 +112,9 @@ pub fn one_uart_call()
 
 /// The laws of a list of operations on a `Uart`, for a loop of your own. From any start, the bytes that they read out,
 /// followed by those held, are those held at first, followed by those accepted. They ask for the interrupt at most
-/// twice, and once more for each condition that they acknowledge. A list in two parts does what the first part does, and
-/// then what the second does. From a coherent start, the trace of the list says the same as the list: the state after
-/// it, the bytes read out, accepted and sent, and how often the interrupt is asked for.
+/// twice, plus twice for each IIR read and once for each RBR read. A list in two parts does what the first part does,
+/// and then what the second does. From a coherent start, the trace of the list says the same as the list: the state
+/// after it, the bytes read out, accepted and sent, and how often the interrupt is asked for.
 pub fn lists_of_ops()
     ensures agree { ListLaw }
     ensures join { ListJoinLaw }

@@ -8,7 +8,7 @@ use std::test::Fail;
 use superio_core::{Pl031, Uart};
 use superio_examples::echo::{echo, over_serial};
 use superio_examples::many_calls::{Access, make_all, make_by_run};
-use superio_examples::queues::OutputQueue;
+use superio_examples::queues::{OutputQueue, write_beside};
 use superio_examples::triggers::InterruptLine;
 use superio_examples::two_ports::{Event, PortCall, TwoPorts, offer, write_to_output};
 use superio_examples::{traced, two_ports};
@@ -144,5 +144,8 @@ fn loops_with_a_trace_reach_the_port(rt: HostRuntime) -> Result<(), Fail> {
     let accesses = [Access::Write(7, 0x5A), Access::Read(7)];
     traced::lose_no_byte(&mut serial, &accesses);
     assert!(rt; serial.read(7) == 0x5A);
+    let mut output = OutputQueue::new(rt.alloc(), 1)?;
+    let _ = write_beside(&mut serial, &mut output, 0, b'x');
+    assert!(rt; !output.is_empty());
     Ok(())
 }

@@ -4,8 +4,8 @@ use Rattle.superio_examples.specs.TwoPorts.{machine_of, ops_on_first, ops_on_sec
 use Rattle.superio_examples.proofs.TwoPortsLemmas.{asked-run}
 use Rattle.superio_examples.proofs.two_ports.interrupts_are_bounded.Goals as goal
 
-pub returns : goal.returns
-returns c =
+pub returns-clause-bound : goal.returns-clause-bound
+returns-clause-bound c =
     let old = machine_of c.args.machine.now in
     let events = c.args.events.now in
     let first = c.lists_of_ops.ensures.agree old.first (ops_on_first events) in

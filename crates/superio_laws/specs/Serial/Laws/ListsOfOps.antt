@@ -31,7 +31,7 @@ abbrev pub asked_in : (s : State) (ops : List Op) → ℕ
 asked_in s [] = 0
 asked_in s (op ∷ later) = step_calls s op + asked_in (step s op Asked.Nothing) later
 
--- how many conditions they acknowledge at most: a read of IIR two, and one of RBR one
+-- how many conditions their reads may acknowledge: an IIR read two, and an RBR read one
 abbrev pub acknowledged_in : (s : State) (ops : List Op) → ℕ
 acknowledged_in s [] = 0
 acknowledged_in s (op ∷ later) =
@@ -41,7 +41,7 @@ acknowledged_in s (op ∷ later) =
 -- ---- from any start
 
 -- the bytes read out, followed by those held, are those held at first, followed by those accepted. The interrupt is
--- asked for at most twice, and once more for each condition that is acknowledged
+-- asked for at most twice, plus twice for each IIR read and once for each RBR read
 pub record ListAgrees (s : State) (ops : List Op) : Type 0 where
   pub in_order : read_out_in s ops ++ (state_by s ops).in_buffer ≡ s.in_buffer ++ accepted_in s ops
   pub bound : asked_in s ops ≤ 2 + acknowledged_in s ops
