@@ -6,9 +6,9 @@ import os
 import platform
 
 import pytest
+from builds import run_rules
 from harness import ROOT, at_least, check, run
 from libraries import PREBUILT, STATIC
-from seeds import seed
 
 pytestmark = pytest.mark.needs("cc")
 
@@ -113,7 +113,5 @@ def test_a_narrow_line(tmp_path):
 
 def test_rules_of_a_monitor(tmp_path):
     """Whichever thread goes on, and whatever is refused."""
-    check(["cc", "-std=c99", "-O1", "-Wall", "-Wextra", "-Werror", "-pedantic", "-I", ROOT / "bindings/c",
-           "-I", ROOT / "examples/c", ROOT / "tests/c/rules.c", PREBUILT / f"{platform.machine()}-linux" / STATIC,
-           "-o", tmp_path / "rules"], "")
-    check([tmp_path / "rules", seed(), 20])
+    ran = run_rules(ROOT / "examples/c/monitor.c", tmp_path)
+    assert ran.returncode == 0, ran.stdout
