@@ -35,17 +35,17 @@ static bool raise_interrupt(struct machine *machine) {
     return !machine->line_is_down;
 }
 
-/* Does what a call of the console left to do. If the level has changed, a monitor calls KVM_IRQ_LINE with it. Returns
- * whether to wake an event loop that has a thread of its own. */
-static bool carry_out(struct machine *machine, superio_console_work work) {
-    if (machine->has_level) {
+/* Does what a call of the console left to do. If the level has changed, a monitor calls KVM_IRQ_LINE with it. An event
+ * loop that has a thread of its own would also be woken if `work.wakes` is true, as in monitor.c. */
+static void carry_out(struct machine *machine, superio_console_work work) {
+    if (machine->has_level)
         machine->is_interrupted = work.is_up;
-        return work.wakes;
-    }
-    for (int i = 0; i < work.interrupts; i++)
-        if (!raise_interrupt(machine))
-            return work.wakes | superio_console_refuse(&machine->console).wakes;
-    return work.wakes;
+    else
+        for (int i = 0; i < work.interrupts; i++)
+            if (!raise_interrupt(machine)) {
+                carry_out(machine, superio_console_refuse(&machine->console)); /* which asks for no interrupt */
+                return;
+            }
 }
 
 /* Prints a byte from the guest, which must not reach a terminal as it is: it could be part of an escape sequence. */
@@ -161,9 +161,10 @@ int main(void) {
 
     uint8_t input[100];
     memset(input, 'x', sizeof input);
-    printf("%zu of 100 bytes went in\n", turn(&machine, input, 100));
+    printf("the line status is %02x\n", port_read(&machine, COM1 + 5)); /* LSR: nothing is held, and all is sent */
+    printf("%zu of %zu bytes went in\n", turn(&machine, input, sizeof input), sizeof input);
     port_write(&machine, COM1 + 1, 0x01); /* the guest enables its interrupt, and so is ready for input */
-    printf("%zu of 100 bytes went in\n", turn(&machine, input, 100));
+    printf("%zu of %zu bytes went in\n", turn(&machine, input, sizeof input), sizeof input);
     printf("%d bytes received\n", run_handler(&machine));
 
     machine.line_is_down = true;

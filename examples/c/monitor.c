@@ -22,17 +22,22 @@ struct machine {
     bool echoes;
 };
 
+/* Puts a byte into a pipe, without waiting. Returns whether there was room. */
+static bool put(int file) {
+    return write(file, "", 1) == 1;
+}
+
 /* Does what a call left to do. Returns whether to wake the event loop, which ignores this after its own calls. */
 static bool carry_out(struct machine *machine, superio_console_work work) {
     for (int i = 0; i < work.interrupts; i++)
-        if (write(machine->interrupts[1], "", 1) != 1)
+        if (!put(machine->interrupts[1]))
             return work.wakes | superio_console_refuse(&machine->console).wakes;
     return work.wakes;
 }
 
 static void end_access(struct machine *machine, superio_console_work work) {
-    if (carry_out(machine, work) && write(machine->wakes[1], "", 1) != 1)
-        warn("waking the event loop");
+    if (carry_out(machine, work))
+        put(machine->wakes[1]); /* if it is full, the poll ends anyway */
     pthread_mutex_unlock(&machine->lock);
 }
 
@@ -50,7 +55,6 @@ static uint8_t guest_reads(struct machine *machine, uint8_t offset) {
 
 static void *run_loop(void *argument) {
     struct machine *machine = argument;
-    struct pollfd files[2] = {{.fd = -1}, {.fd = machine->wakes[0], .events = POLLIN}};
     for (uint8_t bytes[SUPERIO_CONSOLE_OUTPUT_SIZE];;) {
         pthread_mutex_lock(&machine->lock);
         superio_console_wanted wanted = superio_console_wants(&machine->console);
@@ -63,9 +67,13 @@ static void *run_loop(void *argument) {
         carry_out(machine, superio_console_turn(&machine->console));
         wanted = superio_console_wants(&machine->console);
         pthread_mutex_unlock(&machine->lock);
-        files[0].events = (short)((wanted.input > 0 ? POLLIN : 0) | (wanted.output ? POLLOUT : 0));
-        files[0].fd = files[0].events ? machine->line : -1; /* at its end, each poll would return at once */
-        if (poll(files, 2, wanted.turn ? 5 : -1) > 0 && files[1].revents && read(machine->wakes[0], bytes, 64) < 0)
+        struct pollfd files[] = {
+            {.fd = wanted.input > 0 ? machine->line : -1, .events = POLLIN}, /* at its end a line would end each poll */
+            {.fd = wanted.output ? machine->line : -1, .events = POLLOUT},
+            {.fd = machine->wakes[0], .events = POLLIN},
+        };
+        poll(files, 3, wanted.turn ? 5 : -1); /* milliseconds */
+        if (files[2].revents && read(machine->wakes[0], bytes, sizeof bytes) < 0)
             warn("the event loop");
     }
     return NULL;
@@ -92,7 +100,7 @@ static void *run_guest(void *argument) {
 }
 
 int main(void) {
-    static struct machine machines[2] = {{.lock = PTHREAD_MUTEX_INITIALIZER}, {.lock = PTHREAD_MUTEX_INITIALIZER}};
+    static struct machine machines[] = {{.lock = PTHREAD_MUTEX_INITIALIZER}, {.lock = PTHREAD_MUTEX_INITIALIZER}};
     pthread_t loop, guests[2];
     int lines[2];
     if (!SUPERIO_ABI_MATCHES())
@@ -103,9 +111,10 @@ int main(void) {
         struct machine *machine = &machines[i];
         superio_console_new(&machine->console, false);
         machine->line = lines[i];
-        machine->echoes = i == 1;
+        machine->echoes = i > 0;
         if (pipe(machine->interrupts) != 0 || pipe(machine->wakes) != 0
             || fcntl(machine->line, F_SETFL, O_NONBLOCK) != 0 || fcntl(machine->interrupts[1], F_SETFL, O_NONBLOCK) != 0
+            || fcntl(machine->wakes[1], F_SETFL, O_NONBLOCK) != 0
             || pthread_create(&loop, NULL, run_loop, machine) || pthread_create(&guests[i], NULL, run_guest, machine))
             err(1, "making a machine");
     }

@@ -1,10 +1,12 @@
 # SPDX-License-Identifier: Apache-2.0 OR BSD-3-Clause
-"""The compilers for C and C++ of this machine and of others, and the libraries that programs are linked with."""
+"""The compilers for C and C++ of this machine and of others, and the libraries that programs are linked with. And
+rules.c, with a monitor."""
 import platform
 
 import pytest
-from harness import ROOT
+from harness import ROOT, check, run
 from libraries import PREBUILT, STATIC, TARGETS
+from seeds import seed
 
 HOST = platform.machine()
 COMPILERS = {
@@ -43,6 +45,14 @@ def make_words(compiler, processor, library, folder, *goals):
     sanitizers = SANITIZERS if compiler.startswith("gcc ") else ""
     return ["make", "-s", "-C", ROOT / "tests" / "c", f"CC={compiler}{sanitizers}", f"RUN={runner}", f"OUT={folder}",
             f"LIBRARY={library}", *goals]
+
+
+def run_rules(monitor, folder):
+    """What rules.c says of a file monitor.c."""
+    flags = ["-std=c99", "-O1", "-Wall", "-Wextra", "-Werror", "-pedantic"]
+    check(["cc", *flags, "-I", ROOT / "bindings/c", "-I", monitor.parent, ROOT / "tests/c/rules.c", prebuilt(HOST),
+           "-o", folder / "rules"], "")
+    return run([folder / "rules", seed(), 20])
 
 
 assert {f"{it}-linux" for it in ("x86_64", "aarch64")} == {*TARGETS}

@@ -39,8 +39,10 @@ static void send_bytes(void) {
 }
 
 static void run_guest(void) {
+    bool is_interrupted = machine.is_interrupted;
     int received = run_handler(&machine);
-    printf("received %d\n", received);
+    if (is_interrupted || received > 0)
+        printf("received %d\n", received);
 }
 
 /* A turn for so many bytes of input. */

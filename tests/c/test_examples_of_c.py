@@ -1,10 +1,12 @@
 # SPDX-License-Identifier: Apache-2.0 OR BSD-3-Clause
 """The examples of examples/c compare what they receive: each says so if one byte is another, at the first place, at the
-last, or between. monitor.c serves a line that takes and gives little, and only after a poll."""
+last, or between. monitor.c serves a line that takes and gives little, and only after a poll, and breaks no rule of
+superio.h on threads, files and a time that rules.c makes."""
 import os
 import platform
 
 import pytest
+from builds import run_rules
 from harness import ROOT, at_least, check, run
 from libraries import PREBUILT, STATIC
 
@@ -107,3 +109,9 @@ def test_a_narrow_line(tmp_path):
     check(["cc", "-I", ROOT / "bindings/c", tmp_path / "narrow.c", ROOT / "examples/c/monitor.c",
            PREBUILT / f"{platform.machine()}-linux" / STATIC, *wrapped, "-pthread", "-o", tmp_path / "monitor"], "")
     check([tmp_path / "monitor"], "3000 bytes came back, 3000 of them in order\n")
+
+
+def test_rules_of_a_monitor(tmp_path):
+    """Whichever thread goes on, and whatever is refused."""
+    ran = run_rules(ROOT / "examples/c/monitor.c", tmp_path)
+    assert ran.returncode == 0, ran.stdout

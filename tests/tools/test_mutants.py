@@ -20,7 +20,7 @@ def tool():
 
 TOOL = tool()
 ENTRIES = at_least(10, TOOL.LISTED.read_text(encoding="utf-8").strip("\n").split("\n\n")[1:])
-MOST = 3   # in a hundred
+MOST = 3   # in a hundred, or of a part that has fewer
 
 
 @pytest.mark.parametrize("entry", ENTRIES, ids=lambda it: it.splitlines()[1].strip("- ")[:40])
@@ -34,7 +34,7 @@ def test_a_survivor_is_a_mutant_and_has_a_reason(entry):
 def test_few_survive(part):
     files = [path.relative_to(ROOT).as_posix() for path in ROOT.glob(TOOL.PARTS[part].files)]
     made = at_least(30, [it for file in files for it in TOOL.mutants(ROOT, file)])
-    assert 100 * sum(entry.split("\n")[0] in files for entry in ENTRIES) <= MOST * len(made)
+    assert sum(entry.split("\n")[0] in files for entry in ENTRIES) <= MOST * max(1, len(made) / 100)
 
 
 # A line of C, and how the tool turns it.
