@@ -146,6 +146,14 @@ def test_rules_test_unless_told_not_to(options, tests):
 
 
 @pytest.mark.needs("debian")
+def test_rules_install_for_the_host():
+    """Libraries go where the processor for which they are built looks for them, which may be another than builds."""
+    processors = ["DEB_BUILD_MULTIARCH=of-the-build", "DEB_HOST_MULTIARCH=of-the-host"]
+    said = run(["make", "-n", "-f", "debian/rules", "override_dh_auto_install", *processors], cwd=ROOT).stdout
+    assert "LIBDIR=lib/of-the-host " in said and "of-the-build" not in said
+
+
+@pytest.mark.needs("debian")
 def test_rules_refuse_other_functions():
     """A build fails if the library shows a function that debian/libsuperio*.symbols lacks, or lacks one that is there."""
     assert run(["make", "-n", "-f", "debian/rules", "override_dh_makeshlibs"], cwd=ROOT).stdout.splitlines()[-1] \

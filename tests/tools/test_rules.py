@@ -31,8 +31,12 @@ BROKEN = {
     "a mark that nobody knows": (HEAD + "@pytest.mark.nedds('cargo')\ndef test(): pass", "1 error"),
     "a tool that nobody knows": (HEAD + "@pytest.mark.needs('cargoo')\ndef test(): pass", "1 error"),
     "a tool that is missing": (HEAD + "@pytest.mark.needs('chromium')\ndef test(): pass", "1 error"),
+    "a tool of a file that is missing": (HEAD + "pytestmark = pytest.mark.needs('chromium')\ndef test(): pass",
+                                         "1 error"),
     "a tool that is left out": (HEAD + "@pytest.mark.needs('node')\ndef test(): pass", "1 skipped"),
     "a place that is not there": (HEAD + "@pytest.mark.where('Deno')\ndef test(): pass", "1 skipped"),
+    "a place of a file that is not there": (HEAD + "pytestmark = pytest.mark.where('Deno')\ndef test(): pass",
+                                            "1 skipped"),
 }
 
 
@@ -99,7 +103,7 @@ def test_what_workers_count(tmp_path):
     said = run_pytest(tmp_path, RUN + "pass", "--without=node", "-n2", "--dist=loadfile").stdout
     failed = {int(it) for it in re.findall(r"^(?:FAILED|ERROR) tests/test_(\d+)\.py", said, re.M)}
     assert failed == {number for number, (_, end) in enumerate(BROKEN.values()) if "failed" in end or "error" in end}
-    assert re.search(r"\d failed, 2 passed, 2 skipped, \d+ errors in .*\n$", said), said
+    assert re.search(r"\d failed, 2 passed, 3 skipped, \d+ errors in .*\n$", said), said
     assert "NOT TRIED: 1 tests, since --without names node\n" in said
 
 
@@ -208,3 +212,8 @@ def test_pytest(status, last, counts):
 
 def test_a_part_that_is_not_there():
     assert counted(*run_part("/nowhere/rt", "ci")) == (0, 1, 0)
+
+
+def test_a_part_is_shown_and_counted_with_its_errors(capsys):
+    assert run_part("sh", "-c", "echo one; echo two >&2; exit 3") == (3, "one\ntwo")
+    assert capsys.readouterr().out.endswith("\none\ntwo\n")
