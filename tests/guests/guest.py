@@ -25,7 +25,12 @@ FAULTS = {
     "NO_RETRY_AT_IER": [("retry(written.interrupts)", "interrupt(written.interrupts)")],
     "NO_OFFER": [("if (read.in_buffer_empty)\n        offer_input();\n", "")],
     "DROPS_IER": [("retry(written.interrupts)", "retry(0)")],
+    # What no driver gets over: the exchange itself has to fail.
+    "RECEIVES_ANOTHER": [("    superio_serial_enqueue_effects offered", "    *(uint8_t *)bytes ^= 1;\n"
+                          "    superio_serial_enqueue_effects offered")],
+    "SENDS_ANOTHER": [("queue_output(value)", "queue_output(value ^ 1)")],
 }
+WRONG_BYTES = {"RECEIVES_ANOTHER": "received", "SENDS_ANOTHER": "sent"}
 
 
 def code(of):
