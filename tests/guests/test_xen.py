@@ -6,7 +6,7 @@ import re
 
 import pytest
 import xen_driver
-from guest import WRONG_BYTES, Monitor
+from guest import WRONG, Monitor
 from harness import ROOT, check, run
 from seeds import seed
 
@@ -42,11 +42,11 @@ def test_broken_rule(driver, fault, line):
     assert stalls(driver, Monitor(line, ("NO_LIMIT", fault)), most=1) == 1
 
 
-@pytest.mark.parametrize("fault, what", WRONG_BYTES.items())
-def test_wrong_bytes(driver, fault, what):
-    """An exchange fails if a monitor changes a byte of input, or of output."""
+@pytest.mark.parametrize("fault, what", {**WRONG, "HIDES_DATA": "does not end"}.items())
+def test_wrong_monitor(driver, fault, what):
+    """An exchange fails if a monitor changes a byte, or a register."""
     ran = run([driver.compiled("run.c", LIBRARY, Monitor(EDGES, (fault,))), EXCHANGES, seed()])
-    assert (ran.returncode, ran.stdout) == (1, f"FAIL: a byte is {what} out of order\n")
+    assert (ran.returncode, ran.stdout) == (1, f"FAIL: {what}\n")
 
 
 def test_debugger_needs_the_limit(driver):

@@ -66,7 +66,7 @@ class Machine:
         for it in ("bindings/rust", "bindings/superio", "crates/a/must-fail", "crates/a/src", "recheck"):
             (self.top / it).mkdir(parents=True)
         (self.top / "crates/a/must-fail/a.edit").touch()
-        (self.top / "crates/a/src/lib.rt").write_text("#[test]\n", "utf-8")
+        (self.top / "crates/a/src/lib.rt").write_text("mod a {\n    #[test]\n}\n", "utf-8")
         self.edit("tests/common/tools.py", "\n\n\ndef of_tests", f"\n{TABLE}\n\ndef of_tests")
         self.edit("tests/common/installing.py", '"/etc/os-release"', f'"{self.system}"')
         for it in (self.bin, self.away, self.stubs):

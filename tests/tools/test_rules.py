@@ -1,10 +1,12 @@
 # SPDX-License-Identifier: Apache-2.0 OR BSD-3-Clause
 """Nothing passes for not having run: the rules of conftest.py, of sums.txt, of at_least and of tools/check, with tests
 that break them."""
+import os
 import re
 import shutil
 import sys
 
+import program
 import pytest
 from harness import ROOT, check, run
 from parts import OF_CARGO, counted, of_gate
@@ -169,6 +171,25 @@ def test_a_file_that_fails_leaves_the_others(tmp_path):
     (tmp_path / "tests" / "test_bad.py").write_text("unknown\n", encoding="utf-8")
     last = run([sys.executable, "-m", "pytest", "tests"], cwd=tmp_path).stdout.splitlines()[-1]
     assert "1 passed" in last and "1 error" in last and ran.returncode == 0
+
+
+def test_a_program_is_that_of_its_sources(tmp_path, monkeypatch):
+    """One that is older than a single source of its crate, or of one below it, is no longer it."""
+    monkeypatch.setattr(program, "ROOT", tmp_path)
+    monkeypatch.setattr(program, "CRATES", tmp_path / "crates")
+    (tmp_path / "crates.txt").write_text("# A comment: high\nlow:\nbetween: low\nhigh: between kit\n", "utf-8")
+    assert program.crates_below("high") == ["low", "between"]
+    sources = [tmp_path / "crates" / it for it in ("low/src/lib.rt", "low/src/a/b.rt", "between/src/lib.rt",
+                                                  "high/src/main.rt")]
+    for path in (*sources, program.path_of("high")):
+        path.parent.mkdir(parents=True, exist_ok=True)
+        path.touch()
+    for newer in (None, *sources):
+        for path in (*sources, program.path_of("high")):
+            os.utime(path, (1000, 1001 if path == newer else 1000))
+        assert program.is_current("high") == (newer is None), newer
+    program.path_of("high").unlink()
+    assert not program.is_current("high")
 
 
 # tools/check
