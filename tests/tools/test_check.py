@@ -187,6 +187,7 @@ def test_words(tool, machine):
     for words in (["--without", "cargos"], ["--without=cargo,Coq"], ["--without"], ["--install"], ["cargo"]):
         status, said, called = machine.run(tool, *words)
         assert (status, called) == (2, []) and said.splitlines()[-1].startswith("check: error: "), said
+    assert machine.run(tool, "--without", "a b")[1].endswith("there is no tool a b\n"), "it is one word"
     status, said, called = machine.run(tool, "--help")
     assert (status, called) == (0, []) and "--no-install" in said
 
