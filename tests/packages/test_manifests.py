@@ -7,7 +7,7 @@ import re
 import tomllib
 
 import pytest
-from documents import BUILT
+from documents import BUILT, Document
 from harness import ROOT, at_least, run
 from interface import ABI, VERSION
 from test_files import LICENSE
@@ -134,6 +134,15 @@ def test_changelog():
     first, *_, last = text_of("debian/changelog").rstrip("\n").splitlines()
     assert first == CHANGE and last.startswith(f" -- {SOURCE['Maintainer']}  ")
     assert (text_of("debian/source/format"), text_of("debian/watch")[:10]) == ("3.0 (quilt)\n", "version=4\n")
+
+
+def test_line_for_the_installed_crate():
+    """Of docs/RELEASE.md. Debian's test of the package tries the same."""
+    [block] = [it.lines for it in Document("docs/RELEASE.md").blocks if it.language == "toml"]
+    makefile = text_of("Makefile")
+    [crate] = re.findall(r"^CRATE = (.*)$", makefile, re.M)
+    tried = [line.strip().replace("$(CRATE)", crate) for line in makefile.splitlines()]
+    assert block == tried[(start := tried.index(block[0])):start + len(block)]
 
 
 @pytest.mark.needs("debian")
