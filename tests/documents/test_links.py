@@ -7,8 +7,9 @@ has its lines, in their order, and may have others between them.
 """
 import re
 
+import documents as reader
 import pytest
-from documents import Document, documents
+from documents import Block, Document, documents
 from harness import ROOT, at_least
 
 DOCUMENTS = at_least(33, documents())
@@ -26,6 +27,45 @@ def target(document, link):
     name, _, anchor = link.partition("#")
     own = ROOT / document.path
     return (own.parent / name).resolve() if name else own, anchor
+
+
+# A page with each form that the reader of documents has to know, and some that are none.
+PAGE = """# The [first](one.md#a) `line`, in full
+
+See [two](two.md), or ![a picture](three.svg). In code `[no](no.md)` is no link.
+
+[label]: four.md
+<a href="five.html"><img src='six.svg'><source srcset="seven.svg"></a>
+
+```sh
+# no heading, and [no link](no.md)
+```
+
+- An item:
+
+  ```console
+  $ first
+  its reply
+
+  $ second
+  ```
+
+## After it
+"""
+
+
+def test_reader(tmp_path, monkeypatch):
+    """No form of link, heading or block is passed over."""
+    monkeypatch.setattr(reader, "ROOT", tmp_path)
+    (tmp_path / "page.md").write_text(PAGE, encoding="utf-8")
+    page = Document("page.md")
+    assert page.links == ["one.md#a", "two.md", "three.svg", "four.md", "five.html", "six.svg", "seven.svg"]
+    assert page.anchors == ["the-first-line-in-full", "after-it"]
+    first, second = page.blocks
+    assert first[:3] == (9, "sh", ["# no heading, and [no link](no.md)"])
+    assert second == Block(15, "console", ["$ first", "its reply", "", "$ second"], "\n\n- An item:\n\n")
+    assert second.commands == [("first\n", "its reply\n\n"), ("second\n", "")]
+    assert page.prose.count("\n") == PAGE.count("\n") and "reply" not in page.prose
 
 
 @pytest.mark.parametrize("document, link", LINKS, ids=str)

@@ -25,7 +25,16 @@ FAULTS = {
     "NO_RETRY_AT_IER": [("retry(written.interrupts)", "interrupt(written.interrupts)")],
     "NO_OFFER": [("if (read.in_buffer_empty)\n        offer_input();\n", "")],
     "DROPS_IER": [("retry(written.interrupts)", "retry(0)")],
+    # What no driver gets over: the exchange itself has to fail.
+    "RECEIVES_ANOTHER": [("    superio_serial_enqueue_effects offered", "    *(uint8_t *)bytes ^= 1;\n"
+                          "    superio_serial_enqueue_effects offered")],
+    "SENDS_ANOTHER": [("queue_output(value)", "queue_output(value ^ 1)")],
+    "HIDES_DATA": [("    remove_input(", "    port.line_status &= 0xfe;\n    remove_input(")],
+    "CHANGES_IER": [("superio_serial_write(&port, offset, value)",
+                     "superio_serial_write(&port, offset, offset == 1 && value == 5 ? 1 : value)")],
 }
+# What an exchange of any driver says of some of these.
+WRONG = {"RECEIVES_ANOTHER": "a byte is received out of order", "SENDS_ANOTHER": "a byte is sent out of order"}
 
 
 def code(of):

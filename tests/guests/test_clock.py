@@ -12,7 +12,7 @@ import cbmc
 import linux_clock
 import proofs
 import pytest
-from harness import ROOT, check
+from harness import ROOT, check, run
 from seeds import seed
 from sources import HERE
 
@@ -67,13 +67,34 @@ def test_an_alarm_that_the_driver_clears(program, fault):
     assert "a program waits for ever" in wrong(program, fault, exchanges=max(EXCHANGES, 40000))
 
 
+CLOCK = (HERE / "monitor/clock_device.c").read_text(encoding="utf-8")
+
+
+def compared(folder, text):
+    """What a comparison says of a clock whose file has this text."""
+    (folder / "clock_device.c").write_text(text, encoding="utf-8")
+    (folder / "compare_clock.c").write_bytes((HERE / "monitor/compare_clock.c").read_bytes())
+    built = folder / "compare_clock"
+    check(["gcc", "-std=gnu11", "-O1", f"-I{ROOT}/bindings/c", folder / "compare_clock.c", LIBRARY, "-o", built])
+    return run([built, 2000000, seed()]).stdout
+
+
 def test_the_clock_of_the_proof(tmp_path):
     """clock_device.c is the library's clock, as far as random calls tell."""
-    built = tmp_path / "compare_clock"
-    check(["gcc", "-std=gnu11", "-O1", f"-I{ROOT}/bindings/c", HERE / "monitor/compare_clock.c", LIBRARY, "-o", built])
     calls, alarms, nevers = map(int, re.match(r"(\d+) calls are the same, (\d+) alarms come, (\d+) never\n$",
-                                              check([built, 2000000, seed()])).groups())
+                                              compared(tmp_path, CLOCK)).groups())
     assert calls == 2000000 and alarms > 1000 and nevers > 1000
+
+
+@pytest.mark.parametrize("old, new", [
+    ("case RIS: done.value = c->ris;", "case RIS: done.value = c->ris & c->imsc;"),
+    ("(int64_t)value - time;", "value;"), ("shown(c->offset, time) < value", "shown(c->offset, time) <= value"), ("return first - time;", "return first;"),
+    ("return c->ris & c->imsc & 1", "return c->ris & 1"), ("done.invalid_write = true", ""),
+    ("done.invalid_read = offset < ID", "done.invalid_read = offset <= ID")])
+def test_another_clock_is_found(tmp_path, old, new):
+    """By a value that is read, a state, an alarm that is due, the line, or an event."""
+    assert CLOCK.count(old) == 1
+    assert "differs" in compared(tmp_path, CLOCK.replace(old, new))
 
 
 @pytest.mark.where("CBMC 6")

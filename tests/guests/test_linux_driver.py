@@ -10,8 +10,8 @@ import re
 
 import linux_driver
 import pytest
-from guest import Monitor
-from harness import ROOT, check
+from guest import WRONG, Monitor
+from harness import ROOT, check, run
 from seeds import seed
 
 pytestmark = [pytest.mark.needs("cc", "linux-source"),
@@ -67,6 +67,13 @@ def test_broken_rule(driver, fault, line):
 @BROKEN
 def test_broken_rule_in_another_version(other_driver, fault, line):
     assert stalls(other_driver, Monitor(line, ("NO_LIMIT", fault)), 1) == 1
+
+
+@pytest.mark.parametrize("fault, what", {**WRONG, "HIDES_DATA": "does not end", "CHANGES_IER": "IER"}.items())
+def test_wrong_monitor(driver, fault, what):
+    """An exchange fails if a monitor changes a byte, or a register."""
+    ran = run([driver.compiled("run.c", LIBRARY, Monitor(EDGES, (fault,))), EXCHANGES, seed()])
+    assert (ran.returncode, ran.stdout) == (1, f"FAIL: {what}\n")
 
 
 # What limit.c prints if the handler gives up after 514 passes while input comes, and what then is due.

@@ -8,8 +8,8 @@ from functools import lru_cache
 
 import polling_drivers
 import pytest
-from guest import Monitor
-from harness import ROOT, check
+from guest import WRONG, Monitor
+from harness import ROOT, check, run
 from seeds import seed
 
 pytestmark = [pytest.mark.needs("cc"), pytest.mark.where("source of each driver that polls with sums in tests/guests")]
@@ -47,6 +47,13 @@ def test_no_byte_waits(driver, has_console, line):
 def test_input_is_not_offered_again(driver, line):
     """A monitor that breaks this rule: what found no room in the FIFO waits for ever."""
     assert stalls(driver, Monitor(line, ("NO_OFFER",)), most=1) == 1
+
+
+@pytest.mark.parametrize("fault, what", {**WRONG, "HIDES_DATA": "registers or counts"}.items())
+def test_wrong_monitor(driver, fault, what):
+    """An exchange fails if a monitor changes a byte, or a register."""
+    ran = run([driver.compiled("run.c", LIBRARY, Monitor(EDGES, (fault,))), EXCHANGES, seed()])
+    assert (ran.returncode, ran.stdout) == (1, f"FAIL: {what}\n")
 
 
 @pytest.mark.parametrize("has_console", [True, False])

@@ -6,8 +6,8 @@ import re
 
 import pytest
 import xen_driver
-from guest import Monitor
-from harness import ROOT, check
+from guest import WRONG, Monitor
+from harness import ROOT, check, run
 from seeds import seed
 
 pytestmark = [pytest.mark.needs("cc"), pytest.mark.where("version of Xen's source with sums in tests/guests")]
@@ -40,6 +40,13 @@ def test_no_byte_waits(driver, way, line):
     ("NO_OFFER", LEVELS), ("NO_RETRY", EDGES), ("NO_RETRY_AT_IER", EDGES), ("DROPS_IER", EDGES)])
 def test_broken_rule(driver, fault, line):
     assert stalls(driver, Monitor(line, ("NO_LIMIT", fault)), most=1) == 1
+
+
+@pytest.mark.parametrize("fault, what", {**WRONG, "HIDES_DATA": "does not end"}.items())
+def test_wrong_monitor(driver, fault, what):
+    """An exchange fails if a monitor changes a byte, or a register."""
+    ran = run([driver.compiled("run.c", LIBRARY, Monitor(EDGES, (fault,))), EXCHANGES, seed()])
+    assert (ran.returncode, ran.stdout) == (1, f"FAIL: {what}\n")
 
 
 def test_debugger_needs_the_limit(driver):

@@ -4,8 +4,10 @@ at the first that fails and leaves nothing half-made; `make` builds the monitor 
 import os
 import re
 import shutil
+from pathlib import Path
 
 import pytest
+from documents import Document
 from harness import ROOT, at_least, check, run
 
 HERE = ROOT / "examples" / "kvm"
@@ -16,6 +18,9 @@ PROGRAMS = {
     "dpkg": 'mkdir -p boot bin; echo kernel > boot/vmlinuz-6; cp "$(command -v busybox)" bin',
     "busybox": 'cat; echo "$*"',
 }
+# What the guest does when it starts. Without one of these it has no programs, no `ps`, no console or no job control.
+INIT = ["#!/bin/busybox sh", "/bin/busybox --install -s /bin", "mount -t proc proc /proc", "mount -t devtmpfs dev /dev",
+        "exec setsid cttyhack sh"]
 FAILING = 'name=${0##*/}; case " $FAILS " in *" $name "*) exit 7 ;; esac\n'
 
 
@@ -44,6 +49,17 @@ def test_fetch(fetch):
         *names, words = (folder / "initramfs").read_text("ascii").splitlines()
         assert {"./init", "./bin/busybox", "./dev", "./proc"} <= {*names} and words == "cpio -o -H newc"
         assert os.access(folder / "root" / "init", os.X_OK)
+        assert (folder / "root" / "init").read_text("ascii").splitlines() == INIT
+
+
+def test_commands_of_the_page(fetch):
+    """They make the monitor, and start it with what was fetched."""
+    [block] = [it for it in Document("docs/MONITOR.md").blocks if it.language == "sh"]
+    made, fetched, started = [line.partition("#")[0].split() for line in block.lines]
+    kvm = HERE.relative_to(ROOT).as_posix()
+    assert (made, fetched[:-1], started[0]) == (["make", "-C", kvm], [f"{kvm}/fetch"], f"{kvm}/monitor")
+    status, said, folder = fetch()
+    assert [(folder / Path(it).relative_to(fetched[-1])).is_file() for it in started[1:]] == [True, True]
 
 
 @pytest.mark.parametrize("program", PROGRAMS)

@@ -7,7 +7,7 @@ import re
 import tomllib
 
 import pytest
-from documents import BUILT
+from documents import BUILT, Document
 from harness import ROOT, at_least, run
 from interface import ABI, VERSION
 from test_files import LICENSE
@@ -136,6 +136,15 @@ def test_changelog():
     assert (text_of("debian/source/format"), text_of("debian/watch")[:10]) == ("3.0 (quilt)\n", "version=4\n")
 
 
+def test_line_for_the_installed_crate():
+    """Of docs/RELEASE.md. Debian's test of the package tries the same."""
+    [block] = [it.lines for it in Document("docs/RELEASE.md").blocks if it.language == "toml"]
+    makefile = text_of("Makefile")
+    [crate] = re.findall(r"^CRATE = (.*)$", makefile, re.M)
+    tried = [line.strip().replace("$(CRATE)", crate) for line in makefile.splitlines()]
+    assert block == tried[(start := tried.index(block[0])):start + len(block)]
+
+
 @pytest.mark.needs("debian")
 @pytest.mark.parametrize("options, tests", [("", True), ("parallel=2", True), ("nocheck", False),
                                             ("parallel=2 nocheck noopt", False)])
@@ -143,6 +152,14 @@ def test_rules_test_unless_told_not_to(options, tests):
     """The build of the packages tests the library."""
     ran = run(["make", "-n", "-f", "debian/rules", "override_dh_auto_test", f"DEB_BUILD_OPTIONS={options}"], cwd=ROOT)
     assert ran.returncode == 0 and ("debian/build/calls\n" in ran.stdout) == tests, ran.stdout
+
+
+@pytest.mark.needs("debian")
+def test_rules_install_for_the_host():
+    """Libraries go where the processor for which they are built looks for them, which may be another than builds."""
+    processors = ["DEB_BUILD_MULTIARCH=of-the-build", "DEB_HOST_MULTIARCH=of-the-host"]
+    said = run(["make", "-n", "-f", "debian/rules", "override_dh_auto_install", *processors], cwd=ROOT).stdout
+    assert "LIBDIR=lib/of-the-host " in said and "of-the-build" not in said
 
 
 @pytest.mark.needs("debian")

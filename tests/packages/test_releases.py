@@ -8,7 +8,7 @@ import shutil
 import tarfile
 
 import pytest
-from documents import copy_repository
+from documents import Document, copy_repository
 from harness import ROOT, at_least, check, run
 from interface import ABI, VERSION
 from libraries import PREBUILT, SHARED, TARGETS
@@ -131,17 +131,20 @@ def test_clean(releases):
     check(["git", "status", "--porcelain", "--ignored"], "", cwd=tree)
 
 
+def commands_for_debian():
+    """The commands of docs/RELEASE.md that unpack the sources for Debian, and the one that builds the packages."""
+    [block] = [it for it in Document("docs/RELEASE.md").blocks if any("debian/rules" in line for line in it.lines)]
+    *unpacking, building = [line.replace("VERSION", VERSION) for line in block.lines]
+    return "\n".join(unpacking), building
+
+
 @pytest.fixture(scope="module")
 def debian(releases):
     """The folder of a source package without the libraries, unpacked."""
     tree = releases / "debian" / f"fimolavand-{VERSION}"
-    released, archive = releases / "one" / f"{tree.name}.tar.gz", f"superio_{VERSION}+ds.orig.tar.xz"
-    with tarfile.open(released) as sources:
-        sources.extractall(tree.parent)
-    check(["debian/rules", "orig", f"ARCHIVE={released}"], cwd=tree, env=OF_DEBIAN)
-    shutil.rmtree(tree)
-    with tarfile.open(tree.parent / archive) as sources:
-        sources.extractall(tree.parent)
+    tree.parent.mkdir()
+    shutil.copy(releases / "one" / f"{tree.name}.tar.gz", tree.parent)
+    check(["sh", "-ec", commands_for_debian()[0]], cwd=tree.parent, env=OF_DEBIAN)
     return tree
 
 
@@ -152,7 +155,7 @@ def builds(debian):
     other, folder = debian.parent / "a" / "longer" / "path", debian.parent
     shutil.copytree(debian, other, symlinks=True)
     strange = {**OF_DEBIAN, "TZ": "Asia/Tokyo", "LC_ALL": "C", "USER": "other", "DEB_BUILD_OPTIONS": "nocheck"}
-    return {folder: check(["dpkg-buildpackage", "-us", "-uc", "-F"], cwd=debian, env=OF_DEBIAN),
+    return {folder: check(["sh", "-ec", commands_for_debian()[1]], cwd=folder, env=OF_DEBIAN),
             other.parent: check(["sh", "-c", "umask 077 && dpkg-buildpackage -us -uc -b -nc"], cwd=other, env=strange)}
 
 

@@ -139,6 +139,8 @@ REFUSED = {
     "a module": ("Calls", "(?=Definition writes)", "Module Hidden.\nDefinition n := 0.\nEnd Hidden.\n", r"^a module in Calls\.v$"),
     "an axiom": ("Witnesses", "Definition used_doubles := doubles 3", "Axiom all : False.\nDefinition used_doubles := all",
                  r"^witnesses rest on something:\n(?s:.*)\ball : False$"),
+    "a warning of Coq's": ("Witnesses", "(?=Definition used_doubles)", "Unset Nothing Of This Name.\n",
+                           r"^Witnesses\.v is not proved:\n(?s:.*)\[unknown-option"),
     "a word that is sealed": ("Claims", r"(\(\* Zero is read\. \*\)\nTheorem zero : )",
                               r"(* A word. *)\nTheorem word : Prop. Proof. exact True. Qed.\n\1word -> ",
                               r"^Claims\.zero has Claims\.word, which is not among the definitions of the statements$"),

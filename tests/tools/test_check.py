@@ -2,6 +2,7 @@
 """tools/check, .ci/run, tools/recheck and tools/install-packages in a copy, with stand-ins for all that they start.
 They fail if a part fails, is missing or cannot be installed, and say so."""
 import os
+import platform
 import re
 import shutil
 import sys
@@ -43,6 +44,11 @@ def main(said):
     print(*sys.argv[1:], shutil.which("coqc"))
     sys.exit({status})
 """
+# By which tools/check hands over what `rt ci` built.
+RTLIB = """def crates_below(root):
+    open("{made}", "w").close()
+    return []
+"""
 PASSED = "13 passed, 0 failed, 0 skipped"
 TABLE = '\nTOOLS = {tool: TOOLS[tool] for tool in ("kit", "pytest", "cargo", "coq")}\n'
 
@@ -60,14 +66,15 @@ class Machine:
         for it in ("bindings/rust", "bindings/superio", "crates/a/must-fail", "crates/a/src", "recheck"):
             (self.top / it).mkdir(parents=True)
         (self.top / "crates/a/must-fail/a.edit").touch()
-        (self.top / "crates/a/src/lib.rt").write_text("#[test]\n", "utf-8")
+        (self.top / "crates/a/src/lib.rt").write_text("mod a {\n    #[test]\n}\n", "utf-8")
         self.edit("tests/common/tools.py", "\n\n\ndef of_tests", f"\n{TABLE}\n\ndef of_tests")
         self.edit("tests/common/installing.py", '"/etc/os-release"', f'"{self.system}"')
         for it in (self.bin, self.away, self.stubs):
             it.mkdir()
         for it in BASICS:
             (self.bin / it).symlink_to(shutil.which(it))
-        (self.bin / "rtlib.py").write_text("def crates_below(root):\n    return []\n", "utf-8")
+        self.handed_over = folder / "handed over"
+        (self.bin / "rtlib.py").write_text(RTLIB.format(made=self.handed_over), "utf-8")
         self.stand_in("python3", f'exec {sys.executable} "$@"')
         for name, script in STAND_INS.items():
             self.stand_in(name, script)
@@ -125,6 +132,7 @@ def test_all_pass(tool, machine):
     status, said, called = machine.run(tool)
     assert (status, said.splitlines()[-1]) == (0, PASSED), said
     assert [it.split()[0] for it in called] == ["rt", "cargo", "cargo", "pytest"]
+    assert machine.handed_over.exists()
 
 
 FAILING = {
@@ -148,6 +156,7 @@ def test_a_part_fails(tool, failing, machine):
     status, said, called = machine.run(tool)
     assert status == 1 and re.fullmatch(r"\d+ passed, [1-9] failed, 0 skipped", said.splitlines()[-1]), said
     assert len(called) == 4, "the others are run"
+    assert machine.handed_over.exists() != failing.startswith(("rt ci", "nothing")), "what failed is not handed over"
 
 
 LACKING = {
@@ -178,6 +187,7 @@ def test_words(tool, machine):
     for words in (["--without", "cargos"], ["--without=cargo,Coq"], ["--without"], ["--install"], ["cargo"]):
         status, said, called = machine.run(tool, *words)
         assert (status, called) == (2, []) and said.splitlines()[-1].startswith("check: error: "), said
+    assert machine.run(tool, "--without", "a b")[1].endswith("there is no tool a b\n"), "it is one word"
     status, said, called = machine.run(tool, "--help")
     assert (status, called) == (0, []) and "--no-install" in said
 
@@ -206,6 +216,8 @@ def test_recheck_needs_nothing_else(machine):
     assert (status, said, called) == (0, f"--keep a {machine.bin}/coqc\n", [])
     machine.lacks("coqc")
     assert machine.run("tools/recheck", "--no-install") == (0, "None\n", [])
+    for word in ("-h", "--help"):
+        assert machine.run("tools/recheck", word) == (0, f"{word} None\n", []), "help installs nothing"
     machine.recheck(1)
     assert machine.run("tools/recheck", "--no-install")[0] == 1
 
@@ -243,6 +255,21 @@ def test_another_user(machine):
     machine.lacks("coqc")
     machine.stand_in("dpkg-deb", "")
     assert [bool(installs(machine.run("tools/check")[2])) for _ in range(2)] == [True, False], "nobody finds it there"
+
+
+def test_another_user_finds_each_kind_of_file(machine):
+    """Programs, modules of Python and libraries are found where Debian's packages have them."""
+    machine.stand_in("id", "[ $1 != -u ] && echo somebody || echo 1000")
+    machine.lacks("coqc")
+    status, said, called = machine.run("tools/install-packages", "coq")
+    assert status == 0, said
+    into = machine.top / "out/packages"
+    words = ["env", "-i", "PATH=/before", "/bin/bash", "-c", ". $0 && /usr/bin/env", into / "environment"]
+    found = dict(line.partition("=")[::2] for line in run(words).stdout.splitlines())
+    for variable, folders in {"PATH": ("usr/bin", "usr/sbin"), "PYTHONPATH": ("usr/lib/python3/dist-packages",),
+                              "LD_LIBRARY_PATH": (f"usr/lib/{platform.machine()}-linux-gnu",)}.items():
+        assert found[variable].split(":")[:-1] == [str(into / it) for it in folders], variable
+    assert found["PATH"].endswith(":/before")
 
 
 def test_each_archive_is_unpacked_once(machine):

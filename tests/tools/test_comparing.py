@@ -15,8 +15,10 @@ import test_counts
 import test_files
 import test_header
 from builds import HOST, prebuilt
+from contracts import functions_of
 from documents import BUILT
 from harness import ROOT, at_least, check
+from libraries import replace_lines
 from recorded import difference
 from script_tests import Script
 
@@ -196,6 +198,36 @@ def test_sums_of_prebuilt(monkeypatch):
     made = test_header.sums_of
     monkeypatch.setattr(test_header, "sums_of", lambda *words: [*made(*words)[:-1], altered(made(*words)[-1])[0]])
     assert refuses(test_header.test_prebuilt_sums)
+
+
+def test_lines_of_sums_are_replaced(tmp_path):
+    """Those of what is no longer there go, and the others stay."""
+    (tmp_path / "a").mkdir()
+    (tmp_path / "a/kept").touch()
+    (tmp_path / "SUMS").write_text("1  a/kept\n2  a/gone\n3  tests/gone\n4  the sources in docs and tests/tools\n",
+                                   "ascii")
+    replace_lines(tmp_path / "SUMS", ["5  a/kept", "6  tests/data"])
+    assert (tmp_path / "SUMS").read_text("ascii").splitlines() == [
+        "5  a/kept", "4  the sources in docs and tests/tools", "6  tests/data"]
+
+
+# Functions of each kind, and what is read of them: the path, whether it is public, the clauses, and the main one.
+FUNCTIONS = {
+    "pub fn a()\n    ensures one { '}' == b }\n{}": ("a", True, ("one",), "one"),
+    "pub const unsafe fn a()\n    requires { b }\n    ensures { c }\n    ensures* main { d }\n{}": (
+        "a", True, ("", "main"), "main"),
+    "pub(crate) fn a() {}": ("a", False, (), ""),
+    "pub trait A {\n    fn a()\n        ensures one { b }\n        ensures other { c };\n}": (
+        "A::a", True, ("one", "other"), ""),
+    "impl<T: B> A<T> {\n    fn a() { // fn b()\n    }\n}": ("A::a", False, (), ""),
+    'impl<T: B> C for A<T> {\n    fn a() { "fn b() {" }\n}': ("A::a", True, (), ""),
+}
+
+
+@pytest.mark.parametrize("source", FUNCTIONS)
+def test_functions_of_a_source(source):
+    [found] = functions_of(f"{source}\n")
+    assert (str(found), found.is_public, found.clauses, found.main_clause) == FUNCTIONS[source]
 
 
 def test_erased(tmp_path, monkeypatch):

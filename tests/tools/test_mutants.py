@@ -113,6 +113,13 @@ def test_listed_survivors_are_none(sample, capsys):
 
 
 @pytest.mark.needs("mutants", "pytest")
+def test_an_entry_lists_one_mutant(sample):
+    """Not those of another file, or of another line, that become the same."""
+    others = [SAME.replace("sample.py", "other.py"), SAME.replace("- return a if a >", "- return a if a <")]
+    assert sample(*others, every=4) == "1 survivors are not in survivors.txt"
+
+
+@pytest.mark.needs("mutants", "pytest")
 def test_tests_that_fail_are_no_tests(sample, tmp_path):
     with open(tmp_path / "test_sample.py", "a", encoding="utf-8") as file:
         file.write("\n\ndef test_wrong():\n    assert False\n")

@@ -1,10 +1,12 @@
 # SPDX-License-Identifier: Apache-2.0 OR BSD-3-Clause
 """Nothing passes for not having run: the rules of conftest.py, of sums.txt, of at_least and of tools/check, with tests
 that break them."""
+import os
 import re
 import shutil
 import sys
 
+import program
 import pytest
 from harness import ROOT, check, run
 from parts import OF_CARGO, counted, of_gate
@@ -31,8 +33,12 @@ BROKEN = {
     "a mark that nobody knows": (HEAD + "@pytest.mark.nedds('cargo')\ndef test(): pass", "1 error"),
     "a tool that nobody knows": (HEAD + "@pytest.mark.needs('cargoo')\ndef test(): pass", "1 error"),
     "a tool that is missing": (HEAD + "@pytest.mark.needs('chromium')\ndef test(): pass", "1 error"),
+    "a tool of a file that is missing": (HEAD + "pytestmark = pytest.mark.needs('chromium')\ndef test(): pass",
+                                         "1 error"),
     "a tool that is left out": (HEAD + "@pytest.mark.needs('node')\ndef test(): pass", "1 skipped"),
     "a place that is not there": (HEAD + "@pytest.mark.where('Deno')\ndef test(): pass", "1 skipped"),
+    "a place of a file that is not there": (HEAD + "pytestmark = pytest.mark.where('Deno')\ndef test(): pass",
+                                            "1 skipped"),
 }
 
 
@@ -99,7 +105,7 @@ def test_what_workers_count(tmp_path):
     said = run_pytest(tmp_path, RUN + "pass", "--without=node", "-n2", "--dist=loadfile").stdout
     failed = {int(it) for it in re.findall(r"^(?:FAILED|ERROR) tests/test_(\d+)\.py", said, re.M)}
     assert failed == {number for number, (_, end) in enumerate(BROKEN.values()) if "failed" in end or "error" in end}
-    assert re.search(r"\d failed, 2 passed, 2 skipped, \d+ errors in .*\n$", said), said
+    assert re.search(r"\d failed, 2 passed, 3 skipped, \d+ errors in .*\n$", said), said
     assert "NOT TRIED: 1 tests, since --without names node\n" in said
 
 
@@ -167,6 +173,25 @@ def test_a_file_that_fails_leaves_the_others(tmp_path):
     assert "1 passed" in last and "1 error" in last and ran.returncode == 0
 
 
+def test_a_program_is_that_of_its_sources(tmp_path, monkeypatch):
+    """One that is older than a single source of its crate, or of one below it, is no longer it."""
+    monkeypatch.setattr(program, "ROOT", tmp_path)
+    monkeypatch.setattr(program, "CRATES", tmp_path / "crates")
+    (tmp_path / "crates.txt").write_text("# A comment: high\nlow:\nbetween: low\nhigh: between kit\n", "utf-8")
+    assert program.crates_below("high") == ["low", "between"]
+    sources = [tmp_path / "crates" / it for it in ("low/src/lib.rt", "low/src/a/b.rt", "between/src/lib.rt",
+                                                  "high/src/main.rt")]
+    for path in (*sources, program.path_of("high")):
+        path.parent.mkdir(parents=True, exist_ok=True)
+        path.touch()
+    for newer in (None, *sources):
+        for path in (*sources, program.path_of("high")):
+            os.utime(path, (1000, 1001 if path == newer else 1000))
+        assert program.is_current("high") == (newer is None), newer
+    program.path_of("high").unlink()
+    assert not program.is_current("high")
+
+
 # tools/check
 
 GATE = ["test result: ok. 3 passed; 0 failed", "rt: it ran, and wrote what its file stdout has",
@@ -208,3 +233,8 @@ def test_pytest(status, last, counts):
 
 def test_a_part_that_is_not_there():
     assert counted(*run_part("/nowhere/rt", "ci")) == (0, 1, 0)
+
+
+def test_a_part_is_shown_and_counted_with_its_errors(capsys):
+    assert run_part("sh", "-c", "echo one; echo two >&2; exit 3") == (3, "one\ntwo")
+    assert capsys.readouterr().out.endswith("\none\ntwo\n")
