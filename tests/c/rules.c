@@ -38,6 +38,8 @@
 #include <ucontext.h>
 #include <unistd.h>
 
+#include "random.h"
+
 struct machine;
 
 static void watched_new(superio_console *console, bool is_polled);
@@ -155,7 +157,6 @@ struct duty {
     uint8_t input[SUPERIO_SERIAL_FIFO_SIZE];
 };
 
-static uint32_t random_state;
 static unsigned world, calls, failing_call, happened[EVENTS], count_of_threads, count_of_files, count_of_machines;
 static bool has_failed, has_stopped, is_over, is_random;
 static int status;
@@ -171,16 +172,6 @@ static void check(bool is_good, const char *what) {
     printf("world %u: %s\n", world, what);
     exit(1);
 }
-
-/* A number below `bound`, by Marsaglia's xorshift. */
-static unsigned draw(unsigned bound) {
-    random_state ^= random_state << 13;
-    random_state ^= random_state >> 17;
-    random_state ^= random_state << 5;
-    return random_state % bound;
-}
-
-static bool once_in(unsigned times) { return draw(times) == 0; }
 
 static size_t at_most(size_t number, size_t most) { return number < most ? number : most; }
 

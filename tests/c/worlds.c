@@ -23,6 +23,8 @@
 #include <string.h>
 #include <superio.h>
 
+#include "random.h"
+
 enum { RBR = 0, THR = 0, IER = 1, IIR = 2, LCR = 3, MCR = 4, LSR = 5, MSR = 6, SCR = 7 };
 enum { RDA = 0x01, THRE = 0x02 }; /* in IER */
 enum { NONE_PENDING = 0x01, DATA_READY = 0x01, DLAB = 0x80, LOOPBACK = 0x10 };
@@ -78,7 +80,6 @@ struct machine {
 static struct setting setting;
 static struct machine machines[2];
 static struct queue pipes[2]; /* machine 0 reads the first, and writes to the second. Another does the reverse */
-static uint32_t random_state;
 static unsigned world, moment, refusals, events, typed, count_of_machines;
 static bool is_resting;
 
@@ -89,16 +90,6 @@ static void check(bool is_good, const char *what) {
            setting.takes, setting.is_level, setting.is_joined, setting.refusals);
     exit(1);
 }
-
-/* A number below `bound`, by Marsaglia's xorshift. */
-static unsigned draw(unsigned bound) {
-    random_state ^= random_state << 13;
-    random_state ^= random_state >> 17;
-    random_state ^= random_state << 5;
-    return random_state % bound;
-}
-
-static bool once_in(unsigned times) { return draw(times) == 0; }
 
 static unsigned chosen(const unsigned *list, unsigned count) { return list[draw(count)]; }
 

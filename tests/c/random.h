@@ -1,0 +1,16 @@
+/* SPDX-License-Identifier: Apache-2.0 OR BSD-3-Clause */
+/* Random numbers of programs that make worlds. Such a program sets the state, which is never 0, at the begin of each. */
+#include <stdbool.h>
+#include <stdint.h>
+
+static uint32_t random_state;
+
+/* A number below `bound`, by Marsaglia's xorshift. */
+static unsigned draw(unsigned bound) {
+    random_state ^= random_state << 13;
+    random_state ^= random_state >> 17;
+    random_state ^= random_state << 5;
+    return random_state % bound;
+}
+
+static bool once_in(unsigned times) { return draw(times) == 0; }
