@@ -6,13 +6,13 @@
 //!
 //! The steps of the calls stand at the end of this file, as methods of the registers. A step that uses the received
 //! bytes takes the FIFO as an argument, so the same code serves every receive FIFO.
-ghost use Rattle.std.specs.Prelude.{◌≡◌, ◌↔◌, ◌≤◌, ◌-◌, ◌==◌, not, length, IsTrue, if◌then◌else◌, [], slice_index, IfOk};
+ghost use Rattle.std.specs.Prelude.{◌≡◌, ◌↔◌, ◌≤◌, ◌-◌, ◌==◌, ℕ, not, length, IsTrue, if◌then◌else◌, [], ◌∷◌, slice_index, IfOk};
 ghost use Rattle.std.specs.Result.{result_err, IsOkAnd};
 ghost use Rattle.superio_core.specs.Serial.{fresh_state, State, state_of_uart, CoherentUart, RdaCoversHeldBytes, irq_level, conditions_due, not_empty, state_with, register_read, is_asserted};
-ghost use Rattle.superio_core.specs.Serial.Step.{IsUartRead, IsUartWrite, IsUartEnqueue, IsUartTimeout, iir_none_bit, becomes_pending, iir_after_raise, iir_after_lower, bytes_that_fit, receive_bytes, rbr_read, ier_write, read_step, write_step, character_timeout, read_events, ier_write_calls, arrival_calls, timeout_calls, decoded_calls};
+ghost use Rattle.superio_core.specs.Serial.Step.{IsUartRead, IsUartWrite, IsUartEnqueue, IsUartTimeout, iir_none_bit, becomes_pending, iir_after_raise, iir_after_lower, bytes_that_fit, receive_bytes, rbr_read, ier_write, read_step, write_step, character_timeout, read_events, ier_write_calls, arrival_calls, timeout_calls, decoded_calls, decode_in};
 ghost use Rattle.superio_core.specs.Serial.RegisterMap.{lsr_dr_bit, ier_bits, iir_bit, Rda, Thre, Data, is_loopback};
 ghost use Rattle.superio_core.specs.Bits.{only_bits, with_bits, without_bits};
-ghost use Rattle.superio_core.specs.Serial.Operations.{count_if, is_first_of_two_refused, decode_write, sent_by, events_of_read};
+ghost use Rattle.superio_core.specs.Serial.Operations.{Write, count_if, is_first_of_two_refused, decode_write, sent_by, events_of_read};
 ghost use Rattle.superio_core.specs.Saved.{serial_encoding, serial_fault};
 
 pub mod encoding;
@@ -91,6 +91,16 @@ impl Uart {
     {
         let register = self.registers.decode(offset);
         self.registers.write(&mut self.in_buffer, register, value)
+    }
+
+    /// Whether a write at `offset` sends its byte, as a THR write outside loopback does. Changes nothing. Ask before
+    /// the write if your output may have no room.
+    #[inline(always)]
+    pub fn sends(&self, offset: u8) -> bool
+        ensures { (value : ℕ) → sent_by (decode_in (state_of_uart self.now) (Write offset value))
+            ≡ (if result then value ∷ [] else []) }
+    {
+        self.registers.sends(offset)
     }
 
     /// How many bytes may still be enqueued: 64 minus the number of held bytes.
@@ -533,6 +543,18 @@ impl Registers {
             Register::Iir | Register::Lsr | Register::Msr | Register::Unassigned => {}
         }
         WriteEffects { sends, interrupts }
+    }
+
+    /// Whether a write at `offset` sends its byte: it reaches THR, outside loopback.
+    #[inline(always)]
+    pub fn sends(&self, offset: u8) -> bool
+        ensures { (value : ℕ) → sent_by (decode_in (state_with self.now []) (Write offset value))
+            ≡ (if result then value ∷ [] else []) }
+    {
+        match self.decode(offset) {
+            Register::Data => !self.is_loopback(),
+            _ => false,
+        }
     }
 
     /// Whether a condition is pending and enabled.

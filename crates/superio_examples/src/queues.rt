@@ -1,27 +1,23 @@
 // SPDX-License-Identifier: Apache-2.0 OR BSD-3-Clause
 //! A bounded queue. A guest's output waits until the monitor's sink takes it, and the guest never waits for the sink.
-ghost use Rattle.std.specs.Prelude.{◌≡◌, ◌≤◌, ◌-◌, ◌==◌, ℕ, [], ◌∷◌, ◌++◌, length, take, drop, max, min, Some, IfOk, OnErr, if◌then◌else◌};
+ghost use Rattle.std.specs.Prelude.{◌≡◌, ◌≤◌, ◌-◌, ◌==◌, ℕ, [], ◌∷◌, ◌++◌, length, take, drop, max, min, nat_lt, Some, IfOk, OnErr};
 ghost use Rattle.std.specs.Io.{WritesAtMost};
 ghost use Rattle.std.specs.Io.KnownBytes.{WriteAppends, Keeps};
-ghost use Rattle.vm_superio.specs.Serial.{Write, sends_byte};
-ghost use Rattle.vm_superio.specs.Serial.Step.{IsSerialWrite};
 ghost use Rattle.superio_examples.specs.Queues.{Waiting, OutputLaw, after_byte, dropped_by};
 
 use circular_buffer::HeapCircularBuffer;
 use std::alloc::{AllocError, Global};
 use std::io;
-use std::io::Write;
+use std::io::{ErrorKind, Write};
 use std::marker::Model;
-use vm_superio::serial::{Error, SerialEvents};
-use vm_superio::{Serial, Trigger};
+use vm_superio::serial::BoundedWriter;
 
 /// The bytes that wait for the monitor's sink, oldest first, in a ring. Their number is limited, and `new` allocates
 /// the memory for this limit. A byte that finds no room is dropped, and counted.
 ///
 /// The monitor of a port without I/O passes each byte that the guest sends to [`OutputQueue::push`]. An `OutputQueue`
-/// may also be a port's own writer. Then a guest's write of a byte that is dropped returns an I/O error of the kind
-/// `WriteZero`, which the monitor can log. No contract says what the output holds after an I/O error: where that matters,
-/// let the output wait beside the port, by [`write_beside`].
+/// may also be a port's own writer: then call [`Serial::write_bounded`](vm_superio::Serial::write_bounded). A write of a
+/// byte that is dropped returns an I/O error of the kind `WriteZero`, which the monitor can log.
 #[derive(Drop)]
 pub struct OutputQueue {
     ring: HeapCircularBuffer<u8>,
@@ -163,27 +159,23 @@ impl Write for OutputQueue {
     }
 }
 
-/// The guest's write, where the output waits beside the port and not in its writer. The byte that the write sends waits,
-/// or is dropped and counted if there is no room. The port's own writer gets the byte too, so let it be one that keeps none, such as
-/// `io::sink()`.
-///
-/// # Errors
-///
-/// Returns the errors of [`Serial::write`].
-pub fn write_beside<T: Trigger, EV: SerialEvents, W: Write>(
-    serial: &mut Serial<T, EV, W>,
-    output: &mut OutputQueue,
-    offset: u8,
-    value: u8,
-) -> Result<(), Error<T::E>>
-    ensures step { IsSerialWrite T.link EV.link W.contents offset value result serial.old serial.new }
-    ensures output { output.new ≡ (if sends_byte serial.old.state (Write offset value)
-        then after_byte value output.old else output.old) }
-{
-    if serial.sends(offset) {
-        output.push(value);
+impl BoundedWriter for OutputQueue {
+    ghost takes = { λ output. nat_lt (length output.items) output.capacity };
+
+    ghost offered = { λ byte old new. new ≡ after_byte byte old };
+
+    /// Takes the byte if there is room, and otherwise drops and counts it, and fails with `WriteZero`.
+    fn write_byte(&mut self, byte: u8) -> io::Result<()>
+        ensures output { self.new ≡ after_byte byte self.old }
+    {
+        let has_room = !self.ring.is_full();
+        self.push(byte);
+        if has_room {
+            Ok(())
+        } else {
+            Err(io::Error::from(ErrorKind::WriteZero))
+        }
     }
-    serial.write(offset, value)
 }
 
 /// A law, for proofs about many calls: a guest sends bytes, by `push`, and sinks take them, by `drain_into`, in any

@@ -1,9 +1,9 @@
 // SPDX-License-Identifier: Apache-2.0 OR BSD-3-Clause
 //! A monitor of one's own: two serial ports without I/O, a clock and the reset command, with a loop of its own. Each
 //! claim about it has a proof of at most 20 lines, most by a law of `superio_laws`.
-ghost use Rattle.std.specs.Prelude.{◌≡◌, ◌≤◌, ◌+◌, ◌++◌, ℕ, [], ◌∷◌, false, if◌then◌else◌};
+ghost use Rattle.std.specs.Prelude.{◌≡◌, ◌≤◌, ◌+◌, ◌++◌, ℕ, [], false, if◌then◌else◌};
 ghost use Rattle.std.specs.List.{list_any};
-ghost use Rattle.superio_laws.specs.Serial.{Asked, Coherent, CoherentUart, RdaCoversHeldBytes, Write, decode_in, enqueued_bytes, sends_byte, sent_by, state_of_uart, step, step_calls, turned_on_count};
+ghost use Rattle.superio_laws.specs.Serial.{Asked, Coherent, CoherentUart, RdaCoversHeldBytes, Write, enqueued_bytes, sends_byte, state_of_uart, step, step_calls, turned_on_count};
 ghost use Rattle.superio_laws.specs.Serial.History.{state_of_history};
 ghost use Rattle.superio_laws.specs.Serial.Laws.ListsOfOps.{accepted_in, acknowledged_in, read_out_in};
 ghost use Rattle.superio_laws.specs.Serial.Laws.UartRun.{trace_with};
@@ -12,7 +12,6 @@ ghost use Rattle.superio_examples.specs.Queues.{after_byte};
 ghost use Rattle.superio_examples.specs.TwoPorts.{after_event, after_events, asked_by, asked_in_all, is_reset, machine_of, op_of, ops_on_first, ops_on_second, resets_in, sets_clock, shown_by, shown_by_port};
 
 use crate::queues::OutputQueue;
-use superio_core::serial::registers::Register;
 use superio_core::{Pl031, Uart, is_reset_command};
 
 /// The offset of RTCLR, the load register.
@@ -200,7 +199,8 @@ pub fn ports_are_apart(machine: &mut TwoPorts, events: &[Event])
     machine.run(events);
 }
 
-/// Unless the guest writes RTCLR or RTCCR, its time goes on second by second, and never goes back.
+/// Unless the guest writes RTCLR or RTCCR, its time goes on second by second and does not go back, while 32 bits hold it
+/// and the moment.
 pub fn time_never_goes_back(machine: &mut TwoPorts, events: &[Event])
     requires { list_any sets_clock events.now ≡ false }
     ensures { (value now : ℕ) → GoesOnFrom (state_of_clock machine.old.clock) value now →
@@ -210,7 +210,7 @@ pub fn time_never_goes_back(machine: &mut TwoPorts, events: &[Event])
     machine.run(events);
 }
 
-/// A clock that is set goes on from the value.
+/// A clock whose RTCLR is written goes on from the value, while 32 bits hold its time and the moment.
 pub fn a_set_clock_goes_on(clock: &mut Pl031, value: u32, now: u64)
     ensures { GoesOnFrom (state_of_clock clock.new) value now }
 {
@@ -237,18 +237,6 @@ pub fn a_write_covers_what_is_held(port: &mut Uart, offset: u8, value: u8) -> u8
 {
     superio_laws::one_uart_call();
     port.write(offset, value).interrupts
-}
-
-/// Whether a write at `offset` sends its byte, as a THR write outside loopback does. Changes nothing. Ask before the
-/// write if your output may have no room.
-pub fn sends(port: &Uart, offset: u8) -> bool
-    ensures { (value : ℕ) → sent_by (decode_in (state_of_uart port.now) (Write offset value))
-        ≡ (if result then value ∷ [] else []) }
-{
-    match port.registers.decode(offset) {
-        Register::Data => !port.registers.is_loopback(),
-        _ => false,
-    }
 }
 
 /// The guest's write, with a bounded output. The byte that it sends waits if there is room, and otherwise it is dropped

@@ -112,7 +112,7 @@ SetTimeLaw = (before after : RtcState) (value now seconds : ℕ) (bytes shown : 
 abbrev pub CounterLaw : Type 0
 CounterLaw = (state : RtcState) (value now : ℕ) → pos now +ℤ state.offset ≡ pos value → GoesOnFrom state value now
 
--- a write of RTCLR sets guest time, whatever it was
+-- after a write of RTCLR a clock goes on from the written value, whatever its time was
 abbrev pub SetClockLaw : Type 0
 SetClockLaw = (state : RtcState) (value now : ℕ) → GoesOnFrom (clock_step state (write 0x008 value now)) value now
 

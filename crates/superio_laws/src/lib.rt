@@ -334,9 +334,10 @@ pub fn set_time()
 }
 
 /// Guest time from one moment to another, in any state. A clock whose counter is not negative goes on from it, second by
-/// second, while 32 bits hold both guest time and the moment. A write of RTCLR sets guest time to its value, RTCDR shows
-/// guest time, and no access but a write of RTCLR or RTCCR changes how far it is ahead of the host's time. While that
-/// stays, a clock goes on as before, and guest time never goes back.
+/// second, while 32 bits hold both guest time and the moment. After a write of RTCLR it goes on from the written value,
+/// on the same condition. RTCDR shows guest time, and no access but a write of RTCLR or RTCCR changes how far it is
+/// ahead of the host's time. While that stays, a clock goes on as before, and guest time does not go back while 32 bits
+/// hold it and the moment.
 pub fn time_goes_on()
     ensures counter { CounterLaw }
     ensures set { SetClockLaw }

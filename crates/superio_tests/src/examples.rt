@@ -8,12 +8,12 @@ use std::test::Fail;
 use superio_core::{Pl031, Uart};
 use superio_examples::echo::{echo, over_serial};
 use superio_examples::many_calls::{Access, make_all, make_by_run};
-use superio_examples::queues::{OutputQueue, write_beside};
+use superio_examples::queues::OutputQueue;
 use superio_examples::triggers::InterruptLine;
 use superio_examples::two_ports::{Event, PortCall, TwoPorts, offer, write_to_output};
 use superio_examples::{traced, two_ports};
 use vm_superio::run::{Call, Done, Reply};
-use vm_superio::serial::NoEvents;
+use vm_superio::serial::{Error, NoEvents};
 use vm_superio::{Serial, Trigger};
 
 type TestSerial = Serial<InterruptLine, NoEvents, Vec<u8>>;
@@ -144,8 +144,17 @@ fn loops_with_a_trace_reach_the_port(rt: HostRuntime) -> Result<(), Fail> {
     let accesses = [Access::Write(7, 0x5A), Access::Read(7)];
     traced::lose_no_byte(&mut serial, &accesses);
     assert!(rt; serial.read(7) == 0x5A);
-    let mut output = OutputQueue::new(rt.alloc(), 1)?;
-    let _ = write_beside(&mut serial, &mut output, 0, b'x');
-    assert!(rt; !output.is_empty());
+    Ok(())
+}
+
+#[test]
+fn a_bounded_writer_takes_what_fits(rt: HostRuntime) -> Result<(), Fail> {
+    let output = OutputQueue::new(rt.alloc(), 1)?;
+    let mut serial = Serial::new(rt.alloc(), InterruptLine::new(1), output)?;
+    assert!(rt; serial.sends(0) && serial.write_bounded(0, b'x').is_ok());
+    assert!(rt; matches!(serial.write_bounded(0, b'y'), Err(Error::IOError(_))));
+    assert!(rt; !serial.sends(7) && serial.write_bounded(7, b'z').is_ok());
+    let output = serial.writer();
+    assert!(rt; output.waiting(rt.alloc())?.as_slice() == b"x".as_slice() && output.dropped() == 1);
     Ok(())
 }

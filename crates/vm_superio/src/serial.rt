@@ -6,6 +6,7 @@ ghost use Rattle.vm_superio.specs.Saved.{state_of};
 ghost use Rattle.vm_superio.specs.Serial.{Coherent, fresh_state, irq_level, conditions_due};
 ghost use Rattle.vm_superio.specs.Serial.Step.{RefusesRestore};
 
+mod bounded;
 mod effects;
 pub mod encoding;
 mod errors;
@@ -13,7 +14,10 @@ mod events;
 
 use crate::Trigger;
 use crate::fifo::Fifo;
-use effects::{Recorded, call_again, call_trigger, report_read, restored, send_where_due};
+pub use bounded::BoundedWriter;
+use effects::{
+    Recorded, call_again, call_trigger, report_read, restored, send_where_due, write_reply,
+};
 pub use encoding::SerialState;
 pub use errors::{Error, Refused};
 pub use events::{NoEvents, SerialEvents};
@@ -304,12 +308,11 @@ impl<T: Trigger, EV: SerialEvents, W: Write> Serial<T, EV, W> {
         let (sent, fault) = send_where_due(&mut self.events, &mut self.out, effects.sends, value);
         let (asked, refusal) = call_trigger(&mut self.interrupt_evt, effects.interrupts);
         self.registers.cancel_thre(effects.interrupts, asked);
-        let reply = match (refusal, fault) {
-            (Some(refusal), _) => Err(Error::Trigger(refusal)),
-            (None, Some(fault)) => Err(Error::IOError(fault)),
-            (None, None) => Ok(()),
-        };
-        Recorded { reply, asked, sent }
+        Recorded {
+            reply: write_reply(refusal, fault),
+            asked,
+            sent,
+        }
     }
 
     /// Whether a write at `offset` sends its byte, as a THR write outside loopback does. Changes nothing. Ask before
@@ -318,10 +321,7 @@ impl<T: Trigger, EV: SerialEvents, W: Write> Serial<T, EV, W> {
         ensures { (value : ℕ) → sent_by (decode_in self.now.state (Write offset value))
             ≡ (if result then value ∷ [] else []) }
     {
-        match self.registers.decode(offset) {
-            Register::Data => !self.registers.is_loopback(),
-            _ => false,
-        }
+        self.registers.sends(offset)
     }
 
     /// Reads the byte at `offset`, as a guest does. Neither calls the trigger nor uses the writer.

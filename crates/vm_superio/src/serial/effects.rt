@@ -1,18 +1,20 @@
 // SPDX-License-Identifier: Apache-2.0 OR BSD-3-Clause
 //! What a serial port's calls do to its objects: each carries out the effects of a step.
-ghost use Rattle.std.specs.Prelude.{◌≡◌, ◌≤◌, ℕ, List, Result, [], ◌∷◌, length, if◌then◌else◌, is_some, IsTrue, IfOk, IfErr, OnOk};
+ghost use Rattle.std.specs.Prelude.{◌≡◌, ◌≤◌, ◌&&◌, ℕ, List, Result, [], ◌∷◌, length, if◌then◌else◌, is_err, is_some, not, true, IsTrue, IfOk, IfErr, OnOk};
 ghost use Rattle.vm_superio.specs.Links.{answers_of, all_ok, StopsAtRefusal};
 ghost use Rattle.vm_superio.specs.Links.Writer.{serial_links, WriterLink};
 ghost use Rattle.vm_superio.specs.Serial.{outcome_of, bytes_sent, state_with, conditions_due, answers_all, events_of_read, sent_events, Write, Enqueue, CharacterTimeout, WriteOk, TriggerRefused, WriterFailed, FifoFull, EnqueueOk, is_sent, is_lost, ends_in_refusal, write_response, enqueue_response, timeout_response, refusal_in_result};
 ghost use Rattle.vm_superio.specs.Saved.{state_of};
 ghost use Rattle.vm_superio.specs.Serial.Step.{RefusesRestore};
 
+use super::bounded::BoundedWriter;
 use super::encoding::SerialState;
 use super::errors::Error;
 use super::events::SerialEvents;
 use crate::Trigger;
 use crate::fifo::Fifo;
 use std::alloc::Global;
+use std::fmt::Debug;
 use std::io;
 use std::io::Write;
 use superio_core::fifo::{FIFO_SIZE, RxFifo};
@@ -117,6 +119,41 @@ pub(super) fn send_where_due<EV: SerialEvents, W: Write>(
         Ok(()) => out.flush(),
         Err(fault) => Err(fault),
     };
+    report_sent(events, written)
+}
+
+/// Sends the byte, if one is due, to a writer that says when it takes one, and reports its outcome.
+pub(super) fn offer_where_due<EV: SerialEvents, W: BoundedWriter>(
+    events: &mut EV,
+    out: &mut W,
+    sends: bool,
+    byte: u8,
+) -> (Sent, Option<io::Error>)
+    ensures sent { is_sent result.0 ≡ sends }
+    ensures lost { is_some result.1 ≡ is_lost result.0 }
+    ensures events { EV.link events.old (sent_events result.0) events.new }
+    ensures out { (offset : ℕ) →
+        WriterLink W.contents (outcome_of result.0) (bytes_sent (Write offset byte) result.0) out.old out.new }
+    ensures room { is_lost result.0 ≡ (sends && not (W.takes out.old)) }
+    ensures offered { IsTrue sends → W.offered byte out.old out.new }
+{
+    if !sends {
+        return (Sent::Nothing, None);
+    }
+    let written = out.write_byte(byte);
+    report_sent(events, written)
+}
+
+/// Reports what became of a byte that was sent. Returns its outcome and the writer's fault.
+fn report_sent<EV: SerialEvents>(
+    events: &mut EV,
+    written: io::Result<()>,
+) -> (Sent, Option<io::Error>)
+    ensures sent { is_sent result.0 ≡ true }
+    ensures lost { is_lost result.0 ≡ is_err written }
+    ensures fault { is_some result.1 ≡ is_err written }
+    ensures events { EV.link events.old (sent_events result.0) events.new }
+{
     match written {
         Ok(()) => {
             events.out_byte();
@@ -126,5 +163,21 @@ pub(super) fn send_where_due<EV: SerialEvents, W: Write>(
             events.tx_lost_byte();
             (Sent::Lost, Some(fault))
         }
+    }
+}
+
+/// What a write returns: the trigger's refusal rather than the writer's fault.
+pub(super) fn write_reply<E: Debug + Drop>(
+    refusal: Option<E>,
+    fault: Option<io::Error>,
+) -> Result<(), Error<E>>
+    ensures refusal { refusal_in_result result ≡ refusal }
+    ensures response { write_response result
+        ≡ (if is_some refusal then TriggerRefused else (if is_some fault then WriterFailed else WriteOk)) }
+{
+    match (refusal, fault) {
+        (Some(refusal), _) => Err(Error::Trigger(refusal)),
+        (None, Some(fault)) => Err(Error::IOError(fault)),
+        (None, None) => Ok(()),
     }
 }

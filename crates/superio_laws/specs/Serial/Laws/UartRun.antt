@@ -127,8 +127,8 @@ UartBoundLaw = (start end : State) (calls : List UartCall) → Coherent start
 
 -- ---- one call, in any state
 
--- the interrupt is asked for once for each condition that becomes pending. A read makes none pending, and what a restore
--- asks for was pending before
+-- the interrupt is asked for once for each condition that becomes pending. A read makes none pending, and what a
+-- restore asks for was pending before
 abbrev pub UartTurnedOnLaw : Type 0
 UartTurnedOnLaw = (call : UartCall) (old new : State) → IsUartCall call old new
     → interrupts_of call ≡ turned_on_count old new

@@ -1,6 +1,6 @@
 -- SPDX-License-Identifier: Apache-2.0 OR BSD-3-Clause
 -- A call that leaves IER 0 calls no trigger, and one that sends no byte leaves the writer.
-use Rattle.std.proofs.Common.{◌≡◌, ℕ, Bool, true, false, ◌&&◌, List, [], refl, ap, sym, ◌∙◌, subst, IsTrue, Option, ◌↔◌, Result, Ok, Err, OnOk, ◌-◌, ◌<◌, min, ◌||◌, ◌==◌, ◌++◌, length, take, arith, Some, IfErr, nat_le, not, ◌∷◌, length-append, if◌then◌else◌, leb-true}
+use Rattle.std.proofs.Common.{◌≡◌, ℕ, Bool, true, false, ◌&&◌, List, [], refl, ap, sym, ◌∙◌, subst, IsTrue, Option, ◌↔◌, Result, Ok, Err, OnOk, ◌-◌, ◌<◌, min, ◌||◌, ◌==◌, ◌++◌, length, take, arith, Some, IfErr, IsErr, nat_le, not, ◌∷◌, length-append, if◌then◌else◌, leb-true}
 use Rattle.std.specs.Bool.{beq}
 use Rattle.std.proofs.lemmas.List.{length-take, take_min}
 use Rattle.vm_superio.specs.Serial.{Coherent, irq_level, Error, SerialView, write_response, enqueue_response, timeout_response, failure_response, refusal_in_result, Trigger, IOError, FullFifo, Memory, Asked, Sent, Op, Response, Write, Enqueue, CharacterTimeout, is_sent, is_lost, ends_in_refusal, WriteOk, TriggerRefused, WriterFailed, sent_by, decode_write, EnqueueOk, TimeoutOk, FifoFull, OutOfMemory, is_refused_at_once, has_bits, State, not_empty, SameSettings, Register, register_at, is_dlab, is_loopback, receive_bytes, bytes_that_fit, enqueued_bytes, step_calls, decode_in, answers_all, sends_byte, step, write_step, bytes_sent, outcome_of}
@@ -64,19 +64,59 @@ kept_by_ok is_refused sent ok = grind arith
 none_lost : (sent : Sent) → is_lost sent ≡ false → IsTrue (list_all (λ outcome. not (is_lost outcome)) (outcome_of sent))
 none_lost sent kept = grind arith
 
--- so a write that returns `Ok` means that the writer took what it sends
-pub sends : {T E EV W : Type 0} {links : SerialLinks T E EV W} {offset value : ℕ} {asked : Asked} {sent : Sent}
-    {refusal : Option E} {old new : SerialView T EV W} (result : Result (Unit {0}) (Error E))
-    → IsSerialStep links (Write offset value) asked sent (write_response result) refusal old new
-    → OnOk result (Appends (links.contents old.out) (links.contents new.out) (sent_by (decode_in old.state (Write offset value))))
-sends (Err error) made = tt
-sends {links = links} {offset = offset} {value = value} {asked = asked} {sent = sent} {old = old} {new = new} (Ok done) made =
+-- so if the byte is not lost, the writer took what the write sends
+pub taken : {T E EV W : Type 0} {links : SerialLinks T E EV W} {offset value : ℕ} {asked : Asked} {sent : Sent}
+    {reply : Response} {refusal : Option E} {old new : SerialView T EV W}
+    → IsSerialStep links (Write offset value) asked sent reply refusal old new → is_lost sent ≡ false
+    → Appends (links.contents old.out) (links.contents new.out) (sent_by (decode_in old.state (Write offset value)))
+taken {links = links} {offset = offset} {value = value} {asked = asked} {sent = sent} {old = old} {new = new} made kept =
     let s = old.state in
     let outcome = (and_parts (answers_all (step_calls s (Write offset value)) asked) _ made.fits).1 in
     subst (Appends (links.contents old.out) (links.contents new.out))
     (call_written (is_dlab s.line_control) (is_loopback s.modem_control) (Write offset value) sent outcome)
     (known_output_law links.contents old.out new.out (outcome_of sent) (bytes_sent (Write offset value) sent) made.out
-    (none_lost sent (kept_by_ok (ends_in_refusal asked) sent made.response)))
+    (none_lost sent kept))
+
+-- and a write that returns `Ok` loses no byte
+pub sends : {T E EV W : Type 0} {links : SerialLinks T E EV W} {offset value : ℕ} {asked : Asked} {sent : Sent}
+    {refusal : Option E} {old new : SerialView T EV W} (result : Result (Unit {0}) (Error E))
+    → IsSerialStep links (Write offset value) asked sent (write_response result) refusal old new
+    → OnOk result (Appends (links.contents old.out) (links.contents new.out) (sent_by (decode_in old.state (Write offset value))))
+sends (Err error) made = tt
+sends {asked = asked} {sent = sent} (Ok done) made = taken made (kept_by_ok (ends_in_refusal asked) sent made.response)
+
+-- ---- a writer that says when it takes a byte
+
+-- with room, nothing is lost
+pub with_room : (lost sent takes : Bool) → lost ≡ (sent && not takes) → IsTrue takes → lost ≡ false
+with_room lost sent takes is room = grind arith
+
+not_ok : (refused lost sent takes : Bool) → IsTrue sent → takes ≡ false → lost ≡ (sent && not takes)
+    → WriteOk ≡ (if refused then TriggerRefused else (if lost then WriterFailed else WriteOk)) → ⊥
+not_ok refused lost sent takes is_due full is ok = grind arith
+
+-- without room, a write that sends its byte fails
+pub lost_is_err : {T E EV W : Type 0} {links : SerialLinks T E EV W} {offset value : ℕ} {asked : Asked} {sent : Sent}
+    {refusal : Option E} {is_due takes : Bool} {old new : SerialView T EV W} (result : Result (Unit {0}) (Error E))
+    → IsSerialStep links (Write offset value) asked sent (write_response result) refusal old new
+    → IsTrue is_due → takes ≡ false → is_lost sent ≡ (is_due && not takes) → IsErr result
+lost_is_err (Err error) made due full is = refl
+lost_is_err {asked = asked} {sent = sent} {is_due = is_due} {takes = takes} (Ok done) made due full is =
+    absurd (not_ok (ends_in_refusal asked) (is_lost sent) is_due takes due full is made.response)
+
+only-refused-where-kept : {E : Type 0} (refused lost : Bool) (error : Error E) → lost ≡ false
+    → failure_response error ≡ (if refused then TriggerRefused else (if lost then WriterFailed else WriteOk))
+    → failure_response error ≡ TriggerRefused
+only-refused-where-kept refused lost error kept is = grind arith
+
+-- if nothing is lost, a write fails only by a refusal of the trigger
+pub refused_alone : {T E EV W : Type 0} {links : SerialLinks T E EV W} {offset value : ℕ} {asked : Asked} {sent : Sent}
+    {refusal : Option E} {old new : SerialView T EV W} (result : Result (Unit {0}) (Error E))
+    → IsSerialStep links (Write offset value) asked sent (write_response result) refusal old new → is_lost sent ≡ false
+    → IfErr result (λ error. failure_response error ≡ TriggerRefused)
+refused_alone (Ok done) made kept = tt
+refused_alone {asked = asked} {sent = sent} (Err error) made kept =
+    only-refused-where-kept (ends_in_refusal asked) (is_lost sent) error kept made.response
 
 -- a step keeps a coherent state coherent
 pub keeps_coherent : {T E EV W : Type 0} {links : SerialLinks T E EV W} {op : Op} {asked : Asked} {sent : Sent} {reply : Response}
