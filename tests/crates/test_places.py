@@ -33,7 +33,7 @@ KINDS = {
     "memory": r"(?<!fn )(?<![\w:])(?!Vec::new\b)[\w:]+!?[(\[]\s*(?:in )?(?:rt\.alloc\(\)|alloc\b(?!:))"
               r"|\.push\((?=[^;]*\)\?)",
     "call": r"\.(?:trigger|buffer_read|out_byte|tx_lost_byte|in_buffer_empty|invalid_read|invalid_write|flush)\(\)"
-            rf"|\.write_all\(|\bsink\.write\(|\breader\.read\(|(?<![.:\w])(?<!fn )(?:{PASSES})\(",
+            rf"|\.write_all\(|\bout\.write_byte\(|\bsink\.write\(|\breader\.read\(|(?<![.:\w])(?<!fn )(?:{PASSES})\(",
 }
 
 

@@ -154,6 +154,7 @@ fn a_bounded_writer_takes_what_fits(rt: HostRuntime) -> Result<(), Fail> {
     assert!(rt; serial.sends(0) && serial.write_bounded(0, b'x').is_ok());
     assert!(rt; matches!(serial.write_bounded(0, b'y'), Err(Error::IOError(_))));
     assert!(rt; !serial.sends(7) && serial.write_bounded(7, b'z').is_ok());
+    assert!(rt; serial.write_bounded(1, 0x02).is_ok() && serial.interrupt_evt().waiting() == 1);
     let output = serial.writer();
     assert!(rt; output.waiting(rt.alloc())?.as_slice() == b"x".as_slice() && output.dropped() == 1);
     Ok(())
