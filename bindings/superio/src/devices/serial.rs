@@ -77,6 +77,14 @@ impl Uart {
         self.registers.write(&mut self.in_buffer, register, value)
     }
 
+    /// Whether a write at `offset` sends its byte, as a THR write outside loopback does. Changes nothing. Ask before
+    /// the write if your output may have no room.
+    #[inline(always)]
+    // Clauses in crates/superio_core/src/serial.rt: returns.
+    pub fn sends(&self, offset: u8) -> bool {
+        self.registers.sends(offset)
+    }
+
     /// How many bytes may still be enqueued: 64 minus the number of held bytes.
     #[inline(always)]
     // Clauses in crates/superio_core/src/serial.rt: value, bound.
@@ -426,6 +434,16 @@ impl Registers {
             Register::Iir | Register::Lsr | Register::Msr | Register::Unassigned => {}
         }
         WriteEffects { sends, interrupts }
+    }
+
+    /// Whether a write at `offset` sends its byte: it reaches THR, outside loopback.
+    #[inline(always)]
+    // Clauses in crates/superio_core/src/serial.rt: returns.
+    pub fn sends(&self, offset: u8) -> bool {
+        match self.decode(offset) {
+            Register::Data => !self.is_loopback(),
+            _ => false,
+        }
     }
 
     /// Whether a condition is pending and enabled.
