@@ -8,7 +8,6 @@ last place too.
 """
 import platform
 import re
-import shutil
 
 import pytest
 from documents import Document
@@ -116,16 +115,17 @@ def test_version(installed, name):
 @pytest.mark.needs("cc", "pkg-config")
 @pytest.mark.parametrize("build", [pytest.param(name, marks=pytest.mark.needs(name)) for name in PROJECTS])
 def test_project(installed, build, tmp_path):
-    """The lines of docs/C.md build a program."""
+    """The lines of docs/C.md build the program of docs/USING.md."""
     name, commands = PROJECTS[build]
     page = Document("docs/C.md")
     [lines] = [block.lines for block in page.blocks if block.language == build]
+    [program] = [block.lines for block in Document("docs/USING.md").blocks if "int main(void) {" in block.lines]
     assert f"`{' && '.join(commands)}`" in page.prose and f"the file {name}" in page.prose
     (tmp_path / name).write_text("\n".join([*lines, ""]), encoding="utf-8")
-    shutil.copy(ROOT / "examples/c/monitor.c", tmp_path)
+    (tmp_path / "console.c").write_text("\n".join([*program, ""]), encoding="utf-8")
     for command in commands:
         check(command.split(), cwd=tmp_path, env=installed)
-    check([tmp_path / "build" / "monitor"], "3000 bytes came back, 3000 of them in order\n", env=installed)
+    check([tmp_path / "build" / "console"], "HELLO\n", env=installed, input="hello\n")
 
 
 # What a program may print in place of the text that it should, each with its status.
