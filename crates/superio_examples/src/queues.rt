@@ -1,8 +1,8 @@
 // SPDX-License-Identifier: Apache-2.0 OR BSD-3-Clause
 //! A bounded queue. A guest's output waits until the monitor's sink takes it, and the guest never waits for the sink.
-ghost use Rattle.std.specs.Prelude.{◌≡◌, ◌≤◌, ◌-◌, ◌==◌, ℕ, [], ◌∷◌, ◌++◌, length, take, drop, max, min, nat_lt, Some, IfOk, OnErr};
+ghost use Rattle.std.specs.Prelude.{◌≡◌, ◌≤◌, ◌-◌, ◌==◌, ℕ, [], ◌∷◌, ◌++◌, is_ok, length, take, drop, max, min, nat_lt, Some, IfOk, OnErr, OnOk};
 ghost use Rattle.std.specs.Io.{WritesAtMost};
-ghost use Rattle.std.specs.Io.KnownBytes.{WriteAppends, Keeps};
+ghost use Rattle.std.specs.Io.KnownBytes.{Appends, WriteAppends, Keeps};
 ghost use Rattle.superio_examples.specs.Queues.{Waiting, OutputLaw, after_byte, dropped_by};
 
 use circular_buffer::HeapCircularBuffer;
@@ -166,7 +166,9 @@ impl BoundedWriter for OutputQueue {
 
     /// Takes the byte if there is room, and otherwise drops and counts it, and fails with `WriteZero`.
     fn write_byte(&mut self, byte: u8) -> io::Result<()>
+        ensures room { is_ok result ≡ nat_lt (length self.old.items) self.old.capacity }
         ensures output { self.new ≡ after_byte byte self.old }
+        ensures bytes { OnOk result (Appends (Some self.old.items) (Some self.new.items) (byte ∷ [])) }
     {
         let has_room = !self.ring.is_full();
         self.push(byte);
