@@ -43,7 +43,7 @@ def code(text):
     while found := NO_BODY.search(code, at):
         end = end_of_braces(code, found.end() - 1) if found[0].endswith("{") else found.end()
         code = code[:found.start()] + re.sub(r"[^\n]", " ", code[found.start():end]) + code[end:]
-        at = max(code.rfind(sign, 0, found.start()) for sign in ";{}") + 1   # a clause that now has nothing before its brace
+        at = max(code.rfind(sign, 0, found.start()) for sign in ";{}") + 1   # before which no clause begins
     return code
 
 
