@@ -32,8 +32,8 @@ WORD = re.compile(r"(?<!\S)--[\w-]+|\b[^\W\d]\w{3,}\b")
 UNREAD = re.compile(r"^rt |^rattle-kit-|^-|\w=\w|\bout/")
 # What the documents name besides, and no source has: names of other programs, and digits to fill in.
 ELSEWHERE = set("""
-    --add-architecture armhf bazel CONFIG_SERIAL_8250_16550A_VARIANTS devscripts eh_frame IAPC_BOOT_ARCH libsuperioN
-    linear NNNNNNNNNNNNNNNN --no-isolation nodejs ns16550a typescript xzcat""".split())
+    --add-architecture apb_pclk armhf bazel CONFIG_SERIAL_8250_16550A_VARIANTS devscripts eh_frame IAPC_BOOT_ARCH
+    libsuperioN linear NNNNNNNNNNNNNNNN --no-isolation nodejs ns16550a primecell typescript xzcat""".split())
 
 
 class Sources:
