@@ -126,10 +126,11 @@ def test_one_call(built, tmp_path):
 
 @pytest.mark.needs("cargo")
 @pytest.mark.parametrize("document, of, typed, printed", [
-    ("README.md", "Console", "", HI), ("README.md", "Trigger", "", "!"), ("docs/RUST.md", "Cell", "", "h"), ("docs/RUST.md", "from_snapshot", "", "h"),
-    ("docs/RUST.md", "CONSOLE_SAVED_MAX", "", "h"), ("docs/RUST.md", "Pl031", "", "the line is up: true\n"),
-    ("docs/RUST.md", "fn serve_input", "hello\n", "HELLO\n"),
-    ("docs/PORT.md", "Serial", "", "all came back\n")])
+    ("README.md", "Console", "", HI), ("README.md", "Trigger", "", "!"), ("docs/RUST.md", "Cell", "", "h"),
+    ("docs/RUST.md", "from_snapshot", "", "h"), ("docs/RUST.md", "CONSOLE_SAVED_MAX", "", "h"),
+    ("docs/RUST.md", "Pl031", "", "the line is up: true\n"),
+    ("docs/RUST.md", "is_reset_command", "", "the line is up: false\n"),
+    ("docs/RUST.md", "fn serve_input", "hello\n", "HELLO\n"), ("docs/PORT.md", "Serial", "", "all came back\n")])
 def test_rust(document, of, typed, printed, built, tmp_path):
     """By the lines for Cargo.toml in README.md. The `Machine` of docs/PORT.md is around a guest."""
     (tmp_path / "src").mkdir()
