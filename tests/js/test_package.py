@@ -20,7 +20,7 @@ VERSION = (ROOT / "VERSION").read_text("ascii").strip()
 REPLAY, SCRIPTS, CONSOLES = (PACKAGE / "tests" / f"{name}.mjs"
                              for name in ("replay_calls", "run_scripts", "replay_consoles"))
 RANDOM_SCRIPTS, RANDOM_CONSOLES = 2_000, 300
-# The first program of a document, as a module that `require` serves has it.
+# The first program of the package's page, as a module that `require` serves has it.
 IMPORT = re.compile(r'^import (\{.*\}) from ("superio");', re.M)
 # What TypeScript takes for each kind of module, and lines of which it refuses each.
 TYPED = """import { Console, I8042, Rtc, SavedStateError, Serial, type ClockOffset, type ReadOffset } from "superio";
