@@ -107,10 +107,7 @@ impl OutputQueue {
     pub fn push(&mut self, byte: u8)
         ensures { self.new ≡ after_byte byte self.old }
     {
-        if self.ring.try_push_back(byte).is_err() {
-            let dropped = &mut self.dropped;
-            *dropped = dropped.saturating_add(1);
-        }
+        let _ = self.write_byte(byte);
     }
 
     /// Passes the waiting bytes to a sink by one call of its `write`, and returns how many it took. The others stay.
@@ -170,13 +167,12 @@ impl BoundedWriter for OutputQueue {
         ensures output { self.new ≡ after_byte byte self.old }
         ensures bytes { OnOk result (Appends (Some self.old.items) (Some self.new.items) (byte ∷ [])) }
     {
-        let has_room = !self.ring.is_full();
-        self.push(byte);
-        if has_room {
-            Ok(())
-        } else {
-            Err(io::Error::from(ErrorKind::WriteZero))
+        if self.ring.try_push_back(byte).is_ok() {
+            return Ok(());
         }
+        let dropped = &mut self.dropped;
+        *dropped = dropped.saturating_add(1);
+        Err(io::Error::from(ErrorKind::WriteZero))
     }
 }
 
