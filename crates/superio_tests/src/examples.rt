@@ -18,6 +18,8 @@ use vm_superio::{Serial, Trigger};
 
 type TestSerial = Serial<InterruptLine, NoEvents, Vec<u8>>;
 
+type BoundedSerial = Serial<InterruptLine, NoEvents, OutputQueue>;
+
 type SerialCall = Call<InterruptLine, NoEvents, Vec<u8>>;
 
 type SerialDone = Done<InterruptLine, NoEvents, Vec<u8>>;
@@ -29,6 +31,15 @@ fn port(alloc: Global) -> Result<TestSerial, AllocError>
     ensures hidden { IfOk result (λ serial. dlab_clear serial) }
 {
     match Serial::new(alloc, InterruptLine::new(8), Vec::new(alloc)) {
+        Ok(serial) => Ok(serial),
+        Err(_) => Err(AllocError),
+    }
+}
+
+/// A new port whose output has room for one byte, and its line for one interrupt.
+fn bounded_port(alloc: Global) -> Result<BoundedSerial, AllocError> {
+    let output = OutputQueue::new(alloc, 1)?;
+    match Serial::new(alloc, InterruptLine::new(1), output) {
         Ok(serial) => Ok(serial),
         Err(_) => Err(AllocError),
     }
@@ -149,8 +160,7 @@ fn loops_with_a_trace_reach_the_port(rt: HostRuntime) -> Result<(), Fail> {
 
 #[test]
 fn a_bounded_writer_takes_what_fits(rt: HostRuntime) -> Result<(), Fail> {
-    let output = OutputQueue::new(rt.alloc(), 1)?;
-    let mut serial = Serial::new(rt.alloc(), InterruptLine::new(1), output)?;
+    let mut serial = bounded_port(rt.alloc())?;
     assert!(rt; serial.sends(0) && serial.write_bounded(0, b'x').is_ok());
     assert!(rt; matches!(serial.write_bounded(0, b'y'), Err(Error::IOError(_))));
     assert!(rt; !serial.sends(7) && serial.write_bounded(7, b'z').is_ok());
