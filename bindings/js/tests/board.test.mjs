@@ -1,12 +1,162 @@
 // SPDX-License-Identifier: Apache-2.0 OR BSD-3-Clause
 /**
- * What the board of the page makes of calls as a script for the program, where no user can soon get, and what the page
- * writes of numbers at the edges of their types. tests/page tries the rest.
+ * What the board of the page takes as a line, that its copies are boards of their own, what it makes of calls as a
+ * script for the program, where no user can soon get, and what the page writes of numbers at the edges of their types.
+ * tests/page tries the rest.
  */
 import assert from "node:assert/strict";
 import test from "node:test";
-import { Board, bytesOf, hex, hexOf, parse, programLines, runScript } from "../../../web/board.mjs";
+import { Board, LINES, bytesOf, hex, hexOf, parse, programLines, runScript, syntaxOf } from "../../../web/board.mjs";
 import { dateOf, lineFormat, plural, quoted, short, told } from "../../../web/why.mjs";
+
+// By docs/SCRIPT.md: how many digits each field of a line has, or BYTES for up to 128 bytes, which may be left out.
+const BYTES = 256;
+const FURTHER = { si: [], sb: [], sl: [BYTES], cb: [], cl: [BYTES] };
+const SYNTAX = {
+  refuse: [16], sr: [2], sw: [2, 2], sq: [BYTES], sc: [], sd: [], ss: [], so: [], st: [], se: [],
+  cr: [16, 4], cw: [16, 4, 8], kr: [2], kw: [2, 2], ...FURTHER,
+};
+const DIGITS = "0123456789abcdefABCDEF";
+const MOST = hexOf(Array.from({ length: 128 }, (_, place) => 255 - place));
+// All that is no digit: the other bytes, and digits of other scripts.
+const OTHERS = [...Array.from({ length: 256 }, (_, code) => String.fromCharCode(code)), "\u0660", "\uff11", "\uff21"]
+  .filter((one) => !DIGITS.includes(one));
+
+/** What a field may be, each with its value: at the edges, and with each digit at each place. */
+function fieldsOf(digits) {
+  if (digits === BYTES) return ["00", "ff", "7F80", MOST.slice(2), MOST].map((text) => [text, bytesOf(text)]);
+  const turned = Array.from(DIGITS, (_, place) => (DIGITS + DIGITS).slice(place, place + digits));
+  return ["0".repeat(digits), "f".repeat(digits), ...turned]
+    .map((text) => [text, digits === 16 ? BigInt(`0x${text}`) : Number(`0x${text}`)]);
+}
+
+/** The list with another one at a place. */
+const put = (list, place, one) => [...list.slice(0, place), one, ...list.slice(place + 1)];
+
+test("a line is its name and its fields, and nothing else is one", () => {
+  assert.deepEqual(Object.keys(LINES).sort(), Object.keys(SYNTAX).sort());
+  for (const [name, sizes] of Object.entries(SYNTAX)) {
+    const take = (texts, values) => assert.deepEqual(parse([name, ...texts].join(" "), true), { name, values });
+    const refuse = (...words) => assert.equal(parse(words.join(" "), true), null, words.join(" "));
+    const [texts, values] = [0, 1].map((part) => sizes.map((digits) => fieldsOf(digits)[2][part]));
+    take(texts, values);
+    if (sizes[0] === BYTES) take([], [new Uint8Array()]);
+    else if (sizes.length) refuse(name, ...texts.slice(1));
+    for (const wrong of [["", ...texts], [...texts, ""], [...texts, "00"]]) refuse(name, ...wrong);
+    for (const wrong of [name.toUpperCase(), ` ${name}`, `${name}\t`, `${name}s`, name.slice(1), "", "constructor"]) {
+      refuse(wrong, ...texts);
+    }
+    for (const [place, digits] of sizes.entries()) {
+      for (const [text, value] of fieldsOf(digits)) {
+        take(put(texts, place, text), put(values, place, value));
+        const long = digits === BYTES ? MOST : text;
+        for (const wrong of ["", text.slice(1), `${text}0`, `${long}00`, `0x${text.slice(2)}`, `-${text.slice(1)}`]) {
+          refuse(name, ...put(texts, place, wrong));
+        }
+      }
+      for (const [at] of Array.from(texts[place]).entries()) {
+        for (const one of OTHERS) refuse(name, ...put(texts, place, put(Array.from(texts[place]), at, one).join("")));
+      }
+    }
+  }
+});
+
+test("refuse is for the first line, and the further lines are not for the program", () => {
+  for (const [name, sizes] of Object.entries(SYNTAX)) {
+    const line = [name, ...sizes.map((digits) => fieldsOf(digits)[0][0])].join(" ");
+    const isTaken = (...flags) => parse(line, ...flags) !== null;
+    const [isLate, isForProgram] = [name !== "refuse", !(name in FURTHER)];
+    assert.deepEqual([[], [false], [false, false], [true], [true, false], [false, true], [true, true]].map(
+      (flags) => isTaken(...flags)), [isLate, isLate, isLate, true, true, isLate && isForProgram, isForProgram]);
+    const script = `sc\n${line}\n`;
+    const ends = [runScript(script), runScript(script, false), runScript(script, true)].map(({ end }) => end);
+    assert.deepEqual(ends, [isLate, isLate, isLate && isForProgram].map((isGood) => isGood ? "" : "bad line 2"));
+  }
+});
+
+test("the syntax of each line in words", () => {
+  const digits = (...counts) => counts.map((count) => `${count} hexadecimal digits`).join(", then ");
+  const words = new Map([["sc sd ss so st se si sb cb", "takes nothing."],
+    ["sr kr", `takes ${digits(2)}, after one space each.`], ["sw kw", `takes ${digits(2, 2)}, after one space each.`],
+    ["cr", `takes ${digits(16, 4)}, after one space each.`], ["cw", `takes ${digits(16, 4, 8)}, after one space each.`],
+    ["sq sl cl", "takes up to 128 bytes of two hexadecimal digits, after one space each."],
+    ["refuse", `is for the first line, with ${digits(16)}.`]]);
+  const told = Array.from(words).flatMap(([names, text]) => names.split(" ").map((name) => [name, `${name} ${text}`]));
+  assert.deepEqual(told.map(([name]) => name).sort(), Object.keys(SYNTAX).sort());
+  const others = ["", "SR", "s", "srr", "constructor"];
+  for (const [name, text] of [...told, ...others.map((it) => [it, `No line of a script begins with "${it}".`])]) {
+    for (const rest of ["", " ", " x", " 00 00 00 00"]) assert.equal(syntaxOf(name + rest), text);
+  }
+});
+
+/** All that a board has, as plain values. */
+const valuesOf = (board) =>
+  structuredClone({ ...board, serial: hexOf(board.serial.toBytes()), clock: hexOf(board.clock.toBytes()) });
+
+test("a new board has called nothing, and has sent and received nothing", () => {
+  assert.deepEqual(valuesOf(new Board()), {
+    serial: "53494f53010109000c000001036008b000", clock: hexOf(new Board().clock.toBytes()), mask: 0n, refuses: false,
+    fails: false, asked: 0, output: "", counts: { bufferRead: 0, outByte: 0, txLostByte: 0, inBufferEmpty: 0 },
+    readOut: "", head: 0, answers: [], isLost: false, isReadEmpty: false,
+  });
+});
+
+test("a copy of a board is another one: what is done to either changes nothing of the other", () => {
+  const lines = ["sw 01 03", "sq 6162636465", "sr 00", "sw 00 41", "sr 02", "cw 0000000000000005 0008 00000064",
+    "cw 0000000000000005 0004 00000066", "sw 07 42", "sw 00 43"];
+  const more = { refuse: "ffffffffffffffff", sr: "00", sw: "00 5a", sq: "7a", sl: hexOf(new Board().serial.toBytes()),
+    cr: "0000000000000007 0000", cw: "0000000000000009 000c 00000001", kr: "04", kw: "04 fe",
+    cl: hexOf(new Board().clock.toBytes()) };
+  const made = new Board();
+  for (const line of lines) made.reply(parse(line));
+  Object.assign(made, { refuses: true, fails: true });
+  const kept = valuesOf(made);
+  const changed = Object.keys(SYNTAX).filter((name) => {
+    const original = made.clone();
+    const copy = original.clone();
+    const further = copy.clone();
+    copy.reply(parse([name, more[name] ?? []].flat().join(" "), true));
+    Object.assign(copy, { refuses: false, fails: false });
+    for (const board of [original, further]) {
+      assert.deepEqual(valuesOf(board), kept);
+      assert.ok(board instanceof Board && board.isSameAs(made));
+    }
+    return copy.mask !== made.mask || !copy.isSameAs(made);
+  });
+  assert.equal(changed.join(" "), "refuse sr sw sq sd ss cr cw si sl cl");
+});
+
+test("the place of the oldest byte, and what was read, go on with each byte that the guest reads, and no other", () => {
+  const board = new Board();
+  const reply = (line) => board.reply(parse(line));
+  const isAt = (head, text) => assert.deepEqual([board.head, board.readOut], [head, text]);
+  let text = "";
+  for (const count of [0, 1, 50, 0, 64, 13, 64]) {
+    const bytes = Array.from({ length: count }, (_, place) => (place * 7 + count) & 0xff);
+    reply(`sq ${hexOf(bytes)}`.trim());
+    for (const offset of [1, 2, 3, 4, 5, 6, 7]) reply(`sr ${hex(offset, 2)}`);
+    for (const byte of bytes) {
+      isAt(text.length % 64, text);
+      assert.equal(reply("sr 00"), hex(byte, 2));
+      text += String.fromCharCode(byte);
+    }
+    // Nothing is held any more, and with DLAB set the divisor is there.
+    for (const line of ["sr 00", "sr 00", "sd", "sw 03 80", "sr 00", "sw 03 00"]) {
+      reply(line);
+      isAt(text.length % 64, text);
+    }
+  }
+  // A new port begins at the first place, and so does one that is left as after one of two calls.
+  const saved = hexOf(board.serial.toBytes());
+  for (const lines of [["ss"], [`sl ${saved}`], ["sw 01 03"]]) {
+    const later = board.clone();
+    for (const line of ["sw 01 01", "sq 616263", "sr 00", "sw 01 00", "sr 02"]) later.reply(parse(line));
+    assert.deepEqual([later.head, later.readOut], [(text.length + 1) % 64, `${text}a`]);
+    later.refuses = true;
+    for (const line of lines) later.reply(parse(line));
+    assert.deepEqual([later.head, later.readOut], [0, `${text}a`]);
+  }
+});
 
 test("a script for the program has at most 65,536 bytes", () => {
   const board = new Board();
