@@ -78,7 +78,6 @@ export class Boot {
   reads = [];
   /** The accesses of the clock: how many calls are made after each, and the host's time at it. */
   moments = [];
-  at = 0;
   differences = 0;
 
   constructor(text, recording) {

@@ -33,7 +33,7 @@ class List {
   seek(at) { this.at = at; }
 }
 
-const state = { isPlaying: false };
+const state = {};
 begin();
 
 /** What is shown: the boot that is played, or the list. */
@@ -222,7 +222,7 @@ id("registers").append(...rows.map(({ row }) => row));
 /** Makes a call with the number that a person typed into a field, or says that it is none. */
 function withNumber(field, most, call) {
   const text = field.value.trim();
-  const number = /^'.'$/.test(text) ? text.charCodeAt(1) : /^(0x[0-9a-f]+|\d+)$/i.test(text) ? Number(text) : NaN;
+  const number = /^'.'$/.test(text) ? text.charCodeAt(1) : /^(0x\w+|\d+)$/i.test(text) ? Number(text) : NaN;
   if (number <= most) call(number);
   else refuseField(field, `A value is 0 to ${most.toLocaleString("en")}, as 0x41, 65 or 'A'.`);
 }

@@ -1,12 +1,13 @@
 // SPDX-License-Identifier: Apache-2.0 OR BSD-3-Clause
 /**
  * What the board of the page takes as a line, that its copies are boards of their own, what it makes of calls as a
- * script for the program, where no user can soon get, and what the page writes of numbers at the edges of their types.
- * tests/page tries the rest.
+ * script for the program, where no user can soon get, how a recording is gone through, and what the page writes of
+ * numbers at the edges of their types. tests/page tries the rest.
  */
 import assert from "node:assert/strict";
 import test from "node:test";
 import { Board, LINES, bytesOf, hex, hexOf, parse, programLines, runScript, syntaxOf } from "../../../web/board.mjs";
+import { Boot } from "../../../web/boot.mjs";
 import { dateOf, lineFormat, plural, quoted, short, told } from "../../../web/why.mjs";
 
 // By docs/SCRIPT.md: how many digits each field of a line has, or BYTES for up to 128 bytes, which may be left out.
@@ -86,6 +87,15 @@ test("the syntax of each line in words", () => {
   const others = ["", "SR", "s", "srr", "constructor"];
   for (const [name, text] of [...told, ...others.map((it) => [it, `No line of a script begins with "${it}".`])]) {
     for (const rest of ["", " ", " x", " 00 00 00 00"]) assert.equal(syntaxOf(name + rest), text);
+  }
+});
+
+test("a value of another type is an error, and none that is told as a reply", () => {
+  for (const [name, sizes] of Object.entries(SYNTAX).filter(([name]) => name !== "refuse")) {
+    const values = sizes.map((digits) => fieldsOf(digits)[0][1]);
+    for (const place of values.keys()) {
+      assert.throws(() => new Board().reply({ name, values: put(values, place, null) }), TypeError, name);
+    }
   }
 });
 
@@ -248,5 +258,93 @@ test("values of the clock and counts of a script, at their edges", () => {
     board.counts = { bufferRead: count, outByte: 1, txLostByte: count, inBufferEmpty: 0 };
     const [text, one, none] = [count, 1, 0].map((it) => hex(it, 16));
     assert.deepEqual(["st", "se"].map((line) => board.reply(parse(line))), [text, [text, one, text, none].join(" ")]);
+  }
+});
+
+// A recording, as examples/linux-boot/README.md has its format: two pieces, each row with the calls that it stands for.
+const PIECES = [[
+  ["sw 01 01  ok", "sw 01 01  ok"],
+  ['polled "H\\n"', "sr 05  60", "sw 00 48  ok", "sr 05  60", "sw 00 0a  ok"],
+  ["3 sr 05  60", "sr 05  60", "sr 05  60", "sr 05  60"],
+  ["cr 0000000000000005 0000  00000005", "cr 0000000000000005 0000  00000005"],
+  ['sq "ab\\u00ff\\u00ff\\u0000c"  06', "sq 6162ffff0063  06"],
+  ['received "ab"', "sr 05  61", "sr 00  61", "sr 05  61", "sr 00  62"],
+  ["sr 05  61", "sr 05  61"],
+  ["2 sr 00  ff", "sr 00  ff", "sr 00  ff"],
+  ["sr 02  c1", "sr 02  c1"],
+  ["sr 00  00", "sr 00  00"],
+  ['so "H\\n"', "so  480a"],
+], [
+  ["sw 07 05  ok", "sw 07 05  ok"],
+  ["sr 05  60", "sr 05  60"],
+  ["2 sr 00  00", "sr 00  00", "sr 00  00"],
+  ["sq 41  01", "sq 41  01"],
+  ["cw 000000000000000a 0004 00000064  ok", "cw 000000000000000a 0004 00000064  ok"],
+  ['sent "\\u00ff\\"\\\\"', "sw 00 ff  ok", "sw 00 22  ok", "sw 00 5c  ok"],
+  ["kw 04 fe  reset", "kw 04 fe  reset"],
+  ['so "\\u00ff\\"\\\\"', "so  ff225c"],
+  ["st  0000000000000000", "st  0000000000000000"],
+]];
+const RECORDED = PIECES.map((rows) => rows.map(([row]) => `${row}\n`).join("")).join("\n");
+// What is seen of it from a call on: what went out, what the guest read after LSR showed a byte, the host's time at the
+// last access of the clock, and the last of the places where the playback stops.
+const SHOWN = {
+  text: [[0, ""], [3, "H"], [5, "H\n"], [27, "H\n\xff"], [28, 'H\n\xff"'], [29, 'H\n\xff"\\']],
+  readOut: [[0, ""], [12, "a"], [14, "ab"], [16, "ab\xff"], [17, "ab\xff\xff"], [19, "ab\xff\xff\0"]],
+  moment: [[0, undefined], [9, 5], [26, 10]],
+  stop: [[0, undefined], [2, "ready"], [16, "read"], [30, "reset"]],
+};
+const STOPS = { stops: [["sr 05", "ready", "one"], ["sr 00  ff", "read", "two"], ["kw", "reset", "three"]] };
+
+test("a recording is gone through call by call, to any place", () => {
+  const pieces = PIECES.map((rows) => rows.flatMap(([, ...calls]) => calls.map((call) => call.split("  "))));
+  const calls = pieces.flat();
+  const boot = new Boot(RECORDED, STOPS);
+  assert.deepEqual(boot.calls, calls.map(([line, reply]) => ({ line, reply })));
+  const check = (at) => {
+    const begin = at > pieces[0].length ? pieces[0].length : 0;
+    const boards = [new Board(), new Board()];
+    for (const [place, board] of boards.entries()) {
+      for (const [line] of calls.slice(begin, at - 1 + place)) board.reply(parse(line));
+    }
+    const { last, stop } = boot;
+    assert.deepEqual([boot.at, boot.differences, valuesOf(boot.board)], [at, 0, valuesOf(boards[1])]);
+    for (const [name, rows] of Object.entries(SHOWN)) {
+      const [, shown] = rows.filter(([from]) => from <= at).pop();
+      assert.equal(name === "stop" ? stop?.text : boot[name], shown, `${name} after ${at} calls`);
+    }
+    const [line, reply] = calls[at - 1] ?? [];
+    assert.deepEqual(last && [last.line, last.reply, last.command, last.after, valuesOf(last.before)],
+      at ? [line, reply, parse(line), boot.board, valuesOf(boards[0])] : undefined);
+    const saved = boot.saved().map((it) => parse(it));
+    assert.deepEqual(saved.map(({ name }) => name), ["cl", "sl"]);
+    const made = new Board();
+    for (const it of saved) made.reply(it);
+    assert.deepEqual([made.clock.state, made.serial.state], [boot.board.clock.state, boot.board.serial.state]);
+  };
+  check(0);
+  for (const [number] of calls.entries()) {
+    boot.step();
+    check(number + 1);
+  }
+  for (let at = calls.length; at >= 0; at -= 1) {
+    for (const other of [at, 25, at, 10, at, calls.length, at, 0, at]) {
+      boot.seek(other);
+      assert.equal(boot.at, other);
+    }
+    check(at);
+  }
+});
+
+test("a playback stops where something happens, and counts the replies that differ", () => {
+  const boot = new Boot(RECORDED, STOPS);
+  const played = [0, 1, 99, 13, 99, 5, 8, 1, 99, 99].map((count) => [boot.play(count), boot.at, boot.stop?.heading]);
+  assert.deepEqual(played, [[false, 0, undefined], [false, 1, undefined], [true, 2, "one"], [false, 15, "one"],
+    [true, 16, "two"], [false, 21, "two"], [false, 29, "two"], [true, 30, "three"], [false, 32, "three"],
+    [false, 32, "three"]]);
+  for (const [row, wrong, number] of [["2 sr 00  ff", "2 sr 00  fe", 2], ["kw 04 fe  reset", "kw 04 fe  ok", 1]]) {
+    const other = new Boot(RECORDED.replace(row, wrong), STOPS);
+    while (other.at < other.calls.length) other.play(99);
+    assert.equal(other.differences, number);
   }
 });
