@@ -8,7 +8,9 @@ import assert from "node:assert/strict";
 import test from "node:test";
 import { Board, LINES, bytesOf, hex, hexOf, parse, programLines, runScript, syntaxOf } from "../../../web/board.mjs";
 import { Boot } from "../../../web/boot.mjs";
-import { dateOf, lineFormat, plural, quoted, short, told } from "../../../web/why.mjs";
+import {
+  CONDITIONS, dateOf, lineFormat, plural, quoted, ruleOf, short, shownRegisters, storyOf, told,
+} from "../../../web/why.mjs";
 
 // By docs/SCRIPT.md: how many digits each field of a line has, or BYTES for up to 128 bytes, which may be left out.
 const BYTES = 256;
@@ -109,6 +111,19 @@ test("a new board has called nothing, and has sent and received nothing", () => 
     fails: false, asked: 0, output: "", counts: { bufferRead: 0, outByte: 0, txLostByte: 0, inBufferEmpty: 0 },
     readOut: "", head: 0, answers: [], isLost: false, isReadEmpty: false,
   });
+});
+
+test("what is noted of the last call, and of no earlier one", () => {
+  const board = new Board();
+  Object.assign(board, { mask: 2n, output: "A".repeat(255) });
+  // What the line answered, whether a byte was lost, and whether the FIFO was read empty, or again while it was.
+  for (const [line, ...noted] of [["sw 01 03", [true], false, false], ["sr 02", [], false, false],
+    ["sw 00 41", [false], false, false], ["sr 00", [], false, true], ["sq 6162", [true], false, false],
+    ["sr 00", [], false, false], ["sr 00", [], false, true], ["sw 00 41", [], true, false], ["sr 05", [], false, false],
+    ["sq 6162", [true], false, false], ["sd", [], false, true], ["sc", [], false, false]]) {
+    board.reply(parse(line));
+    assert.deepEqual([board.answers, board.isLost, board.isReadEmpty], noted, line);
+  }
 });
 
 test("a copy of a board is another one: what is done to either changes nothing of the other", () => {
@@ -261,6 +276,168 @@ test("values of the clock and counts of a script, at their edges", () => {
   }
 });
 
+/** The calls of some lines on a board. */
+function callsOf(lines, start = new Board()) {
+  const calls = [];
+  for (const line of lines) calls.push(callOf(calls.at(-1)?.after ?? start, line, !calls.length));
+  return calls;
+}
+
+/** What some lines lead to: the words for the last of them, its rule, and the heading of that. */
+function toldOf(...lines) {
+  const call = callsOf(lines).pop();
+  return [told(call), ...ruleOf(call)];
+}
+
+test("each access in words, and its rule", () => {
+  const kept = "The register shows what was written last.";
+  const ignored = "This write is ignored: it succeeds, and changes nothing.";
+  const rows = [
+    ["sr 00", "RBR = 0x00  no byte was held", "RBR gives the oldest byte, ", "reading-and-writing-data"],
+    ["sr 01", "IER = 0x00", kept, "registers"],
+    ["sr 02", "IIR = 0xc1  none", "IIR has a bit for each pending condition, ", "interrupts"],
+    ["sr 03", "LCR = 0x03  8N1", kept, "registers"],
+    ["sr 04", "MCR = 0x08  OUT2", "MCR keeps what was written. Bit 0x10 is loopback.", "registers"],
+    ["sr 05", "LSR = 0x60  THRE TEMT", "Bit 0x01 says that a byte is held. ", "registers"],
+    ["sr 06", "MSR = 0xb0  CTS DSR DCD", "No access changes MSR. ", "registers"],
+    ["sr 07", "SCR = 0x00", kept, "registers"],
+    ["sr 08", "offset 0x08 = 0x00", "No register is at this offset: it reads as 0.", "registers"],
+    ["sr ff", "offset 0xff = 0x00", "No register is at this offset: it reads as 0.", "registers"],
+    ["sw 00 5a", "THR gets 0x5a", "A byte for THR goes to the writer at once. ", "reading-and-writing-data"],
+    ["sw 01 05", "IER gets 0x05", "A write to IER raises each condition that holds ", "interrupts"],
+    ["sw 02 07", "FCR gets 0x07", ignored, "registers"],
+    ["sw 03 01", "LCR gets 0x01", "LCR keeps what was written. ", "registers"],
+    ["sw 04 0b", "MCR gets 0x0b", "MCR keeps what was written. Bit 0x10 is loopback: b", "reading-and-writing-data"],
+    ["sw 05 61", "LSR gets 0x61", ignored, "registers"],
+    ["sw 06 00", "MSR gets 0x00", ignored, "registers"],
+    ["sw 07 5a", "SCR gets 0x5a", "The scratch register ", "registers"],
+    ["sw 08 5a", "offset 0x08 gets 0x5a", ignored, "registers"],
+    ["sw 03 80;sr 00", "DLL = 0x0c", kept, "registers"],
+    ["sw 03 80;sr 01", "DLM = 0x00", kept, "registers"],
+    ["sw 03 80;sw 00 12", "DLL gets 0x12", "The divisor is kept. ", "registers"],
+    ["sw 03 80;sw 01 12", "DLM gets 0x12", "The divisor is kept. ", "registers"],
+    ["sw 03 80;sr 02", "IIR = 0xc1  none", "IIR has a bit for each pending condition, ", "interrupts"],
+    ["sw 04 18;sw 00 41", "THR gets 0x41", "In loopback a byte for THR is received: ", "reading-and-writing-data"],
+    ["sw 04 18;sw 07 41", "SCR gets 0x41", "The scratch register ", "registers"],
+    ["sw 04 0f;sw 00 41", "THR gets 0x41", "A byte for THR goes to the writer at once. ", "reading-and-writing-data"],
+    ["cr 0000000000000005 0000", "DR = 0x00000005  1970-01-01 00:00:05 UTC", "Guest time is ", "the-clock"],
+    ["cr 0000000000000005 0004", "MR = 0x00000000", "A match after guest time sets the alarm. ", "the-alarm"],
+    ["cr 0000000000000005 0008", "LR = 0x00000000", "A load makes guest time the value: ", "the-clock"],
+    ["cr 0000000000000005 000c", "CR = 0x00000001", "The clock always runs. ", "the-clock"],
+    ["cr 0000000000000005 0010", "IMSC = 0x00000000", "The mask keeps bit 0. ", "the-alarm"],
+    ["cr 0000000000000005 0014", "RIS = 0x00000000", "Raw interrupt status. Any access first ", "the-alarm"],
+    ["cr 0000000000000005 0018", "MIS = 0x00000000", "RIS under the mask, ", "the-alarm"],
+    ["cr 0000000000000005 001c", "invalid: nothing can be read at ICR", "The write clears in RIS ", "the-clock"],
+    ["cr 0000000000000005 0fe0", "ID0 = 0x00000031", "It names the chip: ", "the-clock"],
+    ["cr 0000000000000005 0ffc", "ID7 = 0x000000b1", "It names the chip: ", "the-clock"],
+    ["cr 0000000000000005 0021", "invalid: nothing can be read at offset 0x0021", "Nothing is here: ", "the-clock"],
+    ["cw 0000000000000005 1000 00000000", "invalid: nothing can be written at offset 0x1000", "Nothing is here: ",
+      "the-clock"],
+    ["cw 0000000000000005 0000 00000001", "invalid: nothing can be written at DR", "Guest time is ", "the-clock"],
+    ["cw 0000000000000005 0008 00000064", "LR gets 0x00000064", "A load makes guest time the value: ", "the-clock"],
+    ["cw 0000000000000005 0010 00000001;cr 0000000000000005 0010", "IMSC = 0x00000001  ALARM", "The mask keeps ",
+      "the-alarm"],
+  ];
+  for (const [lines, words, sentence, heading] of rows) {
+    const [text, rule, place] = toldOf(...lines.split(";"));
+    assert.deepEqual([text, rule.slice(0, sentence.length), place], [words, sentence, heading], lines);
+  }
+});
+
+test("each bit of a register by its name, and other lines in words", () => {
+  for (const [lines, words] of [
+    ["sw 01 0f;sr 01", "IER = 0x0f  RDA THRE RLS MS"], ["sw 01 01;sr 01", "IER = 0x01  RDA"],
+    ["sw 04 1f;sr 04", "MCR = 0x1f  DTR RTS OUT1 OUT2 LOOP"], ["sw 04 1f;sr 06", "MSR = 0xf0  CTS DSR RI DCD"],
+    ["sw 01 03;sq 61;sr 02", "IIR = 0xc6  THRE RDA"], ["sw 01 01;sq 61;sr 02", "IIR = 0xc4  RDA"],
+    ["sw 01 02;sr 02", "IIR = 0xc2  THRE"], ["sq 61;sr 05", "LSR = 0x61  DR THRE TEMT"],
+    ["sw 07 ff;sr 07", "SCR = 0xff"], ["sq 41;sr 00", 'RBR = 0x41  "A"'], ["sq 0041;sr 00", "RBR = 0x00  0x00"],
+    ["sq 616263", "3 of 3 bytes received"], ["sq", "0 of 0 bytes received"], ["sq 61", "1 of 1 byte received"],
+    [`sq ${"61".repeat(63)};sq 6263`, "1 of 2 bytes received"], ["sq 6162;si", "2 bytes held"], ["si", "0 bytes held"],
+    ["sq 6162;sd", "6162"], ["sc", "40"], ["kw 04 fe", "reset"], ["kr 04", "00"], ["ss", "ok"], ["sl 00", "too short"],
+  ]) {
+    assert.equal(toldOf(...lines.split(";"))[0], words, lines);
+  }
+  const full = Array(257).fill("sw 00 41");
+  assert.deepEqual([toldOf(...full.slice(1))[0], toldOf(...full)[0]], ["THR gets 0x41", '"A" is lost']);
+});
+
+// Saved ports that hold a byte, of which the conditions are pending that are named, and enabled those of IER.
+const savedPort = (enabled, pending) => `sl 53494f5301010a000c00${hex(enabled, 2)}${hex(pending, 2)}036108b00061`;
+
+test("for what a call asked the interrupt line", () => {
+  for (const [lines, words] of [["sw 01 01;sq 61", "RDA"], ["sw 01 02", "THRE"], ["sq 61;sw 01 03", "RDA, THRE"],
+    ["sw 01 02;sr 02;sw 00 41", "THRE"], ["sw 01 01;sq 61;sr 02;si", "RDA"], ["sw 01 01;sq 61;ss", "RDA"],
+    ["sq 61;sw 01 03;ss", "RDA, THRE"], ["sq 61;sw 01 03;sw 01 02;ss", "THRE"], ["sq 61;sw 01 03;sw 01 01;ss", "RDA"],
+    [savedPort(3, 6), "RDA, THRE"], [savedPort(2, 6), "THRE"], [savedPort(1, 4), "RDA"],
+    [`sw 01 02;sw 01 00;${savedPort(1, 4)}`, "RDA"], [`sw 01 02;${savedPort(3, 6)}`, "RDA, THRE"]]) {
+    const ends = (text) => /; interrupt for .*$/.exec(text)?.[0] ?? "";
+    assert.equal(ends(toldOf(...lines.split(";"))[0]), `; interrupt for ${words}`, lines);
+    // The line takes the calls before, and refuses the first of this line, which then asks for no more, or the last.
+    const calls = callsOf(lines.split(";"));
+    const { asked } = calls.at(-1).before;
+    const all = words.split(", ");
+    for (const number of all.keys()) {
+      const mask = `refuse ${hex(1n << BigInt(asked + number), 16)}`;
+      const seen = [...all.slice(0, number), `${all[number]} refused`].join(", ");
+      assert.equal(ends(toldOf(mask, ...lines.split(";"))[0]), `; interrupt for ${seen}`, lines);
+    }
+  }
+  for (const lines of ["sq 61", "sw 01 01", "sw 01 01;sq 61;sq 62", "sw 01 02;sw 00 41", "sw 01 02;sw 01 00;ss", "si",
+    savedPort(0, 6), savedPort(3, 1)]) {
+    assert.doesNotMatch(toldOf(...lines.split(";"))[0], /interrupt/, lines);
+  }
+});
+
+test("why a condition is pending or not", () => {
+  const takes = "A read of IIR acknowledges it.";
+  const waits = "1 byte held: a timeout, the next byte or a write to IER raises it.";
+  const sends = "The next byte that goes out raises it, or a write to IER.";
+  const rows = [
+    ["sr 05", "THRE is not pending: no call has raised it. IER does not enable it."],
+    ["sw 01 02", "RDA is not pending: no call has raised it. IER does not enable it."],
+    ["sw 01 01", "RDA is not pending: no call has raised it. The next byte raises it."],
+    ["sw 01 02", `THRE is pending: call 1, sw 01 02, raised it, and the line took the interrupt. ${takes}`],
+    ["refuse 0000000000000001;sw 01 02",
+      `THRE is pending: call 2, sw 01 02, raised it, and the line refused the interrupt. ${takes}`],
+    ["sw 01 02;sw 01 01",
+      "THRE is pending: call 1, sw 01 02, raised it, and the line took the interrupt. IER does not enable it now."],
+    ["sw 01 01;sq 61;sr 05", "RDA is pending: call 2, sq 61, raised it, and the line took the interrupt. " +
+      "A read of IIR or of RBR acknowledges it."],
+    [savedPort(0, 4),
+      `RDA is pending: call 1, ${savedPort(0, 4).slice(0, 22)}.., raised it. IER does not enable it now.`],
+    ["sw 01 02;sr 02;sr 05", `THRE is not pending: call 2, sr 02, acknowledged it. ${sends}`],
+    ["sw 01 02;sr 02;sw 01 00", "THRE is not pending: call 2, sr 02, acknowledged it. IER does not enable it."],
+    ["sw 01 01;sq 6162;sr 00", `RDA is not pending: call 3, sr 00, acknowledged it. ${waits}`],
+    ["sw 01 01;sq 61;sr 00", "RDA is not pending: call 3, sr 00, acknowledged it. The next byte raises it."],
+  ];
+  // A list may begin with any board.
+  const [{ after: begun }] = callsOf([savedPort(3, 6)]);
+  const later = [
+    ["", "RDA is pending: it was at the start."], ["sr 05", "THRE is pending: it was at the start."],
+    ["sr 02", `RDA is not pending: call 1, sr 02, acknowledged it. ${waits}`],
+    ["sr 02", `THRE is not pending: call 1, sr 02, acknowledged it. ${sends}`],
+  ].map((row) => [...row, begun]);
+  for (const [lines, text, start = new Board()] of [...rows, ...later]) {
+    const calls = callsOf(lines.split(";").filter(Boolean), start);
+    const stories = CONDITIONS.map((one) => storyOf(one, calls, calls.at(-1)?.after ?? start));
+    assert.equal(stories.find((story) => story.startsWith(text.split(" ")[0])), text, lines);
+  }
+});
+
+test("the registers are shown as the guest would read them, whatever DLAB is, and none is changed by it", () => {
+  const lines = ["sw 03 80", "sw 00 34", "sw 01 12", "sw 03 03", "sw 01 05", "sw 07 5a", "sq 6162"];
+  const board = callsOf(lines).pop().after;
+  const shown = {
+    RBR: 0x61, DLL: 0x34, IER: 0x05, DLM: 0x12, IIR: 0xc4, LCR: 0x03, MCR: 0x08, LSR: 0x61, MSR: 0xb0, SCR: 0x5a,
+  };
+  for (const latch of [0x00, 0x80]) {
+    const { after } = callOf(board, `sw 03 ${hex(latch | 0x03, 2)}`);
+    const before = valuesOf(after);
+    assert.deepEqual(shownRegisters(after), { ...shown, LCR: latch | 0x03 });
+    assert.deepEqual(valuesOf(after), before);
+  }
+});
+
 // A recording, as examples/linux-boot/README.md has its format: two pieces, each row with the calls that it stands for.
 const PIECES = [[
   ["sw 01 01  ok", "sw 01 01  ok"],
@@ -334,6 +511,24 @@ test("a recording is gone through call by call, to any place", () => {
     }
     check(at);
   }
+});
+
+test("a place is reached from where the recording is, or from the begin of its piece", () => {
+  class Counted extends Boot {
+    made = 0;
+
+    step() {
+      this.made += 1;
+      super.step();
+    }
+  }
+  const boot = new Counted(RECORDED, STOPS);
+  const made = [0, 3, 3, 9, 20, 20, 21, 30, 26, 32, 5, 25, 0].map((at) => {
+    const before = boot.made;
+    boot.seek(at);
+    return boot.made - before;
+  });
+  assert.deepEqual(made, [0, 3, 0, 6, 11, 0, 1, 9, 6, 6, 5, 5, 0]);
 });
 
 test("a playback stops where something happens, and counts the replies that differ", () => {
