@@ -93,8 +93,10 @@ __attribute__((constructor)) static void begin(void) {
     keys = both[1];
 }
 
-/* The first is for the interrupt, and the second for the event loop. */
+/* The first is for the interrupt, and the second for the event loop. A write to either has the lock. */
 int __wrap_eventfd(unsigned value, int flags) {
+    if (!(flags & EFD_NONBLOCK))
+        fail("an eventfd whose write may block");
     errno = EMFILE;
     return eventfds++ == 1 && fails("loop") ? -1 : __real_eventfd(value, flags);
 }
@@ -416,6 +418,8 @@ int __wrap_ioctl(int fd, unsigned long request, void *argument) {
         break;
     case KVM_SET_USER_MEMORY_REGION: note_memory(argument); break;
     case KVM_CREATE_VCPU:
+        if (closed != 2 * (made - 1))
+            fail("a vCPU without a machine");
         fd = memfd_create("exits", 0);
         must(ftruncate(fd, MOST), "exits");
         exits = mmap(NULL, MOST, PROT_READ | PROT_WRITE, MAP_SHARED, fd, 0);

@@ -289,6 +289,9 @@ function toldOf(...lines) {
   return [told(call), ...ruleOf(call)];
 }
 
+/** A load of a port that holds a byte, and has these bits of IER and of IIR, whether they fit together or not. */
+const savedPort = (enabled, pending) => `sl 53494f5301010a000c00${hex(enabled, 2)}${hex(pending, 2)}036108b00061`;
+
 test("each access in words, and its rule", () => {
   const kept = "The register shows what was written last.";
   const ignored = "This write is ignored: it succeeds, and changes nothing.";
@@ -349,7 +352,7 @@ test("each bit of a register by its name, and other lines in words", () => {
     ["sw 01 0f;sr 01", "IER = 0x0f  RDA THRE RLS MS"], ["sw 01 01;sr 01", "IER = 0x01  RDA"],
     ["sw 04 1f;sr 04", "MCR = 0x1f  DTR RTS OUT1 OUT2 LOOP"], ["sw 04 1f;sr 06", "MSR = 0xf0  CTS DSR RI DCD"],
     ["sw 01 03;sq 61;sr 02", "IIR = 0xc6  THRE RDA"], ["sw 01 01;sq 61;sr 02", "IIR = 0xc4  RDA"],
-    ["sw 01 02;sr 02", "IIR = 0xc2  THRE"], ["sq 61;sr 05", "LSR = 0x61  DR THRE TEMT"],
+    ["sw 01 02;sr 02", "IIR = 0xc2  THRE"], [`${savedPort(0, 0)};sr 02`, "IIR = 0xc0"], ["sq 61;sr 05", "LSR = 0x61  DR THRE TEMT"],
     ["sw 07 ff;sr 07", "SCR = 0xff"], ["sq 41;sr 00", 'RBR = 0x41  "A"'], ["sq 0041;sr 00", "RBR = 0x00  0x00"],
     ["sq 616263", "3 of 3 bytes received"], ["sq", "0 of 0 bytes received"], ["sq 61", "1 of 1 byte received"],
     [`sq ${"61".repeat(63)};sq 6263`, "1 of 2 bytes received"], ["sq 6162;si", "2 bytes held"], ["si", "0 bytes held"],
@@ -360,9 +363,6 @@ test("each bit of a register by its name, and other lines in words", () => {
   const full = Array(257).fill("sw 00 41");
   assert.deepEqual([toldOf(...full.slice(1))[0], toldOf(...full)[0]], ["THR gets 0x41", '"A" is lost']);
 });
-
-// Saved ports that hold a byte, of which the conditions are pending that are named, and enabled those of IER.
-const savedPort = (enabled, pending) => `sl 53494f5301010a000c00${hex(enabled, 2)}${hex(pending, 2)}036108b00061`;
 
 test("for what a call asked the interrupt line", () => {
   for (const [lines, words] of [["sw 01 01;sq 61", "RDA"], ["sw 01 02", "THRE"], ["sq 61;sw 01 03", "RDA, THRE"],
