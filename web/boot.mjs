@@ -100,8 +100,9 @@ export class Boot {
     const at = this.calls.push({ line, reply });
     const [, now] = /^c[rw] (\w+)/.exec(line) ?? [];
     if (now) this.moments.push({ at, now: parseInt(now, 16) });
-    const status = line === "sr 00" && this.calls.findLast((call) => call.line === "sr 05")?.reply;
-    if (parseInt(status, 16) & 0x01) this.reads.push({ at, byte: reply });
+    if (line !== "sr 00") return;
+    const status = this.calls.findLast((call) => call.line === "sr 05")?.reply;
+    if (Number(`0x${status}`) & 0x01) this.reads.push({ at, byte: reply });
   }
 
   /** What went out until now. */

@@ -85,6 +85,9 @@ function refuseField(field, text) {
   say("fault", text);
 }
 
+/** Whether a read shows bit 0x01: in IIR that nothing is pending, and in LSR that a byte is held. */
+const hasBit0 = ({ reply }) => (Number(`0x${reply}`) & 0x01) !== 0;
+
 /**
  * Makes a call. As a monitor does, it then offers input that waits, if there may be room again, and makes a character
  * timeout after a read of IIR that shows none pending.
@@ -94,7 +97,7 @@ function act(line) {
   if (!call) return null;
   const { name, values: [offset] } = call.command;
   if (state.queue.length && (call.after.isReadEmpty || (name === "sw" && offset === 4))) offer();
-  const isIdle = name === "sr" && offset === 2 && (parseInt(call.reply, 16) & 0x01) !== 0;
+  const isIdle = name === "sr" && offset === 2 && hasBit0(call);
   if (isIdle && id("makes-timeouts").checked) make("si");
   return call;
 }
@@ -145,9 +148,9 @@ function serve() {
   if (lineControl & DLAB) act(`sw 03 ${hex(lineControl & ~DLAB, 2)}`);
   if (!(interruptEnable & 1)) act(`sw 01 ${hex(interruptEnable | 1, 2)}`);
   for (let turns = 0; turns < 2_000; turns += 1) {
-    const isNone = (parseInt(act("sr 02").reply, 16) & 0x01) !== 0;
+    const isNone = hasBit0(act("sr 02"));
     if (isNone && !state.list.board.answers.includes(true)) return;
-    while (!isNone && parseInt(act("sr 05").reply, 16) & 0x01) act("sr 00");
+    while (!isNone && hasBit0(act("sr 05"))) act("sr 00");
   }
 }
 
