@@ -319,7 +319,7 @@ function showCalls({ calls, at, board }) {
   const first = Math.max(0, at - AROUND);
   const some = calls.slice(first, at + AROUND).map(({ line, reply }, place) => {
     const number = first + place + 1;
-    const made = item(String(number), line, reply, number === at ? "now" : number > at ? "later" : "");
+    const made = item(String(number), line, reply, number < at ? "" : number === at ? "now" : "later");
     if (number === at) made.setAttribute("aria-current", "true");
     made.onclick = () => go(number);
     return made;
