@@ -444,7 +444,7 @@ const PIECES = [[
   ["sw 01 01  ok", "sw 01 01  ok"],
   ['polled "H\\n"', "sr 05  60", "sw 00 48  ok", "sr 05  60", "sw 00 0a  ok"],
   ["3 sr 05  60", "sr 05  60", "sr 05  60", "sr 05  60"],
-  ["cr 0000000000000005 0000  00000005", "cr 0000000000000005 0000  00000005"],
+  ["cr 0000000065432105 0000  65432105", "cr 0000000065432105 0000  65432105"],
   ['sq "ab\\u00ff\\u00ff\\u0000c"  06', "sq 6162ffff0063  06"],
   ['received "ab"', "sr 05  61", "sr 00  61", "sr 05  61", "sr 00  62"],
   ["sr 05  61", "sr 05  61"],
@@ -457,7 +457,7 @@ const PIECES = [[
   ["sr 05  60", "sr 05  60"],
   ["2 sr 00  00", "sr 00  00", "sr 00  00"],
   ["sq 41  01", "sq 41  01"],
-  ["cw 000000000000000a 0004 00000064  ok", "cw 000000000000000a 0004 00000064  ok"],
+  ["cw 000000006543210a 0004 00000064  ok", "cw 000000006543210a 0004 00000064  ok"],
   ['sent "\\u00ff\\"\\\\"', "sw 00 ff  ok", "sw 00 22  ok", "sw 00 5c  ok"],
   ["kw 04 fe  reset", "kw 04 fe  reset"],
   ['so "\\u00ff\\"\\\\"', "so  ff225c"],
@@ -469,7 +469,7 @@ const RECORDED = PIECES.map((rows) => rows.map(([row]) => `${row}\n`).join("")).
 const SHOWN = {
   text: [[0, ""], [3, "H"], [5, "H\n"], [27, "H\n\xff"], [28, 'H\n\xff"'], [29, 'H\n\xff"\\']],
   readOut: [[0, ""], [12, "a"], [14, "ab"], [16, "ab\xff"], [17, "ab\xff\xff"], [19, "ab\xff\xff\0"]],
-  moment: [[0, undefined], [9, 5], [26, 10]],
+  moment: [[0, undefined], [9, 0x65432105], [26, 0x6543210a]],
   stop: [[0, undefined], [2, "ready"], [16, "read"], [30, "reset"]],
 };
 const STOPS = { stops: [["sr 05", "ready", "one"], ["sr 00  ff", "read", "two"], ["kw", "reset", "three"]] };
