@@ -78,7 +78,8 @@ export class Boot {
   reads = [];
   /** The accesses of the clock: how many calls are made after each, and the host's time at it. */
   moments = [];
-  differences = 0;
+  /** How many calls were made before each whose reply is not the recorded one. */
+  differences = new Set();
 
   constructor(text, recording) {
     let before = "";
@@ -139,7 +140,7 @@ export class Boot {
     const before = this.board.clone();
     const command = parse(line);
     const reply = this.board.reply(command);
-    if (reply !== recorded) this.differences += 1;
+    if (reply !== recorded) this.differences.add(this.at);
     this.last = { line, command, reply, before, after: this.board };
     this.at += 1;
   }

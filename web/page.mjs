@@ -434,7 +434,7 @@ function turn(now) {
 /** Says what happens where the boot is. */
 function caption() {
   const { differences, at, calls, stop, recording } = state.boot;
-  const compared = `${differences} of ${calls.length.toLocaleString("en")} replies differed`;
+  const compared = `${differences.size} of ${calls.length.toLocaleString("en")} replies differed`;
   const end = at === calls.length ? ` The boot is over: ${compared} from the recorded ones.` : "";
   id("caption").replaceChildren(stop ? `${stop.text} ` : recording.beginning, ...(stop ?
     [element("a", { href: `GUESTS.md#${stop.heading}` }, "More: GUESTS.md, a text file")] : []), end);
