@@ -2,7 +2,7 @@
 /**
  * What the board of the page takes as a line, that its copies are boards of their own, what it makes of calls as a
  * script for the program, where no user can soon get, how a recording is gone through, and what the page writes of
- * numbers at the edges of their types. tests/page tries the rest.
+ * calls, of conditions, and of numbers at the edges of their types. tests/page tries the rest.
  */
 import assert from "node:assert/strict";
 import test from "node:test";
