@@ -8,7 +8,7 @@ import { I8042, Rtc, SavedStateError, Serial } from "../bindings/js/superio.mjs"
 
 const OUTPUT_SIZE = 256;
 const LONGEST_SCRIPT = 65_536;
-// The bit of IIR by which THRE is pending, and the first call that no mask refuses.
+// The bit of IIR by which THRE is pending, and how many calls a mask has bits for.
 const THRE = 0x02;
 const MASKED_CALLS = 64;
 
@@ -19,7 +19,7 @@ export const bytesOf = (digits) => Uint8Array.from(digits.match(/../g) ?? [], (t
 const controller = new I8042();
 // How many digits each field of a line has, or BYTES for 0 to 128 bytes of two digits each; what a board replies to the
 // values of these; and the rule with the heading of docs/DEVICES.md where it stands, unless a register has the rule.
-const BYTES = 0;
+const BYTES = "bytes";
 const PROGRAM_LINES = {
   refuse: { fields: [16], reply: (board, mask) => { board.mask = mask; return null; } },
   sr: { fields: [2], reply: (board, offset) => hex(board.read(offset), 2) },
@@ -142,7 +142,7 @@ export class Board {
       const number = this.asked;
       this.asked += 1;
       if (this.refuses && number < MASKED_CALLS) this.mask |= 1n << BigInt(number);
-      const isTaken = number >= MASKED_CALLS || ((this.mask >> BigInt(number)) & 1n) === 0n;
+      const isTaken = ((this.mask >> BigInt(number)) & 1n) === 0n;
       this.answers = [...this.answers, isTaken];
       if (!isTaken) return false;
     }

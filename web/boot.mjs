@@ -78,8 +78,8 @@ export class Boot {
   reads = [];
   /** The accesses of the clock: how many calls are made after each, and the host's time at it. */
   moments = [];
-  at = 0;
-  differences = 0;
+  /** How many calls were made before each whose reply is not the recorded one. */
+  differences = new Set();
 
   constructor(text, recording) {
     let before = "";
@@ -101,8 +101,9 @@ export class Boot {
     const at = this.calls.push({ line, reply });
     const [, now] = /^c[rw] (\w+)/.exec(line) ?? [];
     if (now) this.moments.push({ at, now: parseInt(now, 16) });
-    const status = line === "sr 00" && this.calls.findLast((call) => call.line === "sr 05")?.reply;
-    if (parseInt(status, 16) & 0x01) this.reads.push({ at, byte: reply });
+    if (line !== "sr 00") return;
+    const status = this.calls.findLast((call) => call.line === "sr 05")?.reply;
+    if (Number(`0x${status}`) & 0x01) this.reads.push({ at, byte: reply });
   }
 
   /** What went out until now. */
@@ -139,7 +140,7 @@ export class Boot {
     const before = this.board.clone();
     const command = parse(line);
     const reply = this.board.reply(command);
-    if (reply !== recorded) this.differences += 1;
+    if (reply !== recorded) this.differences.add(this.at);
     this.last = { line, command, reply, before, after: this.board };
     this.at += 1;
   }

@@ -33,7 +33,7 @@ class List {
   seek(at) { this.at = at; }
 }
 
-const state = { isPlaying: false };
+const state = {};
 begin();
 
 /** What is shown: the boot that is played, or the list. */
@@ -85,6 +85,9 @@ function refuseField(field, text) {
   say("fault", text);
 }
 
+/** Whether a read shows bit 0x01: in IIR that nothing is pending, and in LSR that a byte is held. */
+const hasBit0 = ({ reply }) => (Number(`0x${reply}`) & 0x01) !== 0;
+
 /**
  * Makes a call. As a monitor does, it then offers input that waits, if there may be room again, and makes a character
  * timeout after a read of IIR that shows none pending.
@@ -94,7 +97,7 @@ function act(line) {
   if (!call) return null;
   const { name, values: [offset] } = call.command;
   if (state.queue.length && (call.after.isReadEmpty || (name === "sw" && offset === 4))) offer();
-  const isIdle = name === "sr" && offset === 2 && (parseInt(call.reply, 16) & 0x01) !== 0;
+  const isIdle = name === "sr" && offset === 2 && hasBit0(call);
   if (isIdle && id("makes-timeouts").checked) make("si");
   return call;
 }
@@ -145,9 +148,9 @@ function serve() {
   if (lineControl & DLAB) act(`sw 03 ${hex(lineControl & ~DLAB, 2)}`);
   if (!(interruptEnable & 1)) act(`sw 01 ${hex(interruptEnable | 1, 2)}`);
   for (let turns = 0; turns < 2_000; turns += 1) {
-    const isNone = (parseInt(act("sr 02").reply, 16) & 0x01) !== 0;
+    const isNone = hasBit0(act("sr 02"));
     if (isNone && !state.list.board.answers.includes(true)) return;
-    while (!isNone && parseInt(act("sr 05").reply, 16) & 0x01) act("sr 00");
+    while (!isNone && hasBit0(act("sr 05"))) act("sr 00");
   }
 }
 
@@ -222,7 +225,7 @@ id("registers").append(...rows.map(({ row }) => row));
 /** Makes a call with the number that a person typed into a field, or says that it is none. */
 function withNumber(field, most, call) {
   const text = field.value.trim();
-  const number = /^'.'$/.test(text) ? text.charCodeAt(1) : /^(0x[0-9a-f]+|\d+)$/i.test(text) ? Number(text) : NaN;
+  const number = /^'.'$/.test(text) ? text.charCodeAt(1) : /^(0x\w+|\d+)$/i.test(text) ? Number(text) : NaN;
   if (number <= most) call(number);
   else refuseField(field, `A value is 0 to ${most.toLocaleString("en")}, as 0x41, 65 or 'A'.`);
 }
@@ -316,7 +319,7 @@ function showCalls({ calls, at, board }) {
   const first = Math.max(0, at - AROUND);
   const some = calls.slice(first, at + AROUND).map(({ line, reply }, place) => {
     const number = first + place + 1;
-    const made = item(String(number), line, reply, number === at ? "now" : number > at ? "later" : "");
+    const made = item(String(number), line, reply, number < at ? "" : number === at ? "now" : "later");
     if (number === at) made.setAttribute("aria-current", "true");
     made.onclick = () => go(number);
     return made;
@@ -431,7 +434,7 @@ function turn(now) {
 /** Says what happens where the boot is. */
 function caption() {
   const { differences, at, calls, stop, recording } = state.boot;
-  const compared = `${differences} of ${calls.length.toLocaleString("en")} replies differed`;
+  const compared = `${differences.size} of ${calls.length.toLocaleString("en")} replies differed`;
   const end = at === calls.length ? ` The boot is over: ${compared} from the recorded ones.` : "";
   id("caption").replaceChildren(stop ? `${stop.text} ` : recording.beginning, ...(stop ?
     [element("a", { href: `GUESTS.md#${stop.heading}` }, "More: GUESTS.md, a text file")] : []), end);

@@ -1,6 +1,7 @@
 // SPDX-License-Identifier: Apache-2.0 OR BSD-3-Clause
 /** What a call did and by which rule, in sentences. docs/DEVICES.md has the rules, and a sentence names its part. */
 import { DLAB, SERIAL, clockRegister, serialRegister } from "../bindings/js/registers.mjs";
+import { Serial } from "../bindings/js/superio.mjs";
 import { LINES, hex } from "./board.mjs";
 
 const bitOf = (register, name) => SERIAL[register].bits.find(([, one]) => one === name)[0];
@@ -34,22 +35,23 @@ const isPending = (board, bit) => (board.serial.state.interruptIdentification & 
 
 /**
  * For what a call asked the interrupt line, in the order of the answers: the conditions that it raised or, in a restore,
- * all that are pending and enabled.
+ * all that are pending and enabled in the new port. If the line refuses a call, the board has the old one.
  */
-function askedFor({ command, before, after }) {
-  const isRestore = ["ss", "sl"].includes(command.name);
-  return CONDITIONS.filter(([, bit, enable]) => isPending(after, bit) &&
-    (isRestore ? after.serial.state.interruptEnable & enable : !isPending(before, bit))).map(([name]) => name);
+function askedFor({ command: { name, values }, before, after }) {
+  const port = name === "sl" ? Serial.fromBytes(values[0]) : after.serial;
+  const { interruptIdentification, interruptEnable } = port.state;
+  const isAsked = name === "sl" || name === "ss" ? (_, enable) => interruptEnable & enable :
+    (bit) => !isPending(before, bit);
+  return CONDITIONS.filter(([, bit, enable]) => interruptIdentification & bit && isAsked(bit, enable))
+    .map(([condition]) => condition);
 }
 
 /** What the interrupt line answered, as the end of a sentence. */
 function asked(call) {
-  const { after } = call;
-  if (!after.answers.length) return "";
-  const pending = CONDITIONS.filter(([, bit]) => isPending(after, bit)).map(([name]) => name);
-  const names = askedFor(call).length ? askedFor(call) : pending;
-  const answers = after.answers.map((isTaken, place) => `${names[place] ?? "it"}${isTaken ? "" : " refused"}`);
-  return `; interrupt for ${answers.join(", ")}`;
+  const { answers } = call.after;
+  if (!answers.length) return "";
+  const names = askedFor(call);
+  return `; interrupt for ${answers.map((isTaken, place) => names[place] + (isTaken ? "" : " refused")).join(", ")}`;
 }
 
 const readRules = {
@@ -105,8 +107,7 @@ export function ruleOf({ command: { name, values }, before }) {
   if (name === "cr" || name === "cw") {
     const register = clockRegister(values[1]);
     if (!register) return ["Nothing is here: the access is invalid.", "the-clock"];
-    const other = register.name.startsWith("ID") ? "It names the chip: a driver looks for it." : KEPT[0];
-    return clockRules[register.name] ?? [other, "the-clock"];
+    return clockRules[register.name] ?? ["It names the chip: a driver looks for it.", "the-clock"];
   }
   return LINES[name].rule ?? ["The board tells what it counted.", "the-serial-port"];
 }

@@ -5,8 +5,8 @@
  *
  * When the event loop has nothing left to do, the next line follows. If that is an exit of the guest, what the vCPU's
  * thread does is called from here: it serves the exit, and comes back by its next KVM_RUN, or ends. Every other KVM_RUN
- * and wait of the event loop fails, as it may at any time. A call for an interrupt, a timer or a turn has to have the
- * lock, and one that may wait must not have it. */
+ * and wait of the event loop fails, as it may at any time, but not the one after a timer, so that this has one turn. A
+ * call for an interrupt, a timer or a turn has to have the lock, and one that may wait must not have it. */
 #include "monitor.h"
 
 #include <fcntl.h>
@@ -36,6 +36,7 @@ static bool has_room;          /* the terminal, as the monitor knows it */
 static long error;             /* of the next write to it */
 static long input_error;       /* of the next read */
 static bool hangs;             /* the reader of the terminal takes nothing */
+static long hangs_until;       /* the monitor has waited so long for it at its end, or 0 if it never takes any */
 static bool is_told = true;    /* a guest that waits for room, since some was made */
 static int timer;              /* of CLOCK_BOOTTIME */
 static int64_t due;            /* in nanoseconds, or 0 */
@@ -92,8 +93,10 @@ __attribute__((constructor)) static void begin(void) {
     keys = both[1];
 }
 
-/* The first is for the interrupt, and the second for the event loop. */
+/* The first is for the interrupt, and the second for the event loop. A write to either has the lock. */
 int __wrap_eventfd(unsigned value, int flags) {
+    if (!(flags & EFD_NONBLOCK))
+        fail("an eventfd whose write may block");
     errno = EMFILE;
     return eventfds++ == 1 && fails("loop") ? -1 : __real_eventfd(value, flags);
 }
@@ -295,7 +298,7 @@ static void serve_line(void) {
     case 'a': takes = number; break;
     case 'f': error = number; break;
     case 'r': input_error = number; break;
-    case 'h': hangs = true; break;
+    case 'h': hangs = true; hangs_until = number; break;
     case 'g': hangs = false; break;
     case 'm': store_bytes(given); break;
     case 'd': lost += strtoull(given, NULL, 10); break;
@@ -333,9 +336,11 @@ int __wrap_poll(struct pollfd *files, nfds_t count, int timeout) {
         is_terminal_again = !is_terminal_again;
         if (is_terminal_again)
             return -1;
-        has_room = !hangs;
         if (hangs)
             SEE("  waits %d", timeout);
+        if (hangs_until > 0 && timeout > hangs_until)
+            hangs = false;
+        has_room = !hangs;
         return has_room;
     }
     is_again = !is_again;
@@ -346,7 +351,8 @@ int __wrap_poll(struct pollfd *files, nfds_t count, int timeout) {
             SEE("  turn");
             return 0;
         }
-        if (!goes_off())
+        is_again = goes_off();
+        if (!is_again)
             serve_line();
     }
     return ready;
@@ -412,6 +418,8 @@ int __wrap_ioctl(int fd, unsigned long request, void *argument) {
         break;
     case KVM_SET_USER_MEMORY_REGION: note_memory(argument); break;
     case KVM_CREATE_VCPU:
+        if (closed != 2 * (made - 1))
+            fail("a vCPU without a machine");
         fd = memfd_create("exits", 0);
         must(ftruncate(fd, MOST), "exits");
         exits = mmap(NULL, MOST, PROT_READ | PROT_WRITE, MAP_SHARED, fd, 0);

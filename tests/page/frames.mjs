@@ -135,6 +135,7 @@ const SEEN = {
   busy: () => by("main").getAttribute("aria-busy"),
   numbers: () => texts("#list .number").join(" "),
   later: () => texts("#list .later .number").join(" "),
+  most: () => ["at", "boot-at"].map((id) => by(id).max).join(" "),
   current: () => texts("#list [aria-current=true] .number").join(" "),
   "at-text": () => by("at").getAttribute("aria-valuetext"),
   // How far the present call is below the middle of the list, in half its height.
