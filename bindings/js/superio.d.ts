@@ -34,7 +34,7 @@ export interface Work {
   interrupts: number;
   /** Set the line to this level, if your interrupt controller takes levels. */
   isUp: boolean;
-  /** Wake your event loop: `wants` names something that it did not name before. */
+  /** Wake your event loop, unless it made the call: `wants` names something that it did not name before. */
   wakes: boolean;
 }
 

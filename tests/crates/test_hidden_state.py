@@ -40,9 +40,10 @@ CONTRACT = re.compile(r"\b(?:(?:ensures|requires)\*?\s*\w*|ghost \w+ ?[:=])\s*\{
 
 def without_contracts(text):
     """The code of a source, without comments, strings, contracts and the traits that are derived."""
-    code = code_of(text)
-    while found := CONTRACT.search(code):
+    code, at = code_of(text), 0
+    while found := CONTRACT.search(code, at):
         code = code[:found.start()] + code[end_of_braces(code, found.end() - 1):]
+        at = max(code.rfind(sign, 0, found.start()) for sign in ";{}") + 1   # before which none begins
     return re.sub(r"\bghost use [^;]*;|(?<=#\[derive)(?:_where)?\([^)]*\)", "", code)
 
 

@@ -39,10 +39,11 @@ KINDS = {
 
 def code(text):
     """A source with blanks in place of comments, strings, contracts and attributes."""
-    code = code_of(text)
-    while found := NO_BODY.search(code):
+    code, at = code_of(text), 0
+    while found := NO_BODY.search(code, at):
         end = end_of_braces(code, found.end() - 1) if found[0].endswith("{") else found.end()
         code = code[:found.start()] + re.sub(r"[^\n]", " ", code[found.start():end]) + code[end:]
+        at = max(code.rfind(sign, 0, found.start()) for sign in ";{}") + 1   # before which no clause begins
     return code
 
 

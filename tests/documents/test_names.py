@@ -30,10 +30,10 @@ FILE = re.compile(r"(?<![\w/.~$:*-])(?:\.{1,2}/)*(?!\.{1,2}/)([\w.-]+(?:/[\w.-]+
 WORD = re.compile(r"(?<!\S)--[\w-]+|\b[^\W\d]\w{3,}\b")
 # Code that is not read: commands of the kit, options and settings of other programs, and what is built.
 UNREAD = re.compile(r"^rt |^rattle-kit-|^-|\w=\w|\bout/")
-# What the documents name besides, and no source has: names of other programs, and digits to fill in.
+# What the documents name besides, and no source has: names of other programs and of device trees, and digits to fill in.
 ELSEWHERE = set("""
-    --add-architecture armhf bazel CONFIG_SERIAL_8250_16550A_VARIANTS devscripts eh_frame IAPC_BOOT_ARCH libsuperioN
-    linear NNNNNNNNNNNNNNNN --no-isolation nodejs ns16550a typescript xzcat""".split())
+    --add-architecture apb_pclk armhf bazel compatible CONFIG_SERIAL_8250_16550A_VARIANTS devscripts eh_frame frequency
+    IAPC_BOOT_ARCH libsuperioN linear NNNNNNNNNNNNNNNN --no-isolation nodejs ns16550a primecell typescript xzcat""".split())
 
 
 class Sources:
@@ -85,29 +85,40 @@ def command_faults(code):
         yield from (f"{tool} has no {word}" for word in wanted if word not in text)
 
 
-def code_faults(sources, code, covered):
-    """What is wrong with a piece of code. Adds the functions and clauses that it names to `covered`."""
+def cited(sources, citation):
+    """Each path of a citation, with the functions that it names and the clauses that they should have."""
+    owner, clauses = "", citation[2].split(", ")
+    for path in citation[1].split(", "):
+        path = path if "::" in path else owner + path
+        owner = path.removesuffix(path.split("::")[-1])
+        yield path, sources.named(path), clauses
+
+
+def covered(sources, code):
+    """The functions and clauses that a piece of code names."""
     if citation := CITATION.fullmatch(code):
-        owner, clauses = "", citation[2].split(", ")
-        for path in citation[1].split(", "):
-            path = path if "::" in path else owner + path
-            owner = path.removesuffix(path.split("::")[-1])
-            functions = sources.named(path)
+        for _, functions, clauses in cited(sources, citation):
+            yield from ((str(function), clause) for function in functions for clause in ["", *clauses])
+    elif not UNREAD.search(code) and ("::" in code or code.startswith("superio_")):
+        yield from ((str(function), "") for function in sources.named(re.sub(r"\(.*", "", code)))
+
+
+def code_faults(sources, code):
+    """What is wrong with a piece of code."""
+    if citation := CITATION.fullmatch(code):
+        for path, functions, clauses in cited(sources, citation):
             yield from [] if functions else [f"there is no function {path}"]
             for function in functions:
-                covered |= {(str(function), clause) for clause in ["", *clauses]}
                 yield from (f"{function} has no clause {it}" for it in clauses if it not in function.clauses)
     elif not UNREAD.search(code):
         yield from (f"{name} is nowhere in the sources" for name in sources.lacks(code))
         yield from command_faults(code)
-        if "::" in code or code.startswith("superio_"):
-            covered |= {(str(function), "") for function in sources.named(re.sub(r"\(.*", "", code))}
 
 
-def document_results(document, covered):
+def document_faults(document):
     """What is wrong with each piece of code of a document, by its line."""
     for number, line in enumerate(document.prose.splitlines(), 1):
-        yield from ((number, fault) for code in CODE.findall(line) for fault in code_faults(SOURCES, code, covered))
+        yield from ((number, fault) for code in CODE.findall(line) for fault in code_faults(SOURCES, code))
     for block in document.blocks:
         yield from ((block.number, fault) for line in block.lines for fault in command_faults(line))
 
@@ -123,9 +134,9 @@ def clauses():
 
 SOURCES = Sources()
 DOCUMENTS = [it for it in documents() if str(it) != "CHANGELOG.md"]   # it names what was
-CITED = set()   # the functions and the clauses that the documents of CLAIMS cite
-for it in CLAIMS:
-    list(document_results(Document(it), CITED))
+# The functions and the clauses that the documents of CLAIMS cite.
+CITED = {it for name in CLAIMS for line in Document(name).prose.splitlines() for code in CODE.findall(line)
+         for it in covered(SOURCES, code)}
 # The calls of a console, which docs/USING.md tells of.
 CONSOLE = {it.name for it in SOURCES.functions if it.is_public and it.path[-2] == "Console"
            and it.path[0] == "superio_console" and " for " not in it.header}
@@ -139,7 +150,7 @@ def test_number_of_names():
 @pytest.mark.parametrize("document", at_least(32, DOCUMENTS), ids=str)
 def test_document(document):
     """A document names nothing that is not there."""
-    faults = [f"{document}:{number}: {fault}" for number, fault in document_results(document, set())]
+    faults = [f"{document}:{number}: {fault}" for number, fault in document_faults(document)]
     assert not faults, "\n".join(faults)
 
 

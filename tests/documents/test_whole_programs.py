@@ -12,6 +12,8 @@ PACKAGE = '[package]\nname = "hi"\nversion = "0.1.0"\nedition = "2021"\n\n'
 LIBRARY = ROOT / "prebuilt" / f"{platform.machine()}-linux" / "libsuperio_c.a"
 # What the programs of README.md print.
 HI = "the event loop wakes, and reads input\n2 bytes accepted, 1 interrupt to raise\nthe guest reads h\n"
+# The lines of a write; and around a line that loses edges, others.
+WRITE = re.compile(r"^    if \(interrupt\(superio_console_write\(.*\n.*\n", re.M)
 # The function of a line that takes edges; and what a monitor has for one that takes levels.
 INTERRUPT = re.compile(r"(?:^/\*[^/]*\*/\n)?^static \w+ interrupt\(.*?^\}\n", re.M | re.S)
 # How long the guest is held until the reader of its output takes some. Afterwards the program drops output.
@@ -38,13 +40,16 @@ def test_c(tmp_path):
 
 
 @pytest.mark.needs("cc")
-@pytest.mark.parametrize("line", ["edges", "levels"])
+@pytest.mark.parametrize("line", ["edges", "edges that get lost", "levels"])
 def test_event_loop(line, tmp_path):
     """More input comes back than all queues hold, also if its reader begins late: for a reader that a busy machine keeps
     waiting the guest is held longer than the second of the page."""
     program = code("docs/USING.md", "c", "int main")
     if line == "levels":
         program, count = INTERRUPT.subn(SET_LINE + code("docs/USING.md", "c", "set_line"), program)
+        assert count == 1
+    elif line == "edges that get lost":
+        program, count = WRITE.subn(code("docs/USING.md", "c", "bool wakes"), program)
         assert count == 1
     compile_c(tmp_path, "console", program, LIBRARY, "-pthread", "-o", "console")
     check(["./console"], "HELLO\n", cwd=tmp_path, input="hello\n")
@@ -121,10 +126,11 @@ def test_one_call(built, tmp_path):
 
 @pytest.mark.needs("cargo")
 @pytest.mark.parametrize("document, of, typed, printed", [
-    ("README.md", "Console", "", HI), ("README.md", "Trigger", "", "!"), ("docs/RUST.md", "Cell", "", "h"), ("docs/RUST.md", "from_snapshot", "", "h"),
-    ("docs/RUST.md", "CONSOLE_SAVED_MAX", "", "h"), ("docs/RUST.md", "Pl031", "", "the line is up: true\n"),
-    ("docs/RUST.md", "fn serve_input", "hello\n", "HELLO\n"),
-    ("docs/PORT.md", "Serial", "", "all came back\n")])
+    ("README.md", "Console", "", HI), ("README.md", "Trigger", "", "!"), ("docs/RUST.md", "Cell", "", "h"),
+    ("docs/RUST.md", "from_snapshot", "", "h"), ("docs/RUST.md", "CONSOLE_SAVED_MAX", "", "h"),
+    ("docs/RUST.md", "Pl031", "", "the line is up: true\n"),
+    ("docs/RUST.md", "is_reset_command", "", "the line is up: false\n"),
+    ("docs/RUST.md", "fn serve_input", "hello\n", "HELLO\n"), ("docs/PORT.md", "Serial", "", "all came back\n")])
 def test_rust(document, of, typed, printed, built, tmp_path):
     """By the lines for Cargo.toml in README.md. The `Machine` of docs/PORT.md is around a guest."""
     (tmp_path / "src").mkdir()

@@ -126,21 +126,64 @@ def found_in_blocks(archive, paths):
     places = blocks(archive)
     if len(places) < 2:
         return
-    begins = [(name, number) for number, place in enumerate(places) if (name := first_name(archive, place))]
-    top = begins[0][0].split("/")[0]
-    read = lru_cache(maxsize=2)(lambda number: read_block(archive, places[number]))
+
+    @lru_cache(maxsize=None)
+    def begin(number):
+        """The first name in a block, with its number, or those of the block before if it has none."""
+        name = first_name(archive, places[number])
+        return (name or "", number) if name or number == 0 else begin(number - 1)
+
+    top = begin(0)[0].split("/")[0]
+    read = lru_cache(maxsize=2)(lambda number: Block(archive, places[number]))
     for path in paths:
         name = f"{top}/{path}"
-        _, number = begins[max(bisect_right(begins, (name, len(places))) - 1, 0)]
-        named = re.finditer(re.escape(name.encode() + b"\0"), read(number))
-        start = next((match.start() for match in named if match.start() % HEADER == 0), None)
+        after = bisect_right(range(len(places)), (name, len(places)), key=begin)
+        _, number = begin(max(after - 1, 0))
+        start = read(number).find(name.encode() + b"\0")
         if start is not None:
-            text = read(number)[start:]
-            end = HEADER + tarfile.TarInfo.frombuf(text[:HEADER], "utf-8", "strict").size
+            end = HEADER + tarfile.TarInfo.frombuf(read(number).part(start, HEADER), "utf-8", "strict").size
+            text = read(number).part(start, end)
             while end > len(text):   # the file goes on in the next block
                 number += 1
-                text += read(number)
-            yield path, text[HEADER:end]
+                text += read(number).part(0, end - len(text))
+            yield path, text[HEADER:]
+
+
+class Block:
+    """What is in a block of an archive of xz. It is unpacked as far as it is asked for: this takes most of the time."""
+
+    def __init__(self, archive, place):
+        start, size = place
+        with open(archive, "rb") as file:
+            header = file.read(12)   # of all blocks
+            file.seek(start)
+            self.packed = header + file.read(size)
+        self.unpacker, self.text = lzma.LZMADecompressor(), bytearray()
+
+    def unpacks_more(self):
+        """Whether there was more."""
+        more = self.unpacker.decompress(self.packed, 1 << 20)
+        self.packed = b""   # the unpacker has it
+        self.text += more
+        return bool(more)
+
+    def part(self, start, size):
+        """So many bytes, or as many as there are."""
+        while len(self.text) < start + size and self.unpacks_more():
+            pass
+        return bytes(self.text[start:start + size])
+
+    def find(self, begin):
+        """Where the first header of a file begins with these bytes, or none."""
+        at = 0
+        while True:
+            while (at := self.text.find(begin, at)) >= 0:
+                if at % HEADER == 0:
+                    return at
+                at += 1
+            at = max(len(self.text) - len(begin) + 1, 0)
+            if not self.unpacks_more():
+                return None
 
 
 def blocks(archive):
@@ -151,18 +194,9 @@ def blocks(archive):
     return [(int(row[4]), int(row[6])) for row in rows if row[0] == "block"]
 
 
-def read_block(archive, place, most=-1):
-    """What is in a block of an archive of xz, or at most so much of it."""
-    start, size = place
-    with open(archive, "rb") as file:
-        header = file.read(12)   # of all blocks
-        file.seek(start)
-        return lzma.LZMADecompressor().decompress(header + file.read(size), most)
-
-
 def first_name(archive, place):
     """The name of the first file that begins near the begin of a block of an archive, or none."""
-    text = read_block(archive, place, 1 << 20)
+    text = Block(archive, place).part(0, 1 << 20)
     for start in range(0, len(text) - HEADER + 1, HEADER):
         if text[start + 257:start + 262] == b"ustar":
             member = tarfile.TarInfo.frombuf(text[start:start + HEADER], "utf-8", "replace")

@@ -20,7 +20,7 @@ VERSION = (ROOT / "VERSION").read_text("ascii").strip()
 REPLAY, SCRIPTS, CONSOLES = (PACKAGE / "tests" / f"{name}.mjs"
                              for name in ("replay_calls", "run_scripts", "replay_consoles"))
 RANDOM_SCRIPTS, RANDOM_CONSOLES = 2_000, 300
-# The first program of a document, as a module that `require` serves has it.
+# The first program of the package's page, as a module that `require` serves has it.
 IMPORT = re.compile(r'^import (\{.*\}) from ("superio");', re.M)
 # What TypeScript takes for each kind of module, and lines of which it refuses each.
 TYPED = """import { Console, I8042, Rtc, SavedStateError, Serial, type ClockOffset, type ReadOffset } from "superio";
@@ -140,20 +140,27 @@ def test_own_tests(path):
     assert [counts[kind] for kind in ("fail", "cancelled", "skipped", "todo")] == [0] * 4, said
 
 
-def program_of(place):
-    """The first program of a document, and what it prints: a block of text, or the numbers in its comments."""
-    blocks = {block.language: [*block.lines, ""] for block in reversed(Document(place).blocks)}
-    program = "\n".join(blocks["js"])
-    printed = "\n".join(blocks.get("text") or [*re.findall(r"console\.log.* // (\d+)\n", program), ""])
-    assert printed, f"{place} does not say what its program prints"
-    return program, printed
+def programs_of(place):
+    """The programs of a document, each with what it prints: a block of text after it, or the numbers in its comments."""
+    blocks = Document(place).blocks
+    for block, after in zip(blocks, [*blocks[1:], None]):
+        if block.language == "js":
+            program = "\n".join([*block.lines, ""])
+            printed = "".join(re.findall(r"console\.log.* // (\d+\n)", program))
+            if after and after.language == "text":
+                printed = "\n".join([*after.lines, ""])
+            assert printed, f"{place}:{block.number} does not say what its program prints"
+            yield program, printed
+
+
+PROGRAMS = at_least(2, programs_of("bindings/js/README.md"))
 
 
 @pytest.mark.needs("node")
-@pytest.mark.parametrize("place", ["bindings/js/README.md", "docs/PAGE.md"])
-def test_program_of(place):
-    """The first program of a document prints what follows it. In the folder of a package its name is the package."""
-    program, printed = program_of(place)
+@pytest.mark.parametrize("number", range(len(PROGRAMS)))
+def test_program(number):
+    """A program of the package's page prints what follows it. In the folder of a package its name is the package."""
+    program, printed = PROGRAMS[number]
     check(["node", "--input-type=module", "--eval", program], printed, cwd=PACKAGE)
 
 
@@ -195,7 +202,7 @@ def test_packed_files(packed):
 @pytest.mark.needs("npm")
 @pytest.mark.parametrize("form", ["module", "commonjs"])
 def test_program_over_the_package(user, form):
-    program, printed = program_of("bindings/js/README.md")
+    program, printed = PROGRAMS[0]
     text = program if form == "module" else IMPORT.sub(r"const \1 = require(\2);", program)
     check(["node", f"--input-type={form}", "--eval", text], printed, cwd=user)
 

@@ -86,7 +86,7 @@ class Work(NamedTuple):
 
     If your interrupt controller takes edges, raise the interrupt `interrupts` times, 0 to 2. If one of them is refused,
     leave out the others and call `refuse`. If it takes levels, set the line to `is_up` instead. If `wakes` is true,
-    wake your event loop: `wants` names something that it did not name before.
+    wake your event loop, unless it made the call: `wants` names something that it did not name before.
     """
 
     interrupts: int

@@ -1,8 +1,8 @@
 // SPDX-License-Identifier: Apache-2.0 OR BSD-3-Clause
 //! A bounded queue. A guest's output waits until the monitor's sink takes it, and the guest never waits for the sink.
-ghost use Rattle.std.specs.Prelude.{◌≡◌, ◌≤◌, ◌-◌, ◌==◌, ℕ, [], ◌∷◌, ◌++◌, length, take, drop, max, min, nat_lt, Some, IfOk, OnErr};
+ghost use Rattle.std.specs.Prelude.{◌≡◌, ◌≤◌, ◌-◌, ◌==◌, ℕ, [], ◌∷◌, ◌++◌, is_ok, length, take, drop, max, min, nat_lt, Some, IfOk, OnErr, OnOk};
 ghost use Rattle.std.specs.Io.{WritesAtMost};
-ghost use Rattle.std.specs.Io.KnownBytes.{WriteAppends, Keeps};
+ghost use Rattle.std.specs.Io.KnownBytes.{Appends, WriteAppends, Keeps};
 ghost use Rattle.superio_examples.specs.Queues.{Waiting, OutputLaw, after_byte, dropped_by};
 
 use circular_buffer::HeapCircularBuffer;
@@ -107,10 +107,7 @@ impl OutputQueue {
     pub fn push(&mut self, byte: u8)
         ensures { self.new ≡ after_byte byte self.old }
     {
-        if self.ring.try_push_back(byte).is_err() {
-            let dropped = &mut self.dropped;
-            *dropped = dropped.saturating_add(1);
-        }
+        let _ = self.write_byte(byte);
     }
 
     /// Passes the waiting bytes to a sink by one call of its `write`, and returns how many it took. The others stay.
@@ -166,15 +163,16 @@ impl BoundedWriter for OutputQueue {
 
     /// Takes the byte if there is room, and otherwise drops and counts it, and fails with `WriteZero`.
     fn write_byte(&mut self, byte: u8) -> io::Result<()>
+        ensures room { is_ok result ≡ nat_lt (length self.old.items) self.old.capacity }
         ensures output { self.new ≡ after_byte byte self.old }
+        ensures bytes { OnOk result (Appends (Some self.old.items) (Some self.new.items) (byte ∷ [])) }
     {
-        let has_room = !self.ring.is_full();
-        self.push(byte);
-        if has_room {
-            Ok(())
-        } else {
-            Err(io::Error::from(ErrorKind::WriteZero))
+        if self.ring.try_push_back(byte).is_ok() {
+            return Ok(());
         }
+        let dropped = &mut self.dropped;
+        *dropped = dropped.saturating_add(1);
+        Err(io::Error::from(ErrorKind::WriteZero))
     }
 }
 
