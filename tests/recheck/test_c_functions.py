@@ -1,5 +1,5 @@
 # SPDX-License-Identifier: Apache-2.0 OR BSD-3-Clause
-"""The C functions that Cargo builds are translated all, and what is trusted of them is listed in docs/RECHECK.md."""
+"""The C functions that Cargo builds are translated all, and what is trusted of them is listed in recheck/README.md."""
 import re
 
 from harness import ROOT
@@ -9,12 +9,12 @@ from c_functions import STANDS_FOR, safe_part
 
 LEFT_OUT = rerun.left_out()[0]["c"][rerun.Path("lib.rs")]
 SOURCE = (ROOT / "bindings/c/from-source/src/lib.rs").read_text()
-RECHECK = (ROOT / "docs/RECHECK.md").read_text()
+PAGE = (ROOT / "recheck/README.md").read_text()
 FUNCTION = r"^.*\bfn (\w+)"
 
 
 def test_unsafe_lines_are_listed():
-    listed = re.search(r"```rust\n(.*?)```", RECHECK.partition("\n## The C functions\n")[2], re.S)[1].splitlines()
+    listed = re.search(r"```rust\n(.*?)```", PAGE.partition("\n## The lines with `unsafe`\n")[2], re.S)[1].splitlines()
     found = [line.strip() for line in SOURCE.splitlines() if re.search(r"\bunsafe\b", line)]
     assert [line.strip() for line in listed if line] == found  # the page leaves a line between functions
 
