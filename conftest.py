@@ -38,6 +38,7 @@ def pytest_addoption(parser):
                      help=f"leave out the tests that need one of these: {', '.join(TOOLS)}")
     parser.addoption("--write-pictures", action="store_true", help="write the pictures of the page anew")
     parser.addoption("--boot", action="store_true", help="boot Linux, also if it has passed with these sources")
+    parser.addoption("--write-record", action="store_true", help="write tests/kvm/linux.record if Linux passes")
     parser.addoption("--sums", action="store_true", help="fail if fewer tests are tried than tests/sums.txt says")
     parser.addoption("--write-sums", action="store_true", help="write tests/sums.txt, with --collect-only")
     parser.addoption("--program", type=Path, help="a program in place of crates/superio/out/superio")

@@ -42,7 +42,7 @@ def test_prebuilt_sums():
 
 
 def test_prebuilt_is_of_the_sources():
-    assert source_line() in (PREBUILT / "SOURCES").read_text("ascii").splitlines(), "run tools/prebuild"
+    assert source_line() in (PREBUILT / "SOURCES").read_text("ascii").splitlines(), "run tools/generate"
 
 
 @pytest.mark.needs("kit")

@@ -8,16 +8,22 @@ from harness import ROOT
 OF_CARGO = r"^test result: .*"   # the lines of `cargo test` that count
 
 
-def run(*words, **options):
-    """Runs a command and shows what it prints. Returns its status, 127 if it is not there, and what it printed."""
-    print("==", *words, flush=True)
+def run(*words, at_its_end=False, **options):
+    """Runs a command and shows what it prints, at its end if it runs beside another. Returns its status, 127 if it is not
+    there, and what it printed."""
+    lines, head = [], " ".join(["==", *words])
+    if not at_its_end:
+        print(head, flush=True)
     process = subprocess.Popen(["env", *words], stdin=subprocess.DEVNULL, stdout=subprocess.PIPE, text=True,
                                stderr=subprocess.STDOUT, errors="replace", **{"cwd": ROOT, **options})
-    lines = []
     for line in process.stdout:
-        print(line, end="", flush=True)
         lines.append(line)
-    return process.wait(), "".join(lines).rstrip("\n")
+        if not at_its_end:
+            print(line, end="", flush=True)
+    printed = "".join(lines)
+    if at_its_end:
+        print("", head, printed, sep="\n", end="", flush=True)
+    return process.wait(), printed.rstrip("\n")
 
 
 def counted(status, printed, sums=r".*\Z"):

@@ -9,19 +9,19 @@ from prebuild import DECLARED, EMBEDDED, MODULE, PREBUILT, build, declared, embe
 
 @pytest.mark.parametrize("name, line", at_least(2, listed().items()))
 def test_digest(name, line):
-    assert line in (PREBUILT / name).read_text("ascii").splitlines(), "run web/prebuild.py"
+    assert line in (PREBUILT / name).read_text("ascii").splitlines(), "run tools/generate"
 
 
 def test_required():
-    assert REQUIRED.read_text("utf-8") == required(), "run web/build.py"
+    assert REQUIRED.read_text("utf-8") == required(), "run tools/generate"
 
 
 def test_embedded():
-    assert EMBEDDED.read_text("ascii") == embedded(), "run web/prebuild.py"
+    assert EMBEDDED.read_text("ascii") == embedded(), "run tools/generate"
 
 
 def test_declared():
-    assert DECLARED.read_text("utf-8") == declared(), "run web/prebuild.py"
+    assert DECLARED.read_text("utf-8") == declared(), "run tools/generate"
 
 
 @pytest.mark.needs("wasm")

@@ -64,8 +64,8 @@ def test_each_source_names_its_licenses():
 def test_interface():
     """superio.abi and Debian's table are those of the header, and nothing is gone while the number is the same."""
     assert not lost()
-    assert kept() == interface(), "run tools/write-abi"
-    assert SYMBOLS.read_text(encoding="ascii") == debian_symbols(), "run tools/write-abi"
+    assert kept() == interface(), "run tools/generate"
+    assert SYMBOLS.read_text(encoding="ascii") == debian_symbols(), "run tools/generate"
 
 
 @pytest.mark.parametrize("heading", at_least(2, HEADINGS))

@@ -66,7 +66,7 @@ def links():
 
 
 def test_packed():
-    assert unpacked(PAGE.read_text("utf-8")) == sources(), "run web/build.py"
+    assert unpacked(PAGE.read_text("utf-8")) == sources(), "run tools/generate"
 
 
 def test_size():
