@@ -62,9 +62,11 @@ def test_event_loop(line, tmp_path):
 
 @pytest.mark.needs("cc")
 def test_commands(tmp_path):
-    """As the page says, in a folder that has what the repository's top has."""
-    (tmp_path / "console.c").write_text(code("docs/USING.md", "c", "int main"), encoding="utf-8")
-    for name in ["bindings", "prebuilt"]:
+    """As the page says, in a folder that has what the repository's top has. The page shows the program but for the line
+    with its license."""
+    _, shown = (ROOT / "examples/console.c").read_text(encoding="utf-8").split("\n", 1)
+    assert shown == code("docs/USING.md", "c", "int main")
+    for name in ["bindings", "examples", "prebuilt"]:
         (tmp_path / name).symlink_to(ROOT / name)
     [commands] = [block.commands for block in Document("docs/USING.md").blocks if block.commands]
     for command, printed in commands:
@@ -130,7 +132,7 @@ def test_one_call(built, tmp_path):
     ("docs/RUST.md", "from_snapshot", "", "h"), ("docs/RUST.md", "CONSOLE_SAVED_MAX", "", "h"),
     ("docs/RUST.md", "Pl031", "", "the line is up: true\n"),
     ("docs/RUST.md", "is_reset_command", "", "the line is up: false\n"),
-    ("docs/RUST.md", "fn serve_input", "hello\n", "HELLO\n"), ("docs/PORT.md", "Serial", "", "all came back\n")])
+    ("docs/RUST.md", "fn event_loop", "hello\n", "HELLO\n"), ("docs/PORT.md", "Serial", "", "all came back\n")])
 def test_rust(document, of, typed, printed, built, tmp_path):
     """By the lines for Cargo.toml in README.md. The `Machine` of docs/PORT.md is around a guest."""
     (tmp_path / "src").mkdir()
