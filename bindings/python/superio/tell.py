@@ -52,13 +52,19 @@ def raised(call: Call) -> List[str]:
     return [name for name in pending(call.after.serial) if name not in pending(call.before.serial)]
 
 
+def _answers(call: Call) -> Dict[str, bool]:
+    """What the interrupt line answered, for each condition that it was asked for: those that a call raised or, in a
+    restore, all that are pending and enabled. A load that it refused leaves nothing of its port."""
+    state, name = call.after.serial, call.command.name
+    if name == "ss" or (name == "sl" and call.reply == "ok"):
+        return dict(zip((one for one in pending(state) if state.interrupt_enable & ENABLES[one]), call.answers))
+    return dict(zip(raised(call), call.answers))
+
+
 def _interrupts(call: Call) -> str:
     """What the interrupt line was asked, empty if it was not called."""
-    if not call.answers:
-        return ""
-    names = raised(call) or pending(call.after.serial)
-    return "; interrupt for " + ", ".join(name + ("" if taken else " refused")
-                                          for name, taken in zip(names, call.answers))
+    answers = ", ".join(name + ("" if taken else " refused") for name, taken in _answers(call).items())
+    return f"; interrupt for {answers}" if answers else ""
 
 
 def told(call: Call) -> str:
@@ -238,11 +244,10 @@ class Story:
     def note(self, call: Call) -> None:
         """Remembers what a call raised and acknowledged. Calls are noted in their order, from a fresh board on."""
         before, after = pending(call.before.serial), pending(call.after.serial)
-        answers = list(call.answers)
+        answers = _answers(call)
         for name in CONDITIONS:
-            asked = name in after and (name not in before or call.command.name in ("ss", "sl"))
-            if asked and (name not in before or answers):
-                self._raised[name] = call, answers.pop(0) if answers else None
+            if name in after and (name not in before or name in answers):
+                self._raised[name] = call, answers.get(name)
             elif name in before and name not in after:
                 self._acknowledged[name] = call
 
