@@ -12,6 +12,9 @@ PACKAGE = '[package]\nname = "hi"\nversion = "0.1.0"\nedition = "2021"\n\n'
 LIBRARY = ROOT / "prebuilt" / f"{platform.machine()}-linux" / "libsuperio_c.a"
 # What the programs of README.md print.
 HI = "the event loop wakes, and reads input\n2 bytes accepted, 1 interrupt to raise\nthe guest reads h\n"
+# What the program of docs/RUST.md with a bus prints: the clock twice, a read of the port, and the reset.
+BUS = "".join(f"{line}\n" for line in [*["clock: line false, alarm in Some(60) s"] * 2, *[
+    "Work { interrupts: 0, is_up: false, wakes: false }"] * 2])
 # The lines of a write; and around a line that loses edges, others.
 WRITE = re.compile(r"^    if \(interrupt\(superio_console_write\(.*\n.*\n", re.M)
 # The function of a line that takes edges; and what a monitor has for one that takes levels.
@@ -44,7 +47,7 @@ def test_c(tmp_path):
 def test_event_loop(line, tmp_path):
     """More input comes back than all queues hold, also if its reader begins late: for a reader that a busy machine keeps
     waiting the guest is held longer than the second of the page."""
-    program = code("docs/USING.md", "c", "int main")
+    program = code("docs/C.md", "c", "int main")
     if line == "levels":
         program, count = INTERRUPT.subn(SET_LINE + code("docs/USING.md", "c", "set_line"), program)
         assert count == 1
@@ -65,10 +68,10 @@ def test_commands(tmp_path):
     """As the page says, in a folder that has what the repository's top has. The page shows the program but for the line
     with its license."""
     _, shown = (ROOT / "examples/console.c").read_text(encoding="utf-8").split("\n", 1)
-    assert shown == code("docs/USING.md", "c", "int main")
+    assert shown == code("docs/C.md", "c", "int main")
     for name in ["bindings", "examples", "prebuilt"]:
         (tmp_path / name).symlink_to(ROOT / name)
-    [commands] = [block.commands for block in Document("docs/USING.md").blocks if block.commands]
+    [commands] = [block.commands for block in Document("docs/C.md").blocks if block.commands]
     for command, printed in commands:
         check(["bash", "-c", command], printed, cwd=tmp_path)
 
@@ -130,8 +133,7 @@ def test_one_call(built, tmp_path):
 @pytest.mark.parametrize("document, of, typed, printed", [
     ("README.md", "Console", "", HI), ("README.md", "Trigger", "", "!"), ("docs/RUST.md", "Cell", "", "h"),
     ("docs/RUST.md", "from_snapshot", "", "h"), ("docs/RUST.md", "CONSOLE_SAVED_MAX", "", "h"),
-    ("docs/RUST.md", "Pl031", "", "the line is up: true\n"),
-    ("docs/RUST.md", "is_reset_command", "", "the line is up: false\n"),
+    ("docs/RUST.md", "RtcState", "", "the line is up: true\n"), ("docs/RUST.md", "is_reset_command", "", BUS),
     ("docs/RUST.md", "fn event_loop", "hello\n", "HELLO\n"), ("docs/PORT.md", "Serial", "", "all came back\n")])
 def test_rust(document, of, typed, printed, built, tmp_path):
     """By the lines for Cargo.toml in README.md. The `Machine` of docs/PORT.md is around a guest."""
