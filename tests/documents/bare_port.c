@@ -2,7 +2,7 @@
 /*
  * A guest, an event loop and an interrupt controller around the functions of docs/PORT.md. The guest sends back what it
  * receives. All of it comes back in order, whatever the controller refuses, for drivers that read IIR once or until
- * nothing is pending, and take few bytes or many, in machines that were reset before.
+ * nothing is pending, and take few bytes or many, in machines that slept and were reset before.
  */
 #include <stdio.h>
 #include <stdlib.h>
@@ -13,6 +13,7 @@ void write_access(uint8_t offset, uint8_t value);
 uint8_t read_access(uint8_t offset);
 void turn(void);
 void reset(void);
+void sleep_in_memory(void);
 
 enum { INPUT = 2000, ROOM = 100 };
 static uint8_t input[ROOM];    /* what waits for the guest */
@@ -73,7 +74,12 @@ static void start(void) {
 
 /* Runs until nothing happens any more. Returns whether all input came back. */
 static bool exchange(unsigned most, bool is_until_none) {
-    typed = waiting = sent = in_order = edges = 0;
+    typed = waiting = sent = in_order = 0;
+    sleep_in_memory(); /* what is typed meanwhile waits until the machine is reset */
+    turn();
+    if (waiting != typed)
+        return false;
+    edges = 0;
     is_timed = false;
     reset();
     for (unsigned calls = 0; calls < 1000000; calls++) {
