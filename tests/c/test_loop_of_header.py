@@ -1,6 +1,6 @@
 # SPDX-License-Identifier: Apache-2.0 OR BSD-3-Clause
-"""The monitor that the comment of superio.h shows, in place of that of examples/c/monitor.c: it compiles, breaks no rule
-that rules.c makes, and with either kind of line each byte comes back."""
+"""The monitor that the comment of superio.h shows, in place of that of examples/c/monitor.c: it compiles, breaks no
+rule that rules.c makes, and with either kind of line each byte comes back."""
 import re
 
 import pytest
@@ -15,7 +15,8 @@ LEFT_OPEN = {
     "carry_out(": "carry_out(machine, ",
     "unlock()": "pthread_mutex_unlock(&machine->lock)",
     "lock()": "pthread_mutex_lock(&machine->lock)",
-    "forget_wake()": "if (files[2].revents && read(machine->wakes[0], bytes, sizeof bytes) < 0) warn(\"the event loop\")",
+    "forget_wake()": "if (files[2].revents && read(machine->wakes[0], bytes, sizeof bytes) < 0)\n"
+                     "            warn(\"the event loop\")",
     "wake()": "put(machine->wakes[1])",
     "raise_interrupt()": "put(machine->interrupts[1])",
     "set_line(work.is_up)": "if (work.is_up) put(machine->interrupts[1])",
@@ -54,8 +55,7 @@ REPLACED = re.compile(r"/\* Does what a call left to do\. .*?(?=/\* The guest's 
 def monitor(line, folder):
     """Writes monitor.c with the header's functions, and its `carry_out` for one kind of line. Gives the path."""
     header = (ROOT / "bindings/c/superio.h").read_text("ascii")
-    [shown] = re.findall(r"(?<= \* loop what to poll\. This is a monitor around it:\n \*\n).*?(?= \* The line of a new)",
-                         header, re.S)
+    [shown] = re.findall(r"(?<=This is a monitor around it:\n \*\n).*?(?= \* The line of a new)", header, re.S)
     text = re.sub(r"^ \* {0,5}", "", shown, flags=re.M).strip()
     made, write, read, loop, edges, levels = (
         WORDS.sub(lambda found: LEFT_OPEN[found[0]], part) for part in text.split("\n\n"))
@@ -76,6 +76,6 @@ def test_rules(tmp_path):
 
 @pytest.mark.parametrize("line", ["edges", "levels"])
 def test_each_byte_comes_back(line, tmp_path):
-    check(["cc", "-O1", "-Wall", "-Wextra", "-Werror", "-I", ROOT / "bindings/c", monitor(line, tmp_path), prebuilt(HOST),
-           "-pthread", "-o", tmp_path / "monitor"], "")
+    check(["cc", "-O1", "-Wall", "-Wextra", "-Werror", "-I", ROOT / "bindings/c", monitor(line, tmp_path),
+           prebuilt(HOST), "-pthread", "-o", tmp_path / "monitor"], "")
     check([tmp_path / "monitor"], "3000 bytes came back, 3000 of them in order\n")
