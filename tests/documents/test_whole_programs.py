@@ -1,8 +1,11 @@
 # SPDX-License-Identifier: Apache-2.0 OR BSD-3-Clause
 """The programs of README.md and of the pages that explain do what is said of them, as they stand there."""
+import fcntl
 import os
 import platform
 import re
+import subprocess
+import time
 
 import pytest
 from documents import Document
@@ -21,6 +24,7 @@ WRITE = re.compile(r"^    if \(interrupt\(superio_console_write\(.*\n.*\n", re.M
 INTERRUPT = re.compile(r"(?:^/\*[^/]*\*/\n)?^static \w+ interrupt\(.*?^\}\n", re.M | re.S)
 # How long the guest is held until the reader of its output takes some. Afterwards the program drops output.
 A_SECOND = "    end.tv_sec++;\n"
+SET_PIPE_SIZE = 1031   # of Linux, which Python 3.9 does not name
 SET_LINE = "static void set_line(bool is_up) { if (is_up) eventfd_write(irq, 1); }\n"
 
 
@@ -61,6 +65,22 @@ def test_event_loop(line, tmp_path):
               "patient")
     text = "the quick brown fox " * 10_000 + "\n"
     check(["sh", "-c", "./patient | (sleep 0.2; cat)"], text.upper(), cwd=tmp_path, input=text)
+
+
+@pytest.mark.needs("cc")
+def test_output_that_waits_at_the_end(tmp_path):
+    """The reader takes nothing until the guest is long off: its pipe of a page is full. All output then arrives."""
+    compile_c(tmp_path, "console", code("docs/USING.md", "c", "int main"), LIBRARY, "-pthread", "-o", "console")
+    reader, writer = os.pipe()
+    before, text = b"-" * fcntl.fcntl(writer, SET_PIPE_SIZE, 4096), b"the quick brown fox " * 150 + b"\n"
+    os.write(writer, before)
+    with subprocess.Popen([tmp_path / "console"], stdin=subprocess.PIPE, stdout=writer) as console:
+        os.close(writer)
+        console.stdin.write(text)
+        console.stdin.close()
+        time.sleep(0.5)
+        with open(reader, "rb") as output:
+            assert output.read() == before + text.upper()
 
 
 @pytest.mark.needs("cc")

@@ -184,6 +184,16 @@ def test_a_change_shows(name, small, tmp_path):
     assert bool(lines) == (found != small[1])
 
 
+def test_each_difference_shows(small):
+    """Also of a file that is empty, or that is not there, and of lines at either end."""
+    for file, text in small[1].items():
+        first, *rest = text.splitlines(keepends=True)
+        for kept in ({}, {file: ""}, {file: first}, {file: "".join(rest)}, {file: "".join([first, *rest[:-1]])},
+                     {file: f"more\n{text}"}, {file: f"{text}more\n"}):
+            assert statements.differences(kept, {file: text}), kept
+        assert statements.differences(small[1], {file: text}) == []
+
+
 @pytest.mark.parametrize("name", REFUSED)
 def test_refused(name, small, tmp_path):
     file, old, new, why = REFUSED[name]

@@ -189,6 +189,21 @@ def test_refused(name, sources, tmp_path):
         rerun.translated(root)
 
 
+# What Cargo and rustup read in a folder, for all that is built below it: in each folder from the root to the three crates,
+# and in these, where a build script counts too.
+SETTINGS = [".cargo", "rust-toolchain", "rust-toolchain.toml"]
+BESIDE = [*((folder, name) for folder in (".", "bindings", "bindings/c") for name in ["Cargo.toml", *SETTINGS]),
+          *((crate, name) for crate in ("bindings/superio", "bindings/rust", "bindings/c/from-source") for name in SETTINGS),
+          ("bindings/superio", "build.rs"), ("bindings/rust", "build.rs")]
+
+
+@pytest.mark.parametrize("folder, name", BESIDE)
+def test_no_other_settings(folder, name, sources, tmp_path):
+    changed(sources, tmp_path / "root", [(f"{folder}/{name}", None, "")])
+    with pytest.raises(rust2coq.Refused, match=f"^{folder}/{name}$|has settings of Cargo$"):
+        rerun.translated(tmp_path / "root")
+
+
 # What rustc reads in another way than it stands there.
 HIDDEN = {
     "a macro of a known name": CHANGES["a macro of a known name"][0],

@@ -14,7 +14,7 @@ from superio import Command, Rtc, Serial
 from superio.board import LINES
 from superio.prompt import Leave, write_text
 from superio.registers import CLOCK, SERIAL
-from superio.script import ScriptError, reason_of, shown
+from superio.script import ScriptError, reason_of, shown, text_of
 from superio.session import Session
 from superio.tell import quoted
 from superio.words import characters
@@ -276,6 +276,12 @@ ASKED = [
             "interrupt line up"]))),
 ]
 
+# Lines after which nothing of a session is as in a new one: neither the registers, FIFO, output, line and clock of its
+# board, nor what it remembers of its calls. A further line changed something.
+USED = ["refuse 1", "write IER RDA|THRE", "type hi", "read RBR", "timeout", "write THR 'A'", "write MCR LOOP",
+        "write SCR 1", "clock write LR 100 1000", "clock write IMSC 1", "alarm +5 1000", "i8042 write 4 0xfe",
+        "write LCR 7E1|DLAB", "write DLL 5", "write DLM 6"]
+
 # What a completion follows, its beginning, and what it can be.
 COMPLETIONS = [
     ("", "re", ["read ", "refuse ", "regs ", "reset ", "restore "]),
@@ -438,6 +444,27 @@ class Words(FolderTest):
                 for start in (self.folder, "~"):
                     self.assertEqual([f"{self.folder}/{name}" for name in names],
                                      Session(None).completions("save ", f"{start}/{text}"))
+
+
+class WordsAfterReset(Words):
+    """A session that was used, and then reset, says to all these lines what a new one says."""
+
+    def afresh(self, *lines):
+        super().afresh(*USED, "reset")
+        self.out.seek(0)
+        self.out.truncate()
+        return self.said(*lines)
+
+
+class WordsAfterLoad(FolderTest):
+    def test_meanings(self):
+        """What people type means the same for the devices of a load as for new ones, whatever was before."""
+        for meaning, lines in MEANINGS.items():
+            for line in lines if not meaning.startswith("refuse") else []:
+                session = Session(io.StringIO(), host_time=lambda: NOW)
+                for one in [*USED, f"sl {PORT.hex()}", f"cl {CLOCK_SAVED.hex()}", line]:
+                    session.carry_out(one.encode())
+                self.assertEqual(meaning, text_of(session.commands[-1]), line)
 
 
 class Documents(unittest.TestCase):

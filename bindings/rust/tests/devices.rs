@@ -158,6 +158,8 @@ fn types_have_the_traits_and_errors_the_texts_of_vm_superio() {
     are_values::<(SerialState, RtcState)>();
     are_copied::<(RtcState, NoEvents, rtc_pl031::NoEvents)>();
     assert_eq!(Rtc::default().state(), RtcState::default());
+    assert_eq!(Rtc::new().snapshot(), RtcSnapshot::default());
+    assert_eq!(Serial::new(Line::default(), io::sink()).state(), SerialState::default());
     let failed = Serial::new(Line::default(), &mut [][..]).write(0, b'a').unwrap_err().to_string();
     assert_eq!(failed, "Couldn't write/flush to the given destination: failed to write whole buffer");
     let refused: Box<dyn StdError> = Error::Trigger(io::Error::from(io::ErrorKind::WouldBlock)).into();
