@@ -70,7 +70,7 @@ def test_event_loop(line, tmp_path):
 @pytest.mark.needs("cc")
 def test_output_that_waits_at_the_end(tmp_path):
     """The reader takes nothing until the guest is long off: its pipe of a page is full. All output then arrives."""
-    compile_c(tmp_path, "console", code("docs/USING.md", "c", "int main"), LIBRARY, "-pthread", "-o", "console")
+    compile_c(tmp_path, "console", code("docs/C.md", "c", "int main"), LIBRARY, "-pthread", "-o", "console")
     reader, writer = os.pipe()
     before, text = b"-" * fcntl.fcntl(writer, SET_PIPE_SIZE, 4096), b"the quick brown fox " * 150 + b"\n"
     os.write(writer, before)
