@@ -1,5 +1,5 @@
 // SPDX-License-Identifier: Apache-2.0 OR BSD-3-Clause
-//! The crate's types as values: which are copied in silence, what is equal, and what is printed.
+//! The crate's types as values: which are copied in silence, what is equal and what is printed; and which writes send.
 use std::fmt::Debug;
 use std::marker::PhantomData;
 
@@ -97,4 +97,19 @@ fn consoles_are_equal_if_their_states_are_and_print_no_places() {
     assert_ne!(console.output.head, other.output.head);
     assert_eq!(console, other);
     assert_ne!(console, Console::new(false));
+}
+
+/// A THR write outside loopback sends its byte, and no other write does. To ask changes nothing.
+#[test]
+fn a_port_says_before_a_write_whether_it_sends() {
+    for (lcr, mcr) in [(0x03, 0x08), (0x83, 0x08), (0x03, 0x18), (0x83, 0x18)] {
+        for offset in 0..=255 {
+            let mut port = Uart::new();
+            let _ = port.write(3, lcr);
+            let _ = port.write(4, mcr);
+            let (before, sends) = (port.clone(), offset == 0 && lcr & 0x80 == 0 && mcr & 0x10 == 0);
+            assert_eq!((port.sends(offset), &port), (sends, &before), "{lcr:#x} {mcr:#x} {offset}");
+            assert_eq!(port.write(offset, 0x41).sends, sends, "{lcr:#x} {mcr:#x} {offset}");
+        }
+    }
 }
