@@ -13,13 +13,13 @@ pytestmark = pytest.mark.needs("coq")
 
 PAGE = """## The claims
 
-### Claim 1
+### Claim 1: a title
 
 A new port [fits](THEOREM.md), always.
 
 **Contract:** `new: fits`
 
-### Claim 2
+### Claim 2: another title
 
 A write
 is `kept`.
