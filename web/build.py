@@ -17,8 +17,8 @@ import zlib
 from pathlib import Path
 
 ROOT = Path(__file__).resolve().parent.parent
-sys.path.append(str(ROOT / "tests" / "common"))
-from harness import takes_no_argument  # noqa: E402
+sys.path.insert(0, str(ROOT / "tools"))
+from common.commands import takes_no_argument  # noqa: E402
 
 PACKAGE = ROOT / "bindings" / "js"
 RECORDINGS = ROOT / "examples" / "linux-boot"

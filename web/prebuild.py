@@ -22,13 +22,13 @@ import textwrap
 from pathlib import Path
 
 ROOT = Path(__file__).resolve().parent.parent
-sys.path[:0] = [str(ROOT / "tests" / "common"), str(ROOT / "bindings" / "python")]
-from cargo import DEBIAN_RUSTC  # noqa: E402
-from libraries import PREBUILT, replace_lines, source_line, sums_of  # noqa: E402
+sys.path[:0] = [str(ROOT / "tools"), str(ROOT / "bindings" / "python")]
+from common.cargo import DEBIAN_RUSTC  # noqa: E402
+from common.commands import run, takes_no_argument  # noqa: E402
+from common.libraries import PREBUILT, replace_lines, source_line, sums_of  # noqa: E402
 from superio.library import ABI, RTC_SAVED_SIZE, ConsoleStruct, RtcStruct  # noqa: E402
 from superio.registers import CLOCK, OUTPUT_SIZE, SERIAL, ConsoleState, RtcState, SerialState  # noqa: E402
 from superio.saved import SAVED_STATE_ERRORS  # noqa: E402
-from harness import run, takes_no_argument  # noqa: E402
 
 TARGET, MODULE = "wasm32-unknown-unknown", "wasm32/superio.wasm"
 # The functions of the module, and the crate of the devices.

@@ -12,9 +12,9 @@ from pathlib import Path
 import pytest
 from abi import CONSTANTS, FUNCTIONS, STRUCTS
 from board import CLOCK, SERIAL, fault
+from common.libraries import SHARED
 from console import console_fault
 from harness import ROOT, check
-from libraries import SHARED
 from seeds import random_source
 
 GUARD = 64      # bytes before and behind what a pointer leads to

@@ -6,10 +6,10 @@ from pathlib import Path
 
 import pytest
 from builds import COMPILERS, compilers_for
+from common.header import read_header
+from common.libraries import INTERFACE, PREBUILT, library_sums, source_line, sums_of
+from common.rattle import alone
 from harness import ROOT, at_least, check, run
-from header import read_header
-from libraries import INTERFACE, PREBUILT, library_sums, source_line, sums_of
-from program import alone
 
 HERE = Path(__file__).parent
 WARNINGS = ["-O1", "-Wall", "-Wextra", "-pedantic", "-I", ROOT / "bindings" / "c"]

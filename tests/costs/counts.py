@@ -14,7 +14,7 @@ from statistics import median_low
 from tempfile import TemporaryDirectory, mkdtemp
 from typing import NamedTuple
 
-from cargo import COMPARISON, ORIGINAL, Comparison
+from comparison import COMPARISON, ORIGINAL, Comparison
 from harness import ROOT, check
 
 DOCUMENT = ROOT / "docs" / "PERFORMANCE.md"

@@ -15,9 +15,9 @@ import re
 import shutil
 
 import pytest
+from common.rattle import alone
 from documents import HEADING, Document, copy_repository
 from harness import ROOT, at_least, run
-from program import alone
 
 DOCUMENTS = ("README.md", "CONTRIBUTING.md", "docs/*.md", "bindings/*/README.md", "examples/*/README.md",
              "tests/README.md")

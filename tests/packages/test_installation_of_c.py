@@ -10,10 +10,10 @@ import platform
 import re
 
 import pytest
+from common.header import read_header
+from common.libraries import PREBUILT, SHARED, STATIC, TARGETS
 from documents import Document
 from harness import ROOT, at_least, check, run
-from header import read_header
-from libraries import PREBUILT, SHARED, STATIC, TARGETS
 from shared import FLAGS, HAS_FROM_SOURCE, assert_properties, assert_same, finding, found_in, installation, symbols
 
 pytestmark = pytest.mark.needs("make")

@@ -7,9 +7,9 @@ import re
 import tomllib
 
 import pytest
+from common.interface import ABI, VERSION
 from documents import BUILT, Document
 from harness import ROOT, at_least, run
-from interface import ABI, VERSION
 from test_files import LICENSE
 
 LICENSES = LICENSE.partition(": ")[2]

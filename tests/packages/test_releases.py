@@ -8,10 +8,10 @@ import shutil
 import tarfile
 
 import pytest
+from common.interface import ABI, VERSION
+from common.libraries import PREBUILT, SHARED, TARGETS
 from documents import Document, copy_repository
 from harness import ROOT, at_least, check, run
-from interface import ABI, VERSION
-from libraries import PREBUILT, SHARED, TARGETS
 from shared import HAS_FROM_SOURCE, assert_properties, assert_same, crate_files, finding, found_in, installation
 
 pytestmark = pytest.mark.needs("git", "make", "npm", "pip")

@@ -3,10 +3,10 @@
 import shutil
 
 import pytest
+from common.libraries import SHARED
 from harness import ROOT, run
-from libraries import SHARED
 
-COPIED = ["VERSION", "tools/write-abi", "tests/common", "bindings/c", "bindings/python/superio/superio.abi", "debian"]
+COPIED = ["VERSION", "tools/write-abi", "tools/common", "bindings/c", "bindings/python/superio/superio.abi", "debian"]
 HEADER, COPY, TABLE = "bindings/c/superio.h", "bindings/c/from-source/superio.h", "bindings/python/superio/superio.abi"
 SYMBOLS = f"debian/libsuperio{SHARED.rpartition('.')[2]}.symbols"
 # A header with one of each, and how each changes: what is added, and what a program would miss.

@@ -3,7 +3,7 @@
 import hashlib
 import re
 
-from harness import ROOT
+from common.commands import ROOT
 
 PREBUILT = ROOT / "prebuilt"
 HEADER = ROOT / "bindings" / "c" / "superio.h"

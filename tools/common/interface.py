@@ -2,9 +2,9 @@
 """The binary interface of the C library, as the table superio.abi has it, and Debian's table of its functions."""
 import re
 
-from harness import ROOT
-from header import layout, read_header
-from libraries import INTERFACE, SHARED
+from common.commands import ROOT
+from common.header import layout, read_header
+from common.libraries import INTERFACE, SHARED
 
 VERSION, ABI = (ROOT / "VERSION").read_text(encoding="ascii").strip(), SHARED.rpartition(".")[2]
 # Debian's table of the functions of the shared library.
