@@ -159,7 +159,7 @@ def program(request):
 def prebuilt_library():
     """The shared library of prebuilt for this processor, by ctypes."""
     import abi
-    from common.libraries import SHARED
+    from generators.libraries import SHARED
     return abi.load(ROOT / "prebuilt" / f"{platform.machine()}-linux" / SHARED)
 
 

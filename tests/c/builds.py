@@ -4,8 +4,8 @@ rules.c, with a monitor."""
 import platform
 
 import pytest
-from common.libraries import PREBUILT, STATIC, TARGETS
 from common.seed import seed
+from generators.libraries import PREBUILT, STATIC, TARGETS
 from harness import ROOT, check, run
 
 HOST = platform.machine()

@@ -12,8 +12,8 @@ from pathlib import Path
 import pytest
 from abi import CONSTANTS, FUNCTIONS, STRUCTS
 from board import CLOCK, SERIAL, fault
-from common.libraries import SHARED
 from console import console_fault
+from generators.libraries import SHARED
 from harness import ROOT, check
 from seeds import random_source
 

@@ -7,7 +7,7 @@ import platform
 
 import pytest
 from builds import run_rules
-from common.libraries import PREBUILT, STATIC
+from generators.libraries import PREBUILT, STATIC
 from harness import ROOT, at_least, check, run
 
 pytestmark = pytest.mark.needs("cc")

@@ -6,9 +6,9 @@ from pathlib import Path
 
 import pytest
 from builds import COMPILERS, compilers_for
-from common.header import read_header
-from common.libraries import INTERFACE, PREBUILT, library_sums, source_line, sums_of
 from common.rattle import alone
+from generators.header import read_header
+from generators.libraries import INTERFACE, PREBUILT, library_sums, source_line, sums_of
 from harness import ROOT, at_least, check, run
 
 HERE = Path(__file__).parent

@@ -4,7 +4,7 @@ import platform
 import shutil
 
 import pytest
-from common.libraries import PREBUILT, STATIC
+from generators.libraries import PREBUILT, STATIC
 from harness import ROOT, check, run
 
 pytestmark = pytest.mark.needs("cc", "make")

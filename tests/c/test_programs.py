@@ -17,9 +17,9 @@ from pathlib import Path
 import pytest
 from board import Board
 from builds import HOST, PROCESSORS, compilers_for, make_words, prebuilt
-from common.libraries import STATIC
 from common.seed import seed
 from console import random_runs
+from generators.libraries import STATIC
 from harness import ROOT, at_least, check
 from made import every_load
 from recorded import every_answer, random_recorded, recording_of, recordings

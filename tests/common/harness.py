@@ -1,6 +1,6 @@
 # SPDX-License-Identifier: Apache-2.0 OR BSD-3-Clause
 """What tests of every kind use: where the repository is, how a command is run, and how many cases there have to be."""
-from common.commands import LIMIT, ROOT, run
+from common.commands import LIMIT, ROOT, check, run
 
 __all__ = ["LIMIT", "ROOT", "at_least", "check", "run"]
 
@@ -10,11 +10,3 @@ def at_least(number, cases):
     cases = list(cases)
     assert len(cases) >= number, f"{len(cases)} cases, and there have to be {number}"
     return cases
-
-
-def check(command, printed=None, **options):
-    """Asserts that a command succeeds and, if a text is given, prints just that. Returns what it printed."""
-    done = run(command, **options)
-    assert done.returncode == 0, f"{' '.join(map(str, command))} ended with {done.returncode}:\n{done.stdout}"
-    assert printed in (None, done.stdout), f"{' '.join(map(str, command))} printed:\n{done.stdout}"
-    return done.stdout

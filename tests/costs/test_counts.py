@@ -3,7 +3,7 @@
 import re
 
 import pytest
-from counts import (BY_HAND, COLUMNS, CONSOLE, DOCUMENT, LIBRARY, PORT, RUST, THEIRS, counts_of, enqueue_slope, goal,
+from generators.counts import (BY_HAND, COLUMNS, CONSOLE, DOCUMENT, LIBRARY, PORT, RUST, THEIRS, counts_of, enqueue_slope, goal,
                     host_time_of, is_above_goal, read_rows)
 from harness import at_least
 from places import PLACES

@@ -4,9 +4,9 @@ it."""
 import os
 import re
 
-from common.header import read_header
-from common.interface import VERSION
-from common.libraries import HEADER, PREBUILT, SHARED, STATIC
+from generators.header import read_header
+from generators.interface import VERSION
+from generators.libraries import HEADER, PREBUILT, SHARED, STATIC
 from harness import ROOT, at_least, check
 
 # What readelf says of a shared library. Only one from source has unwind tables, and the name of its C library. None has

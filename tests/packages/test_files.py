@@ -3,8 +3,8 @@
 import re
 
 import pytest
-from common.interface import ABI, SYMBOLS, VERSION, debian_symbols, interface, kept, lost
 from documents import BUILT
+from generators.interface import ABI, SYMBOLS, VERSION, debian_symbols, interface, kept, lost
 from harness import ROOT, at_least, check
 
 # The files that are used without VERSION, each with the form in which it has the version. Each form is there once.

@@ -10,9 +10,9 @@ import platform
 import re
 
 import pytest
-from common.header import read_header
-from common.libraries import PREBUILT, SHARED, STATIC, TARGETS
 from documents import Document
+from generators.header import read_header
+from generators.libraries import PREBUILT, SHARED, STATIC, TARGETS
 from harness import ROOT, at_least, check, run
 from shared import FLAGS, HAS_FROM_SOURCE, assert_properties, assert_same, finding, found_in, installation, symbols
 

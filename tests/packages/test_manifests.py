@@ -7,8 +7,8 @@ import re
 import tomllib
 
 import pytest
-from common.interface import ABI, VERSION
 from documents import BUILT, Document
+from generators.interface import ABI, VERSION
 from harness import ROOT, at_least, run
 from test_files import LICENSE
 

@@ -8,9 +8,9 @@ import shutil
 import tarfile
 
 import pytest
-from common.interface import ABI, VERSION
-from common.libraries import PREBUILT, SHARED, TARGETS
 from documents import Document, copy_repository
+from generators.interface import ABI, VERSION
+from generators.libraries import PREBUILT, SHARED, TARGETS
 from harness import ROOT, at_least, check, run
 from shared import HAS_FROM_SOURCE, assert_properties, assert_same, crate_files, finding, found_in, installation
 

@@ -12,7 +12,7 @@ import zipfile
 from pathlib import Path
 
 import pytest
-from common.header import read_header
+from generators.header import read_header
 from harness import ROOT, at_least
 from support import ENVIRONMENT, PACKAGE, TIMEOUT, ended
 

@@ -10,7 +10,7 @@ from pathlib import Path
 
 import pytest
 from common.cargo import BINDINGS, DEVICES, Cargo, add_crate, copied_crate
-from comparison import ORIGINAL, Comparison
+from common.comparison import ORIGINAL, Comparison
 from harness import ROOT, check
 from places import PLACES
 from recorded import difference, random_recorded, recordings, rows_of

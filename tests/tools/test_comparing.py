@@ -8,17 +8,17 @@ import subprocess
 import sys
 
 import common.seed
-import counts
 import pytest
 import test_consoles
 import test_counts
 import test_files
 import test_header
 from builds import HOST, prebuilt
-from common.libraries import replace_lines
 from common.seed import VARIABLE, seed
 from contracts import functions_of
 from documents import BUILT
+from generators import counts
+from generators.libraries import replace_lines
 from harness import ROOT, at_least, check
 from recorded import difference
 from script_tests import Script

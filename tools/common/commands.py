@@ -1,6 +1,5 @@
 # SPDX-License-Identifier: Apache-2.0 OR BSD-3-Clause
-"""Where the repository is, how a command is run, and how a tool refuses arguments."""
-import argparse
+"""Where the repository is, and how a command is run."""
 import subprocess
 from pathlib import Path
 
@@ -17,6 +16,9 @@ def run(command, timeout=LIMIT, **options):
     return subprocess.run([*map(str, command)], text=True, errors="replace", timeout=timeout, **options)
 
 
-def takes_no_argument(said):
-    """Prints what a tool says of itself, and ends, at `--help`. Ends with status 2 at any other argument."""
-    argparse.ArgumentParser(description=said, formatter_class=argparse.RawDescriptionHelpFormatter).parse_args()
+def check(command, printed=None, **options):
+    """Asserts that a command succeeds and, if a text is given, prints just that. Returns what it printed."""
+    done = run(command, **options)
+    assert done.returncode == 0, f"{' '.join(map(str, command))} ended with {done.returncode}:\n{done.stdout}"
+    assert printed in (None, done.stdout), f"{' '.join(map(str, command))} printed:\n{done.stdout}"
+    return done.stdout

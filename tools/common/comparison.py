@@ -4,7 +4,7 @@ import os
 from pathlib import Path
 
 from common.cargo import BINDINGS, Cargo, add_crate
-from harness import ROOT, run
+from common.commands import ROOT, run
 
 COMPARISON = ROOT / "tests" / "compare"
 # The folder of vm-superio 0.8.2.
