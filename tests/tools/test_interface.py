@@ -1,6 +1,6 @@
 # SPDX-License-Identifier: Apache-2.0 OR BSD-3-Clause
-"""What is made of the header, in a copy: what a header adds is written, and one that lacks a single thing of the interface
-is refused."""
+"""What is made of the header, in a copy: what a header adds is written, and one that lacks a single thing of the
+interface is refused."""
 import shutil
 import sys
 
