@@ -67,20 +67,21 @@ def replace_lines(path, lines):
     path.write_text("".join(line + "\n" for line in kept), encoding="ascii")
 
 
-def main():
+def build_into(folder):
+    """Builds the libraries from the proofs, each into the folder of its target."""
     # The kit's linker, so that each machine links the same bytes.
     page = subprocess.run(["rt", "doc"], stdout=subprocess.PIPE, text=True, check=True).stdout.strip()
     linker = Path(page).parent / "toolchain" / "bin" / "ld.lld"
     for target, (options, emulation) in TARGETS.items():
-        static = PREBUILT / target / STATIC
+        static = folder / target / STATIC
         static.parent.mkdir(parents=True, exist_ok=True)
         build(("superio_c", f"lib {options}"))
         shutil.copyfile(CRATES / "superio_c" / "out" / STATIC, static)
         subprocess.run([linker, "-shared", "--build-id=sha1", "-z", "now", "-m", emulation, "-soname", SHARED,
                         "--whole-archive", static, "-o", static.with_name(SHARED)], check=True)
-    replace_lines(PREBUILT / "SHA256SUMS", library_sums(PREBUILT))
-    replace_lines(PREBUILT / "SOURCES", [source_line()])
 
 
 if __name__ == "__main__":
-    main()
+    build_into(PREBUILT)
+    replace_lines(PREBUILT / "SHA256SUMS", library_sums(PREBUILT))
+    replace_lines(PREBUILT / "SOURCES", [source_line()])
