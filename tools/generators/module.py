@@ -94,7 +94,7 @@ def embedded():
     """The text of module.mjs, which has the module's bytes and the tables."""
     module = base64.b64encode((PREBUILT / MODULE).read_bytes()).decode()
     lines = ["// SPDX-License-" "Identifier: Apache-2.0 OR BSD-3-Clause",
-             f"// Made by the command tools/generate from prebuilt/{MODULE}, whose bytes these are in base 64,",
+             f"// Made by tools/generate from prebuilt/{MODULE}, whose bytes these are in base 64,",
              "// and from registers.py, library.py and saved.py of bindings/python/superio.",
              f'export default "{module}";']
     for name, value in tables().items():

@@ -56,7 +56,7 @@ def required():
     if WAITING not in script:
         raise ValueError(f"{OF_PACKAGE[-1]} has no line {WAITING}")
     return "\n".join(["// SPDX-License-" "Identifier: Apache-2.0 OR BSD-3-Clause",
-                      "// Made by the command tools/generate from module.mjs, registers.mjs and superio.mjs, for `require`.",
+                      "// Made by tools/generate from module.mjs, registers.mjs and superio.mjs, for `require`.",
                       '"use strict";', "", script.replace(WAITING, AT_ONCE),
                       f"module.exports = {{ {', '.join(names)} }};", ""])
 
