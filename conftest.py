@@ -14,10 +14,11 @@ from pathlib import Path
 
 import pytest
 import sums
+from common.requirements import TOOLS, advice
+from common.seed import VARIABLE, seed
 from harness import ROOT, check
 from hypothesis import HealthCheck, settings
-from seeds import VARIABLE, seed
-from tools import TOOLS, advice, is_place
+from places import is_place
 
 LEFT_OUT = pytest.StashKey()   # of a test that --without leaves out
 # The files that take longest. They begin first, so that no worker is left with one of them at the end.
@@ -149,7 +150,7 @@ def pytest_terminal_summary(terminalreporter, config):
 @pytest.fixture(scope="session")
 def program(request):
     """The proved program, which is proved and built if it is missing or older than its sources."""
-    from program import built_program
+    from common.rattle import built_program
     given = request.config.getoption("--program")
     return given.resolve() if given else built_program()
 
@@ -158,7 +159,7 @@ def program(request):
 def prebuilt_library():
     """The shared library of prebuilt for this processor, by ctypes."""
     import abi
-    from libraries import SHARED
+    from generators.libraries import SHARED
     return abi.load(ROOT / "prebuilt" / f"{platform.machine()}-linux" / SHARED)
 
 

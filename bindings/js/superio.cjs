@@ -1,5 +1,5 @@
 // SPDX-License-Identifier: Apache-2.0 OR BSD-3-Clause
-// Made by the command web/build.py from module.mjs, registers.mjs and superio.mjs, for `require`.
+// Made by tools/generate from module.mjs, registers.mjs and superio.mjs, for `require`.
 "use strict";
 
 const { text, ABI, CLOCK_SIZE, CLOCK_SAVED_SIZE, CONSOLE_SIZE, OUTPUT_SIZE, OUTPUT_COUNT, OUTPUT_BYTES, SAVED_STATE_ERRORS, PORT_FIELDS, CLOCK_STRUCT, CONSOLE_STRUCT, SERIAL_ROWS, CLOCK_ROWS } = (() => {

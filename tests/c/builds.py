@@ -4,9 +4,9 @@ rules.c, with a monitor."""
 import platform
 
 import pytest
+from common.seed import seed
+from generators.libraries import PREBUILT, STATIC, TARGETS
 from harness import ROOT, check, run
-from libraries import PREBUILT, STATIC, TARGETS
-from seeds import seed
 
 HOST = platform.machine()
 COMPILERS = {

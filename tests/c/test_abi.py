@@ -13,8 +13,8 @@ import pytest
 from abi import CONSTANTS, FUNCTIONS, STRUCTS
 from board import CLOCK, SERIAL, fault
 from console import console_fault
+from generators.libraries import SHARED
 from harness import ROOT, check
-from libraries import SHARED
 from seeds import random_source
 
 GUARD = 64      # bytes before and behind what a pointer leads to

@@ -7,8 +7,8 @@ import platform
 
 import pytest
 from builds import run_rules
+from generators.libraries import PREBUILT, STATIC
 from harness import ROOT, at_least, check, run
-from libraries import PREBUILT, STATIC
 
 pytestmark = pytest.mark.needs("cc")
 

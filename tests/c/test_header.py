@@ -1,15 +1,14 @@
 # SPDX-License-Identifier: Apache-2.0 OR BSD-3-Clause
 """The header and the compilers that use it, and the prebuilt libraries, which are those of the sources."""
 import re
-import subprocess
 from pathlib import Path
 
 import pytest
 from builds import COMPILERS, compilers_for
+from common.rattle import alone
+from generators.header import read_header
+from generators.libraries import INTERFACE, PREBUILT, build_into, library_sums, source_line, sums_of
 from harness import ROOT, at_least, check, run
-from header import read_header
-from libraries import INTERFACE, PREBUILT, library_sums, source_line, sums_of
-from program import alone
 
 HERE = Path(__file__).parent
 WARNINGS = ["-O1", "-Wall", "-Wextra", "-pedantic", "-I", ROOT / "bindings" / "c"]
@@ -49,7 +48,7 @@ def test_prebuilt_is_of_the_sources():
 def test_prebuilt_is_what_a_build_gives(tmp_path):
     """From the proofs, byte for byte."""
     with alone():
-        check([ROOT / "tools" / "prebuild", tmp_path], timeout=3600, stderr=subprocess.STDOUT)
+        build_into(tmp_path)
     assert library_sums(tmp_path) == library_sums(PREBUILT)
 
 

@@ -4,8 +4,8 @@ import platform
 import shutil
 
 import pytest
+from generators.libraries import PREBUILT, STATIC
 from harness import ROOT, check, run
-from libraries import PREBUILT, STATIC
 
 pytestmark = pytest.mark.needs("cc", "make")
 

@@ -17,14 +17,15 @@ from pathlib import Path
 import pytest
 from board import Board
 from builds import HOST, PROCESSORS, compilers_for, make_words, prebuilt
-from cargo import toolchain_for
+from common.seed import seed
 from console import random_runs
+from generators.libraries import STATIC
 from harness import ROOT, at_least, check
-from libraries import STATIC
 from made import every_load
 from recorded import every_answer, random_recorded, recording_of, recordings
 from script import line_of, replies_of
-from seeds import seed, seeds
+from seeds import seeds
+from toolchains import toolchain_for
 
 HERE = Path(__file__).parent
 LOADED_CALLS, RUNS = 20_000, 2_500

@@ -1,25 +1,8 @@
 # SPDX-License-Identifier: Apache-2.0 OR BSD-3-Clause
-"""Where random searches begin: at a number that each commit has of its own, or that TEST_SEED names. A test that fails
-says which it was. Programs of tests in other languages read TEST_SEED too, and begin at 0 without it."""
-import os
+"""What random searches are made of. A test that fails says at which number they began."""
 import random
-import subprocess
 
-from harness import ROOT
-
-VARIABLE = "TEST_SEED"
-
-
-def seed():
-    """The number, which is put into the environment. Without a commit, as in a release, it is 0."""
-    if VARIABLE not in os.environ:
-        try:
-            words = ["git", "rev-parse", "--verify", "--quiet", "HEAD"]
-            said = subprocess.run(words, cwd=ROOT, capture_output=True, text=True).stdout
-        except OSError:
-            said = ""
-        os.environ[VARIABLE] = str(int(said[:8] or "0", 16))
-    return int(os.environ[VARIABLE])
+from common.seed import seed
 
 
 def seeds(what, number):

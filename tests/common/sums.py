@@ -3,15 +3,15 @@
 out where something is not there that no package has. A run with --sums fails if it tried fewer, or left out more."""
 from collections import defaultdict
 
-import program
-from cargo import BINDINGS, DEVICES, number_of_tests
+from common import rattle
+from common.cargo import BINDINGS, DEVICES
 from harness import ROOT
 
 TABLE = ROOT / "tests" / "sums.txt"
 COMMAND = "python3 -m pytest --collect-only --write-sums"
 HEAD = f"""\
-# How many tests there are at least: in each folder and, beside the name of a place of tests/common/tools.py, how many
-# of them may be left out where that is not there; and in the sources of crates, which Cargo and rt ci try.
+# How many tests there are at least: in each folder and, beside the name of a place of tests/common/places.py, how
+# many of them may be left out where that is not there; and in the sources of crates, which Cargo and rt ci try.
 # This command writes the file: {COMMAND}
 """
 
@@ -27,9 +27,15 @@ def rows_of(tests):
     return rows
 
 
+def number_of_tests(crate):
+    """How many tests the sources of a crate have, beside those of its documentation."""
+    return sum(path.read_text(encoding="utf-8").count("#[test]") for path in crate.rglob("*.rs")
+               if "target" not in path.relative_to(crate).parts)
+
+
 def of_sources():
     """What the sources have for Cargo and for rt, which have to try all of it."""
-    numbers = {"must-fail edits of crates": program.number_of_edits(), "tests of crates": program.number_of_tests(),
+    numbers = {"must-fail edits of crates": rattle.number_of_edits(), "tests of crates": rattle.number_of_tests(),
                **{f"tests of {it.relative_to(ROOT)}": number_of_tests(it) for it in (DEVICES, BINDINGS)}}
     return {row: number for row, number in numbers.items() if number}
 

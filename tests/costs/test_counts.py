@@ -3,13 +3,13 @@
 import re
 
 import pytest
-from counts import (BY_HAND, COLUMNS, CONSOLE, DOCUMENT, LIBRARY, PORT, RUST, THEIRS, counts_of, enqueue_slope, goal,
+from generators.counts import (BY_HAND, COLUMNS, CONSOLE, DOCUMENT, LIBRARY, PORT, RUST, THEIRS, counts_of, enqueue_slope, goal,
                     host_time_of, is_above_goal, read_rows)
 from harness import at_least
-from tools import PLACES
+from places import PLACES
 
 TEXT = DOCUMENT.read_text(encoding="utf-8")
-# Places of tools.py: other compilers take other numbers of instructions.
+# Places of places.py: other compilers take other numbers of instructions.
 RUSTC, GCC = (re.search(rf"{name} [\d.]+\d", TEXT)[0] for name in ("rustc", "gcc"))
 ROWS = at_least(48, read_rows())
 NEEDS = {

@@ -6,8 +6,8 @@ import re
 from typing import NamedTuple
 
 import pytest
+from common.rattle import built_program
 from harness import ROOT, check
-from program import built_program
 
 pytestmark = pytest.mark.needs("kit", "valgrind")
 

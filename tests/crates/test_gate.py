@@ -3,8 +3,8 @@
 and tests these have at least, and tools/check fails if it tried others than the sources have."""
 import re
 
+from common.rattle import CRATES, PROGRAMS
 from harness import ROOT, at_least
-from program import CRATES, PROGRAMS
 
 
 def test_crates():

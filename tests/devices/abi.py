@@ -4,7 +4,7 @@ import ctypes
 import re
 from typing import List, NamedTuple
 
-from libraries import INTERFACE
+from generators.libraries import INTERFACE
 
 TABLE = INTERFACE.read_text(encoding="ascii")
 TYPES = {"bool": ctypes.c_bool, "void": None, "size_t": ctypes.c_size_t, "uint8_t": ctypes.c_uint8,

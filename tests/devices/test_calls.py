@@ -12,7 +12,7 @@ import model
 import oracle
 import pytest
 from board import Board
-from cargo import COMPARISON, Comparison
+from common.comparison import COMPARISON, Comparison
 from harness import ROOT, at_least
 from made import every_load, fewest
 from recorded import Recorder, difference, every_answer, random_recorded, recording_of, recordings, rows_of

@@ -10,8 +10,8 @@ import subprocess
 from itertools import count
 
 import pytest
+from common.rattle import CRATES, TESTS, alone, build
 from harness import LIMIT, ROOT, at_least, check, run
-from program import built_tests
 from script_tests import of_block
 
 pytestmark = pytest.mark.needs("kit", "cc")
@@ -58,7 +58,12 @@ def refusing(tmp_path_factory):
 
 @pytest.fixture(scope="module")
 def tests():
-    return built_tests()
+    """The proved tests of superio_tests, which are proved and built if they are missing or older than the sources."""
+    sources = max(path.stat().st_mtime for path in CRATES.glob("*/src/**/*.rt"))
+    with alone():
+        if not TESTS.exists() or TESTS.stat().st_mtime < sources:
+            build(("superio_tests", "test"))
+    return TESTS
 
 
 def runs(library, command, script=b""):

@@ -15,15 +15,15 @@ import re
 import shutil
 
 import pytest
+from common.rattle import alone
 from documents import HEADING, Document, copy_repository
 from harness import ROOT, at_least, run
-from program import alone
 
 DOCUMENTS = ("README.md", "CONTRIBUTING.md", "docs/*.md", "bindings/*/README.md", "examples/*/README.md",
              "tests/README.md")
 # Their commands are for a folder of the user's own, and for a host with KVM, where tests/kvm runs them.
 ELSEWHERE = ("docs/RATTLE.md", "docs/CLAIMS.md", "docs/MONITOR.md")
-KIT = re.compile(r"^(?:rt|tools/run|tools/prebuild)\b", re.M)
+KIT = re.compile(r"^(?:rt|tools/run)\b", re.M)
 # The tools that programs in commands are of, as tests name them.
 PROGRAMS = {"cc": "cc", "cargo": "debian-rust", "git": "git", "make": "make", "npm": "npm", "pkg-config": "pkg-config",
             "venv": "pip", "pip": "pip"}

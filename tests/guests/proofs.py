@@ -94,7 +94,7 @@ CLOCK_REFUTED = [clock(entry, fault, outcome="refuted") for entry, fault in [
     ("starts", "PASSES_CONTROL"), ("comes", "NO_LINE"), ("comes", "NO_TIMER"), ("comes", "NO_READ"),
     ("set_time", "NOT_AT_ONCE"), ("restores", "NOT_RESTORED")]]
 
-# What each check is about. The gate makes the first parts, and tools/guests all.
+# What each check is about. The gate makes the first parts, and judge.py all.
 OF_GATE = [("the code of the page", AS_IT_STANDS), ("a rule of it broken", REFUTED)]
 OF_GATE_OF_CLOCK = [("the clock's driver", CLOCK), ("a rule of the clock broken", CLOCK_REFUTED)]
 PARTS = [*OF_GATE, *OF_GATE_OF_CLOCK,

@@ -12,8 +12,8 @@ import cbmc
 import linux_clock
 import proofs
 import pytest
+from common.seed import seed
 from harness import ROOT, check, run
-from seeds import seed
 from sources import HERE
 
 pytestmark = [pytest.mark.needs("cc", "linux-source"),

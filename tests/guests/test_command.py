@@ -1,8 +1,6 @@
 # SPDX-License-Identifier: Apache-2.0 OR BSD-3-Clause
-"""What `tools/guests` prints at its end, of each part how many checks were as they should be, its status, and what it
+"""What `judge.py` prints at its end, of each part how many checks were as they should be, its status, and what it
 keeps."""
-import importlib.machinery
-import importlib.util
 import io
 import random
 import subprocess
@@ -10,34 +8,25 @@ import sys
 import tarfile
 
 import cbmc
+import judge
 import proofs
 import pytest
 import sources
 from debian import replace_links
-from harness import ROOT
 
 
-@pytest.fixture
-def guests():
-    """The tool as a module."""
-    loader = importlib.machinery.SourceFileLoader("guests", str(ROOT / "tools" / "guests"))
-    module = importlib.util.module_from_spec(importlib.util.spec_from_loader("guests", loader))
-    loader.exec_module(module)
-    return module
-
-
-def test_sums(guests, monkeypatch, capsys):
+def test_sums(monkeypatch, capsys):
     """The last check of each part counts, and none of another part does."""
     monkeypatch.setattr(cbmc, "version", lambda command: "6")
     monkeypatch.setattr(sources, "told", lambda name: name)
     first, second = proofs.AS_IT_STANDS[:2], proofs.CLOCK_REFUTED[:3]
-    guests.tell([("one", first), ("two", second)], [(True, 1), (False, 1), (True, 2), (True, 2), (True, 3)], ["cbmc"])
+    judge.tell([("one", first), ("two", second)], [(True, 1), (False, 1), (True, 2), (True, 2), (True, 3)], ["cbmc"])
     assert capsys.readouterr().out == (
         "By CBMC 6, in 9 s of a processor:\n1 of 2 proved, linux: one\n3 of 3 refuted, linux: two\n")
 
 
 @pytest.mark.parametrize("failing", ["nothing", "an exchange", "the last proof", "a version without sums"])
-def test_status(guests, failing, tmp_path, monkeypatch, capsys):
+def test_status(failing, tmp_path, monkeypatch, capsys):
     """It ends with 0 only if everything was tried and passed."""
     def run(words, **_):
         return subprocess.CompletedProcess(words, int(failing == "an exchange"))
@@ -46,11 +35,11 @@ def test_status(guests, failing, tmp_path, monkeypatch, capsys):
         return [(True, 1)] * (len(checks) - 1) + [(failing != "the last proof", 1)]
     lacking = "xen" if failing == "a version without sums" else ""
     for module, name, value in [
-            (sys, "argv", ["guests"]), (sources, "KEPT", tmp_path), (sources, "told", str),
+            (sys, "argv", ["judge.py"]), (sources, "KEPT", tmp_path), (sources, "told", str),
             (cbmc, "fetched", lambda: ["cbmc"]), (cbmc, "version", lambda command: "6"), (sources, "is_recorded", lambda name: name != lacking),
-            (subprocess, "run", run), (guests, "make", make)]:
+            (subprocess, "run", run), (judge, "make", make)]:
         monkeypatch.setattr(module, name, value)
-    assert guests.main() == (failing != "nothing")
+    assert judge.main() == (failing != "nothing")
     assert ("NOT TRIED: xen, " in capsys.readouterr().out) == bool(lacking)
 
 

@@ -4,9 +4,9 @@ import platform
 import re
 
 import pytest
+from common.seed import seed
 from guest import HERE
 from harness import ROOT, check, run
-from seeds import seed
 
 pytestmark = pytest.mark.needs("cc")
 

@@ -10,9 +10,9 @@ import re
 
 import linux_driver
 import pytest
+from common.seed import seed
 from guest import WRONG, Monitor
 from harness import ROOT, check, run
-from seeds import seed
 
 pytestmark = [pytest.mark.needs("cc", "linux-source"),
               pytest.mark.where("version of Linux's source with sums in tests/guests")]

@@ -8,9 +8,9 @@ from functools import lru_cache
 
 import polling_drivers
 import pytest
+from common.seed import seed
 from guest import WRONG, Monitor
 from harness import ROOT, check, run
-from seeds import seed
 
 pytestmark = [pytest.mark.needs("cc"), pytest.mark.where("source of each driver that polls with sums in tests/guests")]
 

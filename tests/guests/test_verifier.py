@@ -1,6 +1,6 @@
 # SPDX-License-Identifier: Apache-2.0 OR BSD-3-Clause
 """A verifier of C proves that with Linux's own 8250 driver and the code of docs/PORT.md no byte waits for ever, and
-refutes it for each rule of the page broken. README.md beside this file has the argument, and `tools/guests` further
+refutes it for each rule of the page broken. README.md beside this file has the argument, and `judge.py` further
 proofs."""
 import cbmc
 import linux_driver

@@ -6,9 +6,9 @@ import re
 
 import pytest
 import xen_driver
+from common.seed import seed
 from guest import WRONG, Monitor
 from harness import ROOT, check, run
-from seeds import seed
 
 pytestmark = [pytest.mark.needs("cc"), pytest.mark.where("version of Xen's source with sums in tests/guests")]
 

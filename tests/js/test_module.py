@@ -1,10 +1,10 @@
 # SPDX-License-Identifier: Apache-2.0 OR BSD-3-Clause
 """The WebAssembly module has its digests, and is the one of bindings/js/module.mjs, and of a build, byte for byte;
-superio.cjs is what web/build.py makes of the modules."""
+superio.cjs is what is made of the modules."""
 import pytest
-from build import REQUIRED, required
+from generators.module import DECLARED, EMBEDDED, MODULE, PREBUILT, build, declared, embedded, listed
+from generators.page import REQUIRED, required
 from harness import at_least
-from prebuild import DECLARED, EMBEDDED, MODULE, PREBUILT, build, declared, embedded, listed
 
 
 @pytest.mark.parametrize("name, line", at_least(2, listed().items()))

@@ -20,7 +20,7 @@ from contextlib import suppress
 import pytest
 from harness import LIMIT, at_least, check, run
 from monitors import HERE, WRAPPED, build_monitor, rust_port
-from tools import is_place
+from places import is_place
 
 pytestmark = [pytest.mark.needs("cc", "make"), pytest.mark.where("Linux on x86-64")]
 

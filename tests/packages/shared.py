@@ -4,10 +4,10 @@ it."""
 import os
 import re
 
+from generators.header import read_header
+from generators.interface import VERSION
+from generators.libraries import HEADER, PREBUILT, SHARED, STATIC
 from harness import ROOT, at_least, check
-from header import read_header
-from interface import VERSION
-from libraries import HEADER, PREBUILT, SHARED, STATIC
 
 # What readelf says of a shared library. Only one from source has unwind tables, and the name of its C library. None has
 # a stack that can be run, or marks that it may not carry unless each of its jumps leads to a place that is marked too.

@@ -4,8 +4,8 @@ import re
 
 import pytest
 from documents import BUILT
+from generators.interface import ABI, SYMBOLS, VERSION, debian_symbols, interface, kept, lost
 from harness import ROOT, at_least, check
-from interface import ABI, SYMBOLS, VERSION, debian_symbols, interface, kept, lost
 
 # The files that are used without VERSION, each with the form in which it has the version. Each form is there once.
 PLACES = [

@@ -11,9 +11,9 @@ import re
 
 import pytest
 from documents import Document
+from generators.header import read_header
+from generators.libraries import PREBUILT, SHARED, STATIC, TARGETS
 from harness import ROOT, at_least, check, run
-from header import read_header
-from libraries import PREBUILT, SHARED, STATIC, TARGETS
 from shared import FLAGS, HAS_FROM_SOURCE, assert_properties, assert_same, finding, found_in, installation, symbols
 
 pytestmark = pytest.mark.needs("make")

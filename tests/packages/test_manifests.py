@@ -8,8 +8,8 @@ import tomllib
 
 import pytest
 from documents import BUILT, Document
+from generators.interface import ABI, VERSION
 from harness import ROOT, at_least, run
-from interface import ABI, VERSION
 from test_files import LICENSE
 
 LICENSES = LICENSE.partition(": ")[2]

@@ -9,9 +9,9 @@ import tarfile
 
 import pytest
 from documents import Document, copy_repository
+from generators.interface import ABI, VERSION
+from generators.libraries import PREBUILT, SHARED, TARGETS
 from harness import ROOT, at_least, check, run
-from interface import ABI, VERSION
-from libraries import PREBUILT, SHARED, TARGETS
 from shared import HAS_FROM_SOURCE, assert_properties, assert_same, crate_files, finding, found_in, installation
 
 pytestmark = pytest.mark.needs("git", "make", "npm", "pip")

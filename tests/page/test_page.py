@@ -17,8 +17,8 @@ from contextlib import contextmanager
 from pathlib import Path
 
 import pytest
-from build import PAGE, sources, unpacked
 from documents import Document
+from generators.page import PAGE, sources, unpacked
 from harness import LIMIT, ROOT, at_least
 from script_tests import board_scripts
 

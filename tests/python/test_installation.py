@@ -12,8 +12,8 @@ import zipfile
 from pathlib import Path
 
 import pytest
+from generators.header import read_header
 from harness import ROOT, at_least
-from header import read_header
 from support import ENVIRONMENT, PACKAGE, TIMEOUT, ended
 
 import superio

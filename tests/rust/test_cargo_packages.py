@@ -7,7 +7,7 @@ import tarfile
 from pathlib import Path
 
 import pytest
-from cargo import Cargo, add_crate
+from common.cargo import Cargo, add_crate
 from documents import CODE, LINK, copy_repository
 from harness import ROOT, check
 

@@ -9,11 +9,13 @@ import sys
 from pathlib import Path
 
 import pytest
-from cargo import (BINDINGS, DEVICES, ORIGINAL, Cargo, Comparison, add_crate, copied_crate, number_of_tests,
-                   toolchain_for, toolchains)
+from common.cargo import BINDINGS, DEVICES, Cargo, add_crate, copied_crate
+from common.comparison import ORIGINAL, Comparison
 from harness import ROOT, check
+from places import PLACES
 from recorded import difference, random_recorded, recordings, rows_of
-from tools import PLACES
+from sums import number_of_tests
+from toolchains import toolchain_for, toolchains
 
 pytestmark = pytest.mark.needs("cargo")
 

@@ -1,7 +1,7 @@
 # SPDX-License-Identifier: Apache-2.0 OR BSD-3-Clause
 """The monitor to copy in Rust as a program: its main, with the interrupt line that it has there."""
 import pytest
-from cargo import DEVICES, copied_crate
+from common.cargo import DEVICES, copied_crate
 from harness import check
 
 pytestmark = pytest.mark.needs("cargo", "cc")

@@ -10,7 +10,7 @@ import sys
 import pytest
 from harness import ROOT, run
 
-COPIED = ["tools/check", "tools/recheck", "tools/install-packages", ".ci/run", "tests/common"]
+COPIED = ["tools/check", "tools/recheck", "tools/install-packages", ".ci/run", "tools/common"]
 BASICS = ["bash", "cat", "cp", "dirname", "env", "mkdir", "rm", "sed", "sh", "touch", "uname"]
 # Each stand-in writes its name and its words into the file `log`. Those of the parts pass 3, 3 for each of two crates,
 # and 4 tests.
@@ -67,8 +67,8 @@ class Machine:
             (self.top / it).mkdir(parents=True)
         (self.top / "crates/a/must-fail/a.edit").touch()
         (self.top / "crates/a/src/lib.rt").write_text("mod a {\n    #[test]\n}\n", "utf-8")
-        self.edit("tests/common/tools.py", "\n\n\ndef of_tests", f"\n{TABLE}\n\ndef of_tests")
-        self.edit("tests/common/installing.py", '"/etc/os-release"', f'"{self.system}"')
+        self.edit("tools/common/requirements.py", "\n\n\n@lru_cache", f"\n{TABLE}\n\n@lru_cache")
+        self.edit("tools/common/installing.py", '"/etc/os-release"', f'"{self.system}"')
         for it in (self.bin, self.away, self.stubs):
             it.mkdir()
         for it in BASICS:
@@ -235,7 +235,7 @@ def test_recheck_by_an_old_python(machine):
 @pytest.mark.parametrize("tool, names", [("tools/check", ["cc is missing: install gcc"]), ("tools/recheck", [])])
 def test_another_system(tool, names, machine):
     """It names what is missing, each once, and goes no further."""
-    machine.edit("tests/common/tools.py", TABLE, TABLE.replace('"kit"', '"kit", "cc"'))   # a second one that needs cc
+    machine.edit("tools/common/requirements.py", TABLE, TABLE.replace('"kit"', '"kit", "cc"'))   # a second one that needs cc
     machine.lacks("coqc", "cc")
     for system in [("Debian", "13"), ("Ubuntu", "12")]:
         machine.runs(*system)
@@ -289,7 +289,7 @@ STEPS = {"the lists of packages cannot be read, and lack a package": ("apt-get",
          "another user's packages are unknown": ("apt-get", "--simulate", 1000),
          "another user's packages cannot be got": ("apt-get", "download", 1000),
          "another user's packages cannot be unpacked": ("dpkg-deb", "--extract", 1000),
-         "the table of tools cannot be read": ("python3", "tests/common/tools.py", 0)}
+         "the table of tools cannot be read": ("python3", "tools/common/requirements.py", 0)}
 
 
 @pytest.mark.parametrize("name", STEPS)

@@ -7,20 +7,22 @@ import shutil
 import subprocess
 import sys
 
-import counts
+import common.seed
 import pytest
-import seeds
 import test_consoles
 import test_counts
 import test_files
 import test_header
 from builds import HOST, prebuilt
+from common.seed import VARIABLE, seed
 from contracts import functions_of
 from documents import BUILT
+from generators import counts
+from generators.libraries import replace_lines
 from harness import ROOT, at_least, check
-from libraries import replace_lines
 from recorded import difference
 from script_tests import Script
+from seeds import random_source, seeds
 
 sys.path += [str(ROOT / "tests" / folder) for folder in ("js", "python", "rust")]
 import test_boards  # noqa: E402
@@ -102,23 +104,23 @@ def test_replies_of_a_board():
 
 @pytest.mark.needs("git")
 def test_each_commit_has_a_seed(tmp_path, monkeypatch):
-    monkeypatch.setattr(seeds, "ROOT", tmp_path)
+    monkeypatch.setattr(common.seed, "ROOT", tmp_path)
     found, commit = [], ["-c", "user.name=a", "-c", "user.email=a@b", "commit", "--quiet", "--allow-empty", "--message"]
     for words in (["init", "--quiet"], [*commit, "one"], [*commit, "two"]):
         check(["git", *words], "", cwd=tmp_path)
-        monkeypatch.delenv(seeds.VARIABLE, raising=False)
-        found.append(seeds.seed())
+        monkeypatch.delenv(VARIABLE, raising=False)
+        found.append(seed())
     assert found[0] == 0 and len({*found}) == 3
     assert found[2] == int(check(["git", "rev-parse", "HEAD"], cwd=tmp_path)[:8], 16)
 
 
 def test_seeds_differ(monkeypatch):
     made = []
-    for seed in ("7", "8"):
-        monkeypatch.setenv(seeds.VARIABLE, seed)
-        assert seeds.seed() == int(seed)
-        made += [*seeds.seeds("a", 3), *seeds.seeds("b", 3), seeds.random_source("a").random()]
-        assert seeds.seeds("a", 4)[:3] == seeds.seeds("a", 3)
+    for number in ("7", "8"):
+        monkeypatch.setenv(VARIABLE, number)
+        assert seed() == int(number)
+        made += [*seeds("a", 3), *seeds("b", 3), random_source("a").random()]
+        assert seeds("a", 4)[:3] == seeds("a", 3)
     assert len({*made}) == len(made) == 14
 
 

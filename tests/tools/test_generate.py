@@ -99,4 +99,6 @@ def test_patterns(generate):
     for name, step in own.STEPS.items():
         for pattern in (step.reads + " " + step.writes).split():
             assert [*ROOT.glob(pattern)], f"{name}: {pattern}"
-        assert (ROOT / step.command.split()[0]).exists() or step.command.startswith("/usr/bin/python3"), name
+        program, module = step.command.split()[0], step.command.removeprefix(own.MADE_BY)
+        assert (importlib.util.find_spec(f"generators.{module}") if module != step.command else
+                (ROOT / program).exists() or program == "/usr/bin/python3"), name

@@ -1,6 +1,6 @@
 # SPDX-License-Identifier: Apache-2.0 OR BSD-3-Clause
-"""Each place of tools.py is found where it is there, and not elsewhere: a wrong one would leave out all tests that need
-it, and nobody would see that."""
+"""Each place of places.py is found where it is there, and not elsewhere: a wrong one would leave out all tests that
+need it, and nobody would see that."""
 import fcntl
 import os
 import platform
@@ -8,17 +8,18 @@ import re
 import shutil
 import sys
 
-import cargo
 import pytest
-import tools
+import toolchains
+from common.requirements import TOOLS, is_there
 from documents import documents
 from harness import ROOT, at_least, check
+from places import PLACES, is_place
 
 sys.path.append(str(ROOT / "tests" / "guests"))
 import cbmc  # noqa: E402
 import sources  # noqa: E402
 
-LINES = {name: what for name, what in tools.PLACES.items() if what.startswith("import ")}
+LINES = {name: what for name, what in PLACES.items() if what.startswith("import ")}
 # What the numbers of KVM's calls are, as its header has them.
 NUMBERS = """#include <linux/kvm.h>
 #include <stdio.h>
@@ -31,9 +32,9 @@ RECORDED = {path.name.removesuffix(".sha256").partition("-")[::2] for path in (R
 
 @pytest.fixture(autouse=True)
 def fresh():
-    tools.is_there.cache_clear()
+    is_there.cache_clear()
     yield
-    tools.is_there.cache_clear()
+    is_there.cache_clear()
 
 
 def holds(name):
@@ -73,11 +74,11 @@ def test_system(tmp_path):
     """A program that is compiled here names its loader: it is that file on x86-64 alone."""
     check(["cc", "-x", "c", "-", "-o", tmp_path / "program"], "", input="int main(void) { return 0; }\n")
     [loader] = re.findall(r"interpreter: (.+)\]", check(["readelf", "-lW", tmp_path / "program"]))
-    assert (loader == tools.PLACES["Linux on x86-64"]) == (platform.machine() == "x86_64")
-    assert tools.is_there(tools.PLACES["Linux on x86-64"]) == (loader == tools.PLACES["Linux on x86-64"])
+    assert (loader == PLACES["Linux on x86-64"]) == (platform.machine() == "x86_64")
+    assert is_there(PLACES["Linux on x86-64"]) == (loader == PLACES["Linux on x86-64"])
 
 
-@pytest.mark.parametrize("name", [it for it in tools.PLACES if it.split()[0] in COMPILERS])
+@pytest.mark.parametrize("name", [it for it in PLACES if it.split()[0] in COMPILERS])
 def test_version(name, tmp_path, monkeypatch):
     monkeypatch.setenv("PATH", f"{tmp_path}:/usr/bin:/bin")
     program, version = name.split()
@@ -89,24 +90,24 @@ def test_version(name, tmp_path, monkeypatch):
     assert not holds(name)
 
 
-@pytest.mark.parametrize("name", at_least(1, [it for it in tools.PLACES if re.fullmatch(r"[a-z]+", tools.PLACES[it])]))
+@pytest.mark.parametrize("name", at_least(1, [it for it in PLACES if re.fullmatch(r"[a-z]+", PLACES[it])]))
 def test_command(name, tmp_path, monkeypatch):
     monkeypatch.setenv("PATH", str(tmp_path))
-    assert not tools.is_there(tools.PLACES[name])
-    tools.is_there.cache_clear()
+    assert not is_there(PLACES[name])
+    is_there.cache_clear()
     stand_in(tmp_path, name.lower(), "")
-    assert tools.is_there(tools.PLACES[name])
+    assert is_there(PLACES[name])
 
 
-@pytest.mark.parametrize("name", at_least(2, [it for it in tools.PLACES if tools.PLACES[it].startswith("$")]))
+@pytest.mark.parametrize("name", at_least(2, [it for it in PLACES if PLACES[it].startswith("$")]))
 def test_variable(name, monkeypatch):
     """Documents say how it is set."""
-    variable = tools.PLACES[name][1:]
+    variable = PLACES[name][1:]
     assert variable in name.split() and any(f"{variable}=" in it.text for it in documents())
     for is_set in (True, False):
         monkeypatch.setenv(variable, "1") if is_set else monkeypatch.delenv(variable)
-        tools.is_there.cache_clear()
-        assert tools.is_there(tools.PLACES[name]) == is_set
+        is_there.cache_clear()
+        assert is_there(PLACES[name]) == is_set
 
 
 @pytest.mark.parametrize("name", at_least(5, [it for it in LINES if "sums in tests/guests" in it]))
@@ -138,9 +139,10 @@ def test_cbmc(tmp_path, monkeypatch):
 
 @pytest.mark.parametrize("name", at_least(3, [it for it in LINES if it.startswith("Rust for ")]))
 def test_target(name, monkeypatch):
-    monkeypatch.setattr(cargo, "toolchain_for", lambda target: "a toolchain" if name == f"Rust for {target}" else None)
+    own = name.removeprefix("Rust for ")
+    monkeypatch.setattr(toolchains, "toolchain_for", lambda target: "a toolchain" if target == own else None)
     assert holds(name)
-    monkeypatch.setattr(cargo, "toolchain_for", lambda _: None)
+    monkeypatch.setattr(toolchains, "toolchain_for", lambda _: None)
     assert not holds(name)
 
 
@@ -154,24 +156,24 @@ def interpreter(command):
     return words[1] if words[0].endswith("/env") else os.path.basename(words[0])
 
 
-@pytest.mark.parametrize("tool", tools.TOOLS)
+@pytest.mark.parametrize("tool", TOOLS)
 def test_what_runs_a_tool_is_needed_with_it(tool):
     """So npm without Node names Node's package. Debian always has the other interpreters."""
-    there = [it for it in tools.TOOLS[tool] if it[0] != "/" and " " not in it and shutil.which(it)]
-    assert {interpreter(it) for it in there} <= {None, "sh", "bash", "perl", "python3", *tools.TOOLS[tool]}
+    there = [it for it in TOOLS[tool] if it[0] != "/" and " " not in it and shutil.which(it)]
+    assert {interpreter(it) for it in there} <= {None, "sh", "bash", "perl", "python3", *TOOLS[tool]}
 
 
-@pytest.mark.parametrize("line, is_there", [("import os", True), ("import os; assert False", False),
+@pytest.mark.parametrize("line, is_found", [("import os", True), ("import os; assert False", False),
                                             ("import os; os.open('/nothing', 0)", False)])
-def test_what_a_line_says(line, is_there, monkeypatch):
-    monkeypatch.setitem(tools.PLACES, "it", line)
-    assert tools.is_place.__wrapped__("it") == is_there
+def test_what_a_line_says(line, is_found, monkeypatch):
+    monkeypatch.setitem(PLACES, "it", line)
+    assert is_place.__wrapped__("it") == is_found
 
 
 @pytest.mark.parametrize("line", ["import os; os.nothing", "import nothing_like_it", "import os; unknown",
                                   "import os; ("])
 def test_a_line_that_is_wrong(line, monkeypatch):
     """It fails, so that no test is left out for it."""
-    monkeypatch.setitem(tools.PLACES, "it", line)
-    with pytest.raises(ValueError, match="PLACES of tools.py: it"):
-        tools.is_place.__wrapped__("it")
+    monkeypatch.setitem(PLACES, "it", line)
+    with pytest.raises(ValueError, match="PLACES of places.py: it"):
+        is_place.__wrapped__("it")

@@ -6,11 +6,11 @@ import re
 import shutil
 import sys
 
-import program
 import pytest
+from common import rattle
+from common.results import OF_CARGO, counted, of_gate
+from common.results import run as run_part
 from harness import ROOT, check, run
-from parts import OF_CARGO, counted, of_gate
-from parts import run as run_part
 
 HEAD = "import pytest\nfrom harness import at_least\n"
 RUN = HEAD + "def test():\n    "
@@ -50,11 +50,10 @@ def write_test(folder, text, name="test_it.py"):
 def write_tests(folder, text):
     """A folder with a test, our rules, and what these import."""
     write_test(folder, text)
-    (folder / "tests" / "common").mkdir()
     for name in ("conftest.py", "pytest.ini"):
         shutil.copy(ROOT / name, folder)
-    for path_of in (ROOT / "tests" / "common").glob("*.py"):
-        shutil.copy(path_of, folder / "tests" / "common")
+    for name in ("tests/common", "tools/common"):
+        shutil.copytree(ROOT / name, folder / name, ignore=shutil.ignore_patterns("__pycache__"))
 
 
 def run_pytest(folder, text, *words, path="/nowhere"):
@@ -175,21 +174,21 @@ def test_a_file_that_fails_leaves_the_others(tmp_path):
 
 def test_a_program_is_that_of_its_sources(tmp_path, monkeypatch):
     """One that is older than a single source of its crate, or of one below it, is no longer it."""
-    monkeypatch.setattr(program, "ROOT", tmp_path)
-    monkeypatch.setattr(program, "CRATES", tmp_path / "crates")
+    monkeypatch.setattr(rattle, "ROOT", tmp_path)
+    monkeypatch.setattr(rattle, "CRATES", tmp_path / "crates")
     (tmp_path / "crates.txt").write_text("# A comment: high\nlow:\nbetween: low\nhigh: between kit\n", "utf-8")
-    assert program.crates_below("high") == ["low", "between"]
+    assert rattle.crates_below("high") == ["low", "between"]
     sources = [tmp_path / "crates" / it for it in ("low/src/lib.rt", "low/src/a/b.rt", "between/src/lib.rt",
                                                   "high/src/main.rt")]
-    for path in (*sources, program.path_of("high")):
+    for path in (*sources, rattle.path_of("high")):
         path.parent.mkdir(parents=True, exist_ok=True)
         path.touch()
     for newer in (None, *sources):
-        for path in (*sources, program.path_of("high")):
+        for path in (*sources, rattle.path_of("high")):
             os.utime(path, (1000, 1001 if path == newer else 1000))
-        assert program.is_current("high") == (newer is None), newer
-    program.path_of("high").unlink()
-    assert not program.is_current("high")
+        assert rattle.is_current("high") == (newer is None), newer
+    rattle.path_of("high").unlink()
+    assert not rattle.is_current("high")
 
 
 # tools/check

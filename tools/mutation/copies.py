@@ -6,7 +6,7 @@ from concurrent.futures import ThreadPoolExecutor
 from contextlib import contextmanager
 from queue import Queue
 
-from cargo import Cargo
+from common.cargo import Cargo
 
 IGNORED = shutil.ignore_patterns(".git", "out", "target", "node_modules", "__pycache__")
 # No command writes outside its copy: /dev and /tmp are its own. It has no network, and what it starts ends with it.

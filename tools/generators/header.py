@@ -3,7 +3,7 @@
 import re
 from typing import Dict, List, NamedTuple, Union
 
-from libraries import HEADER
+from generators.libraries import HEADER
 
 COMMENT = re.compile(r"/\*.*?\*/", re.S)
 CONSTANT = re.compile(r'^(?:#define| ) *(SUPERIO_\w+) (?:= )?(\d\w*|"[^"]*"|UINT64_MAX),?\s*$', re.M)

@@ -1,10 +1,18 @@
 # SPDX-License-Identifier: Apache-2.0 OR BSD-3-Clause
-"""The binary interface of the C library, as the table superio.abi has it, and Debian's table of its functions."""
-import re
+"""What follows from the header: the binary interface in superio.abi, Debian's table of functions, and the header's copy
+beside the sources for Cargo.
 
-from harness import ROOT
-from header import layout, read_header
-from libraries import INTERFACE, SHARED
+Nothing is written if something of superio.abi is gone while SUPERIO_ABI is the same: a program that was compiled before
+would go wrong. Then give a new number in crates/superio_c and in the places of tests/packages/test_files.py, and tell
+in CHANGELOG.md what changed. If no release had the number, remove superio.abi before.
+"""
+import re
+import shutil
+import sys
+
+from common.commands import ROOT
+from generators.header import layout, read_header
+from generators.libraries import HEADER, INTERFACE, SHARED
 
 VERSION, ABI = (ROOT / "VERSION").read_text(encoding="ascii").strip(), SHARED.rpartition(".")[2]
 # Debian's table of the functions of the shared library.
@@ -49,8 +57,19 @@ def lost():
 
 
 def write():
-    """Writes superio.abi and Debian's table."""
+    """Writes superio.abi, Debian's table and the header's copy."""
     INTERFACE.write_text("\n".join(interface()) + "\n", encoding="ascii")
     SYMBOLS.write_text(debian_symbols(), encoding="ascii")
     for other in {*SYMBOLS.parent.glob("libsuperio*.symbols")} - {SYMBOLS}:
         other.unlink()
+    shutil.copy(HEADER, HEADER.parent / "from-source")
+
+
+def main():
+    if gone := lost():
+        sys.exit("\n".join([f"the binary interface changed, so SUPERIO_ABI may not stay that of '{kept()[0]}'", *gone]))
+    write()
+
+
+if __name__ == "__main__":
+    main()

@@ -2,8 +2,9 @@
 """What accesses of the devices cost, in instructions: the rows of docs/PERFORMANCE.md and their goals, and the programs
 `accesses` of tests/compare, which make them under callgrind. What their loop takes is subtracted.
 
-Counts do not depend on what else the machine does, but on the compilers, which the document names. A second table has
-what accesses cost through a console, counted by the program `console`, beside the port in it.
+Counts do not depend on what else the machine does, but on the compilers, which the document names, and on the
+processor, an x86-64. A second table has what accesses cost through a console, counted by the program `console`, beside
+the port in it. vm-superio is counted if VM_SUPERIO names the folder of its package, 0.8.2.
 """
 import re
 import shutil
@@ -14,8 +15,8 @@ from statistics import median_low
 from tempfile import TemporaryDirectory, mkdtemp
 from typing import NamedTuple
 
-from cargo import COMPARISON, ORIGINAL, Comparison
-from harness import ROOT, check
+from common.commands import ROOT, check
+from common.comparison import COMPARISON, ORIGINAL, Comparison
 
 DOCUMENT = ROOT / "docs" / "PERFORMANCE.md"
 ROUNDS = 10  # of the programs
@@ -235,3 +236,7 @@ def enqueue_slope(column):
     costs = [totals[1] for totals, _ in totals_of(program_of(column), lists)]
     slope = max((cost - costs[0]) / (size - 1) for size, cost in zip(sizes[1:PLACES], costs[1:]))
     return slope, max(costs[PLACES:]) - costs[PLACES - 1]
+
+
+if __name__ == "__main__":
+    write_numbers([column for column in COLUMNS if column != THEIRS or ORIGINAL])

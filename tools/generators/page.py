@@ -1,9 +1,6 @@
-#!/usr/bin/env python3
 # SPDX-License-Identifier: Apache-2.0 OR BSD-3-Clause
 """Packs the modules of bindings/js and of web, and the recorded boots, into the page docs/try.html, which then needs no
 network, and those of bindings/js into bindings/js/superio.cjs, which `require` takes.
-
-    web/build.py
 
 The page itself, with its styles, is written by hand in docs/try.html. What is packed is the same on every machine, but
 zlib's versions may pack it differently.
@@ -11,14 +8,10 @@ zlib's versions may pack it differently.
 import base64
 import lzma
 import re
-import sys
 import textwrap
 import zlib
-from pathlib import Path
 
-ROOT = Path(__file__).resolve().parent.parent
-sys.path.append(str(ROOT / "tests" / "common"))
-from harness import takes_no_argument  # noqa: E402
+from common.commands import ROOT
 
 PACKAGE = ROOT / "bindings" / "js"
 RECORDINGS = ROOT / "examples" / "linux-boot"
@@ -63,7 +56,7 @@ def required():
     if WAITING not in script:
         raise ValueError(f"{OF_PACKAGE[-1]} has no line {WAITING}")
     return "\n".join(["// SPDX-License-" "Identifier: Apache-2.0 OR BSD-3-Clause",
-                      "// Made by the command web/build.py from module.mjs, registers.mjs and superio.mjs, for `require`.",
+                      "// Made by tools/generate from module.mjs, registers.mjs and superio.mjs, for `require`.",
                       '"use strict";', "", script.replace(WAITING, AT_ONCE),
                       f"module.exports = {{ {', '.join(names)} }};", ""])
 
@@ -79,7 +72,6 @@ def unpacked(page):
 
 
 if __name__ == "__main__":
-    takes_no_argument(__doc__)
     parts = sources()
     page = PACKED.sub(lambda found: found[1] + packed(parts[found[2]]), PAGE.read_text(encoding="utf-8"))
     PAGE.write_text(page, encoding="utf-8")

@@ -2,11 +2,11 @@
 # SPDX-License-Identifier: Apache-2.0 OR BSD-3-Clause
 """Judges the rules of docs/PORT.md, and the console, by drivers' own sources.
 
-    tools/guests [--exchanges N] [--jobs N] [--quick]
+    tests/guests/judge.py [--exchanges N] [--jobs N] [--quick]
 
 Gets the drivers' sources out of Debian's, makes random exchanges of them over the C library, and proves by CBMC that
-with Linux's and Xen's no byte waits for ever, and that a clock keeps its time and alarms. tests/guests/README.md says
-what is proved, and what is trusted. Fetches CBMC 6 from Debian 13 if this machine has none. Prints a line for each
+with Linux's and Xen's no byte waits for ever, and that a clock keeps its time and alarms. README.md beside this file
+says what is proved, and what is trusted. Fetches CBMC 6 from Debian 13 if this machine has none. Prints a line for each
 proof, with the seconds of a processor that it took, and at the end what was proved of which version. Exits 1 if a proof
 or an exchange fails.
 """
@@ -20,8 +20,8 @@ from concurrent.futures import ProcessPoolExecutor
 from itertools import repeat
 from pathlib import Path
 
-ROOT = Path(__file__).resolve().parents[1]
-sys.path[:0] = [str(ROOT / "tests" / folder) for folder in ("common", "guests")]
+ROOT = Path(__file__).resolve().parents[2]
+sys.path[:0] = [str(ROOT / folder) for folder in ("tools", "tests/common")]
 import cbmc  # noqa: E402
 import linux_clock  # noqa: E402
 import linux_driver  # noqa: E402

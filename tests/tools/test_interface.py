@@ -1,12 +1,14 @@
 # SPDX-License-Identifier: Apache-2.0 OR BSD-3-Clause
-"""tools/write-abi in a copy: it writes what a header adds, and refuses one that lacks a single thing of the interface."""
+"""What is made of the header, in a copy: what a header adds is written, and one that lacks a single thing of the
+interface is refused."""
 import shutil
+import sys
 
 import pytest
+from generators.libraries import SHARED
 from harness import ROOT, run
-from libraries import SHARED
 
-COPIED = ["VERSION", "tools/write-abi", "tests/common", "bindings/c", "bindings/python/superio/superio.abi", "debian"]
+COPIED = ["VERSION", "tools/common", "tools/generators", "bindings/c", "bindings/python/superio/superio.abi", "debian"]
 HEADER, COPY, TABLE = "bindings/c/superio.h", "bindings/c/from-source/superio.h", "bindings/python/superio/superio.abi"
 SYMBOLS = f"debian/libsuperio{SHARED.rpartition('.')[2]}.symbols"
 # A header with one of each, and how each changes: what is added, and what a program would miss.
@@ -46,13 +48,17 @@ def change(top, old, new):
     (top / HEADER).write_text(text.replace(old, new), "ascii")
 
 
+def make(top):
+    return run([sys.executable, "-m", "generators.interface"], cwd=top / "tools")
+
+
 def written(top):
     return [(top / it).read_text("ascii") for it in (COPY, TABLE, SYMBOLS)]
 
 
 def test_what_is_added_is_written(top):
     before = written(top)[1].splitlines()
-    assert run([top / "tools/write-abi"]).returncode == 0
+    assert make(top).returncode == 0
     copy, table, symbols = written(top)
     assert copy == (top / HEADER).read_text("ascii") and " superio_add@Base " in symbols
     assert sorted({*table.splitlines()} - {*before}) == [
@@ -65,19 +71,14 @@ def test_what_is_added_is_written(top):
 @pytest.mark.parametrize("name", CHANGES)
 def test_what_is_gone_is_refused(name, top):
     """Nothing is written. Under another number it is."""
-    assert run([top / "tools/write-abi"]).returncode == 0
+    assert make(top).returncode == 0
     old, new, gone = CHANGES[name]
     before = written(top)
     change(top, old, new)
-    ran = run([top / "tools/write-abi"])
+    ran = make(top)
     assert ran.returncode == 1 and gone in ran.stdout.splitlines(), ran.stdout
     assert written(top) == before
     number = int(before[1].split("\n")[0].removeprefix("abi "))
     change(top, f"#define SUPERIO_ABI {number}\n", f"#define SUPERIO_ABI {number + 1}\n")
-    assert run([top / "tools/write-abi"]).returncode == 0
+    assert make(top).returncode == 0
     assert not (top / SYMBOLS).exists() and (top / TABLE).read_text("ascii").startswith(f"abi {number + 1}\n")
-
-
-def test_it_takes_no_argument(top):
-    before = written(top)
-    assert run([top / "tools/write-abi", "bindings/c"]).returncode == 2 and written(top) == before

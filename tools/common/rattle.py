@@ -1,5 +1,5 @@
 # SPDX-License-Identifier: Apache-2.0 OR BSD-3-Clause
-"""The program `superio`, and others in Rattle: how they are built, and how tests run them."""
+"""What is built of the crates in Rattle: the libraries, the programs and the tests, and how many of these there are."""
 import fcntl
 import os
 import re
@@ -10,7 +10,7 @@ import tempfile
 from contextlib import contextmanager
 from pathlib import Path
 
-from harness import ROOT
+from common.commands import ROOT
 
 CRATES = ROOT / "crates"
 PROGRAMS = "superio", "long_run"
@@ -102,12 +102,3 @@ def hand_over():
     for program in (*map(path_of, PROGRAMS), TESTS):
         if program.exists():
             program.touch()
-
-
-def built_tests():
-    """The proved tests of superio_tests, which are proved and built if they are missing or older than the sources."""
-    sources = max(path.stat().st_mtime for path in CRATES.glob("*/src/**/*.rt"))
-    with alone():
-        if not TESTS.exists() or TESTS.stat().st_mtime < sources:
-            build(("superio_tests", "test"))
-    return TESTS

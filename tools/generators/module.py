@@ -1,14 +1,10 @@
-#!/usr/bin/env python3
 # SPDX-License-Identifier: Apache-2.0 OR BSD-3-Clause
 """Builds the WebAssembly module that the repository holds: Cargo's C library, over the erased proved devices.
-
-    web/prebuild.py
 
 Writes prebuilt/wasm32/superio.wasm, its lines in prebuilt/SHA256SUMS and prebuilt/SOURCES, and bindings/js/module.mjs,
 which has its bytes and the tables of the Python package. They are the same on every machine. It writes what these
 tables have into bindings/js/superio.d.ts: the names of registers, the fields of states, and why bytes are no saved
-state. Needs Debian 12's rustc, libstd-rust-dev-wasm32 and lld. Prints nothing if all is well. Otherwise it says why on
-standard error, and exits 1.
+state. Needs Debian 12's rustc, libstd-rust-dev-wasm32 and lld.
 """
 import base64
 import ctypes
@@ -21,14 +17,12 @@ import tempfile
 import textwrap
 from pathlib import Path
 
-ROOT = Path(__file__).resolve().parent.parent
-sys.path[:0] = [str(ROOT / "tests" / "common"), str(ROOT / "bindings" / "python")]
-from cargo import DEBIAN_RUSTC  # noqa: E402
-from libraries import PREBUILT, replace_lines, source_line, sums_of  # noqa: E402
-from superio.library import ABI, RTC_SAVED_SIZE, ConsoleStruct, RtcStruct  # noqa: E402
-from superio.registers import CLOCK, OUTPUT_SIZE, SERIAL, ConsoleState, RtcState, SerialState  # noqa: E402
-from superio.saved import SAVED_STATE_ERRORS  # noqa: E402
-from harness import run, takes_no_argument  # noqa: E402
+from common.cargo import DEBIAN_RUSTC
+from common.commands import ROOT, run
+from generators.libraries import PREBUILT, replace_lines, source_line, sums_of
+from superio.library import ABI, RTC_SAVED_SIZE, ConsoleStruct, RtcStruct
+from superio.registers import CLOCK, OUTPUT_SIZE, SERIAL, ConsoleState, RtcState, SerialState
+from superio.saved import SAVED_STATE_ERRORS
 
 TARGET, MODULE = "wasm32-unknown-unknown", "wasm32/superio.wasm"
 # The functions of the module, and the crate of the devices.
@@ -100,7 +94,7 @@ def embedded():
     """The text of module.mjs, which has the module's bytes and the tables."""
     module = base64.b64encode((PREBUILT / MODULE).read_bytes()).decode()
     lines = ["// SPDX-License-" "Identifier: Apache-2.0 OR BSD-3-Clause",
-             f"// Made by the command web/prebuild.py from prebuilt/{MODULE}, whose bytes these are in base 64,",
+             f"// Made by tools/generate from prebuilt/{MODULE}, whose bytes these are in base 64,",
              "// and from registers.py, library.py and saved.py of bindings/python/superio.",
              f'export default "{module}";']
     for name, value in tables().items():
@@ -140,10 +134,9 @@ def listed():
 
 
 def main():
-    takes_no_argument(__doc__)
     built = has_compiler() and build(PREBUILT / MODULE)
     if not built or built.returncode:
-        sys.exit(f"web/prebuild.py: {built.stdout if built else ''}the module needs {PACKAGES}")
+        sys.exit(f"{built.stdout if built else ''}the module needs {PACKAGES}")
     (PREBUILT / MODULE).chmod(0o644)
     EMBEDDED.write_text(embedded(), encoding="ascii")
     DECLARED.write_text(declared(), encoding="utf-8")

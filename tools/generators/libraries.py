@@ -1,9 +1,18 @@
 # SPDX-License-Identifier: Apache-2.0 OR BSD-3-Clause
-"""The files of the C library: where they are, and the digests by which others compare them."""
+"""The files of the C library: where they are, the digests by which others compare them, and how they are built from the
+proofs.
+
+For each processor a static and a shared library are written into prebuilt, SHA256SUMS has their sums, and SOURCES the
+digest of the sources. The bytes are the same on every machine.
+"""
 import hashlib
 import re
+import shutil
+import subprocess
+from pathlib import Path
 
-from harness import ROOT
+from common.commands import ROOT
+from common.rattle import CRATES, build
 
 PREBUILT = ROOT / "prebuilt"
 HEADER = ROOT / "bindings" / "c" / "superio.h"
@@ -56,3 +65,23 @@ def replace_lines(path, lines):
     by_name = {line.partition("  ")[2]: line for line in [*old, *lines]}
     kept = (line for name, line in by_name.items() if is_there(path.parent, name))
     path.write_text("".join(line + "\n" for line in kept), encoding="ascii")
+
+
+def build_into(folder):
+    """Builds the libraries from the proofs, each into the folder of its target."""
+    # The kit's linker, so that each machine links the same bytes.
+    page = subprocess.run(["rt", "doc"], stdout=subprocess.PIPE, text=True, check=True).stdout.strip()
+    linker = Path(page).parent / "toolchain" / "bin" / "ld.lld"
+    for target, (options, emulation) in TARGETS.items():
+        static = folder / target / STATIC
+        static.parent.mkdir(parents=True, exist_ok=True)
+        build(("superio_c", f"lib {options}"))
+        shutil.copyfile(CRATES / "superio_c" / "out" / STATIC, static)
+        subprocess.run([linker, "-shared", "--build-id=sha1", "-z", "now", "-m", emulation, "-soname", SHARED,
+                        "--whole-archive", static, "-o", static.with_name(SHARED)], check=True)
+
+
+if __name__ == "__main__":
+    build_into(PREBUILT)
+    replace_lines(PREBUILT / "SHA256SUMS", library_sums(PREBUILT))
+    replace_lines(PREBUILT / "SOURCES", [source_line()])

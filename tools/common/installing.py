@@ -5,9 +5,9 @@ import subprocess
 import sys
 from pathlib import Path
 
-from tools import advice, is_there, packages
+from common.commands import ROOT
+from common.requirements import advice, is_there, packages
 
-ROOT = Path(__file__).resolve().parents[2]
 SYSTEM = Path("/etc/os-release")
 # What tools/install-packages writes for another user than root: paths, and the names of what it has unpacked.
 ENVIRONMENT, UNPACKED = (ROOT / "out" / "packages" / name for name in ("environment", "unpacked"))

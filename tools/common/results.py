@@ -1,16 +1,16 @@
 # SPDX-License-Identifier: Apache-2.0 OR BSD-3-Clause
-"""The parts of tools/check: how each is run, and what it passed, failed and skipped."""
+"""What each part of tools/check passed, failed and skipped, and how a part is run."""
 import re
 import subprocess
 
-from harness import ROOT
+from common.commands import ROOT
 
 OF_CARGO = r"^test result: .*"   # the lines of `cargo test` that count
 
 
 def run(*words, at_its_end=False, **options):
-    """Runs a command and shows what it prints, at its end if it runs beside another. Returns its status, 127 if it is not
-    there, and what it printed."""
+    """Runs a command and shows what it prints, at its end if it runs beside another. Returns its status, 127 if it is
+    not there, and what it printed."""
     lines, head = [], " ".join(["==", *words])
     if not at_its_end:
         print(head, flush=True)
