@@ -19,13 +19,13 @@ from pathlib import Path
 import pytest
 import rust_cases
 import shell_cases
-from harness import LIMIT, ROOT
+from coq_text import RECHECK, words
+from harness import LIMIT
 from test_translator_of_shell import COQ, SCRIPTS
 
 import rust2coq
 import shell2coq
 
-RECHECK = ROOT / "recheck"
 # The modules that each one imports.
 IMPORTS = {file.stem: set(re.findall(r"^(?:from|import) (\w+)", file.read_text(), re.M))
            for file in RECHECK.glob("*.py")}
@@ -39,7 +39,9 @@ BROKEN = [
     ("numbers", "rust_tree.py", '"u16": 16', '"u16": 15'),
     ("numbers", "rust_tree.py", '"u32": 32', '"u32": 33'),
     ("numbers", "rust_tree.py", '"u64": 64', '"u64": 65'),
-    ("numbers", "rust_tree.py", '"usize": 64', '"usize": 65'),
+    ("numbers", "rust_tree.py", '"usize": 32', '"usize": 31'),
+    ("numbers", "coq_types.py", '"usize_bits" if', '"65" if'),
+    ("numbers", "coq_types.py", '"(2 ^ usize_bits)" if', '"(2 ^ 65)" if'),
     ("numbers", "coq_values.py", '"(pos {node.value})" if type_ == "i64"', '"(negsuc {node.value})" if type_ == "i64"'),
     ("literals", "parse_patterns.py", "10 if text.isdigit() else 0)", "8 if text.isdigit() else 0)"),
     ("literals", "parse_patterns.py", "text.isdigit() else 0), token.suffix)", "text.isdigit() else 0), None)"),
@@ -117,8 +119,8 @@ BROKEN = [
     ("priority", "parse_expressions.py",
      'BINARY = [["||"], ["&&"], COMPARISONS, ["|"]',
      'BINARY = [["||"], ["&&"], ["|"], COMPARISONS'),
-    ("as", "coq_values.py", 'f"(N.modulo {value} {2 ** to})"', "value"),
-    ("as of i64", "coq_values.py", 'f"(wrap_int {to} {value})"', 'f"(unsigned_abs {value})"'),
+    ("as", "coq_values.py", 'f"(N.modulo {value} {self.size(to)})"', "value"),
+    ("as of i64", "coq_values.py", 'f"(wrap_int {self.width(to)} {value})"', 'f"(unsigned_abs {value})"'),
     ("a[i]", "coq_values.py", "at_index {values[0]} {values[1]}", "at_index {values[0]} ({values[1]} - 1)"),
     ("a[i..j]", "coq_values.py",
      '["all_index", "upto_index", "from_index", "range_index"]',
@@ -357,16 +359,15 @@ def changed_by(edit, right, ran, count, cases, folder):
 
 def results(cases, folder):
     """What Coq computes of each translation, by its number, or that it is none."""
-    words = [re.sub(r"^Require Import Recheck\..*\n", "", (RECHECK / f"{name}.v").read_text(), flags=re.M)
-             for name in ("Prelude", "Machine", "Acts")]
+    lines = [words("Prelude", "Machine", "Acts")]
     for at, (kind, text) in enumerate(cases):
         name = f"Case{at}"
         if isinstance(text, Exception):
             continue
         body = "\n".join(line for line in text.splitlines() if not line.startswith("Require"))
         shown = "rs_case" if kind is of_device else f"(map show [{'; '.join(map(str, SCRIPTS))}])"
-        words.append(f"Module {name}.\n{body}\nTimeout {LIMIT} Compute ({at}, {shown}).\nEnd {name}.")
-    run = subprocess.run(["coqtop", "-q", "-w", "none"], input="\n".join(words), cwd=folder, capture_output=True,
+        lines.append(f"Module {name}.\n{body}\nTimeout {LIMIT} Compute ({at}, {shown}).\nEnd {name}.")
+    run = subprocess.run(["coqtop", "-q", "-w", "none"], input="\n".join(lines), cwd=folder, capture_output=True,
                          text=True)
     said = re.findall(r"^ +=\s+\((\d+),\s+(.*?)\)\s+:", run.stdout, re.M | re.S)
     return {int(at): " ".join(result.split()) for at, result in said}
