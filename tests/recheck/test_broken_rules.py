@@ -5,8 +5,9 @@ nothing.
 BROKEN has edits of the translators, for each rule of the tables in recheck/README.md. The tests of the translators
 compare the rules themselves with rustc's code, on the same cases.
 
-For an edit, the cases come first for which the translators run the edited lines. Coq computes the first one that is
-translated in another way and, if that does not show the edit, up to seven more.
+For an edit, the cases are those for which the translators run the edited lines, or all if none does: these lines are
+run once, at the import. Coq computes the first case that is translated in another way and, if that does not show the
+edit, up to seven more.
 """
 import importlib
 import re
@@ -351,9 +352,9 @@ def lines_of(edit):
 def changed_by(edit, right, ran, count, cases, folder):
     """Cases that are translated in another way with this edit, so many at most: their numbers and what is written."""
     edited = lines_of(edit)
-    order = sorted(range(len(CASES)), key=lambda at: edited.isdisjoint(ran[at]))
+    concerned = [at for at in range(len(CASES)) if not edited.isdisjoint(ran[at])] or range(len(CASES))
     with translators(edit, folder) as modules:
-        found = ((at, translated(modules, cases, at)) for at in order)
+        found = ((at, translated(modules, cases, at)) for at in concerned)
         return [*islice((one for one in found if one[1] != right[one[0]]), count)]
 
 
