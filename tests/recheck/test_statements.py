@@ -147,7 +147,8 @@ REFUSED = {
     "a word that is sealed": ("Claims", r"(\(\* Zero is read\. \*\)\nTheorem zero : )",
                               r"(* A word. *)\nTheorem word : Prop. Proof. exact True. Qed.\n\1word -> ",
                               r"^Claims\.zero has Claims\.word, which is not among the definitions of the statements$"),
-    "a width that is not sealed": ("Prelude", r"(?<= reflexivity\. )Qed", "Defined", r"^Prelude\.width_of_usize is not sealed$"),
+    "a width that is not sealed": ("Prelude", r"(?<= reflexivity\. )Qed", "Defined",
+                                   r"^Prelude\.width_of_usize is not sealed$"),
     "a definition of the proofs": ("Claims", "same \\(kind := 1\\) 2", "Proofs.hidden 2",
                                    r"^Claims\.zero has Proofs\.hidden, which is not among the definitions of the statements$"),
 }
