@@ -23,9 +23,8 @@ from places import is_place
 LEFT_OUT = pytest.StashKey()   # of a test that --without leaves out
 # The files that take longest. They begin first, so that no worker is left with one of them at the end.
 DEAREST = ["tests/packages/test_releases.py", "tests/rust/test_crates.py", "tests/recheck/test_proofs.py",
-           "tests/recheck/test_widths.py", "tests/documents/test_paste.py", "tests/c/test_programs.py",
-           "tests/guests/test_clock.py", "tests/guests/test_linux_driver.py", "tests/guests/test_polling.py",
-           "tests/guests/test_verifier.py"]
+           "tests/documents/test_paste.py", "tests/c/test_programs.py", "tests/guests/test_clock.py",
+           "tests/guests/test_linux_driver.py", "tests/guests/test_polling.py", "tests/guests/test_verifier.py"]
 
 os.environ.setdefault("HYPOTHESIS_STORAGE_DIRECTORY", str(ROOT / "out" / "hypothesis"))
 common = {"deadline": None, "database": None, "suppress_health_check": list(HealthCheck), "print_blob": True}

@@ -46,9 +46,13 @@ class TypeWriter:
         self.type(node.type, node)
         return actual(node.type)
 
-    def width(self, type_: Type) -> int:
-        """How many bits a number has."""
-        return WIDTHS.get(str(type_), 64)
+    def width(self, type_: Type) -> str:
+        """How many bits a number has. A usize has 32 or 64, by recheck/Prelude.v."""
+        return "usize_bits" if type_ == "usize" else str(WIDTHS.get(str(type_), 64))
+
+    def size(self, type_: Type) -> str:
+        """How many numbers a type has."""
+        return "(2 ^ usize_bits)" if type_ == "usize" else str(2 ** WIDTHS.get(str(type_), 64))
 
     def comment(self, doc: list[str]) -> str:
         text = re.sub(r"\n*```.*?```", "", "\n".join(doc), flags=re.S)  # without its examples
@@ -115,7 +119,7 @@ class TypeWriter:
             inner = next(self.ranges(type_[1], "item"))[1]
             yield "", f"Bytes {value}" if type_[1] == "u8" else f"Forall (fun item => {inner}) {value}"
         elif isinstance(type_, str) and type_ in WIDTHS:
-            yield "", f"{value} < " + ("256" if type_ == "u8" else f"2 ^ {WIDTHS[type_]}")
+            yield "", f"{value} < " + ("256" if type_ == "u8" else f"2 ^ {self.width(type_)}")
         elif type_ == "i64":
             yield "", f"FitsSigned 64 {value}"
         elif isinstance(type_, str) and type_ in self.crate.types:

@@ -10,7 +10,7 @@ from rust_expressions import (
     Array, Assign, Binary, Block, Boolean, Call, Cast, Convert, Copy, Deref, Field, If, Index, Integer, Invoke,
     Library, Make, Match, Method, Name, Not, Part, PathName, Record, Ref, RefMut, Repeat, Return, Slice, Try, TupleOf)
 from rust_items import Struct
-from rust_tree import Expr, Local, Type
+from rust_tree import WIDTHS, Expr, Local, Type
 from rust_types import actual
 
 Then = Callable[[str, Env], str]
@@ -147,7 +147,7 @@ class ValueWriter(TypeWriter):
 
     def integer(self, node: Integer) -> str:
         type_ = self.known(node)
-        if node.value >= 2 ** (63 if type_ == "i64" else self.width(type_)):
+        if node.value >= 2 ** WIDTHS.get(str(type_), 63):
             self.refuse(node, f"{node.value} is no {type_}")
         return f"(pos {node.value})" if type_ == "i64" else str(node.value)
 
@@ -171,8 +171,10 @@ class ValueWriter(TypeWriter):
         if isinstance(node, Not):
             type_ = self.known(node)
             return f"(negb {value})" if type_ == "bool" else f"(not_bits {self.width(type_)} {value})"
-        to = self.width(self.known(node))
-        return f"(wrap_int {to} {value})" if self.known(node.value) == "i64" else f"(N.modulo {value} {2 ** to})"
+        to = self.known(node)
+        if self.known(node.value) == "i64":
+            return f"(wrap_int {self.width(to)} {value})"
+        return f"(N.modulo {value} {self.size(to)})"
 
     def parts(self, node: TupleOf | Array, env: Env, then: Then) -> str:
         if isinstance(node, Array):
@@ -302,8 +304,9 @@ class ValueWriter(TypeWriter):
             return self.bind(f"split_index {values[0]} {values[1]}", "parts", lambda parts: then(parts, env))
         if name == "to_le_bytes" and of == "i64":
             values = [f"(cast_unsigned 64 {values[0]})"]
-        width = self.width(of)
-        return then(LIBRARY[name].format(*values, width=width, top=2 ** width - 1, size=2 ** width), env)
+        size = self.size(of)
+        top = str(int(size) - 1) if size.isdigit() else f"({size} - 1)"
+        return then(LIBRARY[name].format(*values, width=self.width(of), top=top, size=size), env)
 
     def copy(self, meaning: Copy, argument: Expr, env: Env, then: Then) -> str:
         """A view starts and ends at places of its array; a range of it has to stay inside"""

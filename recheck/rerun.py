@@ -13,7 +13,6 @@ from typing import Any
 import antt2coq
 import expanded
 import rust2coq
-import rust_tree
 import shell2coq
 import statements
 from around import BUILD_SCRIPT, check_manifests
@@ -113,12 +112,10 @@ def main(said: str | None) -> None:
     parser.add_argument("--keep", type=Path, metavar="DIR")
     parser.add_argument("--chk", action="store_true")
     parser.add_argument("--write-statements", action="store_true")
-    parser.add_argument("--usize", type=int, choices=(32, 64), default=64, metavar="BITS")
     parser.add_argument("--rustc", metavar="RUSTC")
     parser.add_argument("--jobs", type=int, default=len(os.sched_getaffinity(0)), metavar="N")
     parser.add_argument("root", type=Path, nargs="?", default=HERE, metavar="ROOT")
     arguments = parser.parse_args()
-    rust_tree.WIDTHS["usize"] = arguments.usize
     if not shutil.which("coqc"):
         sys.exit("recheck: there is no coqc: apt-get install coq")
     with tempfile.TemporaryDirectory() as temporary:

@@ -4,7 +4,7 @@ import re
 from dataclasses import dataclass, field
 from typing import Any, Iterable, Iterator, Optional, Tuple, Union
 
-WIDTHS = {"u8": 8, "u16": 16, "u32": 32, "u64": 64, "usize": 64}  # usize: as on a 64-bit machine
+WIDTHS = {"u8": 8, "u16": 16, "u32": 32, "u64": 64, "usize": 32}  # usize: at least
 INTEGERS = {*WIDTHS, "i64"}
 
 

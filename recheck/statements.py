@@ -27,6 +27,8 @@ IF_USED = ("Types", "Definitions", "ShellCode")
 # What is translated of a function's body is the code: no statement is made by it.
 CODE = re.compile(r"Code\.\w+|ShellCode\.vm_\w+")
 IMPORTED = ("Prelude", "Machine", "Definitions", "Code", "Acts", "ShellCode", "Calls", "Claims")
+# The one word whose value is sealed. What is shown of it is its type: no proof can use more of it.
+SEALED = "Prelude.width_of_usize"
 KEYWORD = r"(?:Theorem|Definition|Fixpoint|Inductive|CoInductive|Variant|Record)"
 SCHEME = re.compile(r"\w+_(?:ind|sind|rec|rect)")
 SEPARATOR = "I\n     : True\n"  # what `Check I.` prints
@@ -132,9 +134,11 @@ class Statements:
             for declared in re.split(rf"^ {{5}}(?=(?:Parameter|{KEYWORD})\s)", module, flags=re.M)[1:]:
                 kind, name = declared.split()[:2]
                 path = f"{file}.{name}"
-                if kind == "Parameter":
+                if path == SEALED and kind != "Parameter":
+                    raise Failed(f"{SEALED} is not sealed")
+                if kind == "Parameter" and path != SEALED:
                     self.proofs.add(path)
-                if kind == "Parameter" or CODE.fullmatch(path) or SCHEME.fullmatch(name) or name.startswith("used_"):
+                if path in self.proofs or CODE.fullmatch(path) or SCHEME.fullmatch(name) or name.startswith("used_"):
                     continue
                 self.defined.append(path)
                 if kind != "Definition":
@@ -144,7 +148,8 @@ class Statements:
     def printed(self, names: list[str], ways: list[list[str]], more: list[str]) -> tuple[list[dict[str, str]], str]:
         """What Coq prints of each name after the settings of each way, a whole definition or what a theorem states, and
         then of more."""
-        asked = [f"{'Print ' if name in self.defined else 'Check @'}Recheck.{name}. Check I." for name in names]
+        printed = {*self.defined} - {SEALED}
+        asked = [f"{'Print ' if name in printed else 'Check @'}Recheck.{name}. Check I." for name in names]
         lines = [line for settings in ways for line in [*settings, *asked]]
         said = re.sub(r"^\n?Arguments .*(?:\n .*)*\n", "", self.said(*lines, *more), flags=re.M)
         *found, last = (re.sub(r" +$", "", text, flags=re.M).strip() for text in said.split(SEPARATOR))

@@ -1,8 +1,7 @@
 # SPDX-License-Identifier: Apache-2.0 OR BSD-3-Clause
 """What the tests of the proofs share."""
-import re
-
 import pytest
+from coq_text import words
 from harness import ROOT, check
 
 import coq
@@ -19,8 +18,7 @@ def checked(tmp_path_factory):
 @pytest.fixture
 def computed(tmp_path):
     """What Coq prints for some lines after the words that translations use, all in one file."""
-    def run(lines, words=("Prelude", "Machine")):
-        text = "\n".join([*((ROOT / f"recheck/{name}.v").read_text() for name in words), lines])
-        (tmp_path / "Cases.v").write_text(re.sub(r"^Require Import Recheck\..*\n", "", text, flags=re.M))
+    def run(lines, names=("Prelude", "Machine")):
+        (tmp_path / "Cases.v").write_text(f"{words(*names)}\n{lines}")
         return coq.coqc(tmp_path, "Cases")
     return run

@@ -105,6 +105,8 @@ REFUSED = {
     "comparison of variants": ("== of Kind",
         """#[derive(Clone, Copy, PartialEq)] pub enum Kind { A, B } pub fn case() -> u32 { if Kind::A == Kind::B {
         1 } else { 2 } }"""),
+    "a usize that not every machine has": ("4294967296 is no usize",
+        "pub fn case() -> u32 { let x: usize = 4294967296; (x / 2) as u32 }"),
     "rest in the middle": ("a rest without a name",
         """pub fn case() -> u32 { let x = [1u8, 2, 3]; let [first, .., last] = x; u32::from(first) +
         u32::from(last) }"""),
@@ -411,7 +413,10 @@ RIGHT = {
     "the greatest u16": "pub fn case() -> u32 { let x: u16 = 65530; let y = x + 5; u32::from(y) }",
     "overflow of u32": "pub fn case() -> u32 { let x: u32 = 4294967295; let y = 1; x + y }",
     "overflow of u64": "pub fn case() -> u32 { let x: u64 = 18446744073709551615; (x + 1) as u32 }",
-    "overflow of usize": "pub fn case() -> u32 { let x: usize = 18446744073709551615; (x + 1) as u32 }",
+    "overflow of usize": "pub fn case() -> u32 { let x = 18446744073709551615u64 as usize; (x + 1) as u32 }",
+    "the ends of usize":
+        """pub fn case() -> u32 { let x = 18446744073709551615u64 as usize; let y: usize = 4294967295;
+        x.wrapping_add(3).min(9) as u32 * 10 + x.saturating_add(1).min(y) as u32 % 10 }""",
     "the fields of a struct": PAIR + "pub fn case() -> u32 { let Pair { b, a } = Pair { a: 1, b: 2 }; a * 10 + b }",
     "a struct without fields": "pub struct Nothing; pub fn case() -> u32 { let x: Option<Nothing> = Some(Nothing); if x.is_some() { 1 } else { 2 } }",
     "overflow of u8": "pub fn case() -> u32 { (255u8 + 1) as u32 }",

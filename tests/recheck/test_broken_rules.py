@@ -5,8 +5,9 @@ nothing.
 BROKEN has edits of the translators, for each rule of the tables in recheck/README.md. The tests of the translators
 compare the rules themselves with rustc's code, on the same cases.
 
-For an edit, the cases come first for which the translators run the edited lines. Coq computes the first one that is
-translated in another way and, if that does not show the edit, up to seven more.
+For an edit, the cases are those for which the translators run the edited lines, or all if none does: these lines are
+run once, at the import. Coq computes the first case that is translated in another way and, if that does not show the
+edit, up to seven more.
 """
 import importlib
 import re
@@ -19,13 +20,13 @@ from pathlib import Path
 import pytest
 import rust_cases
 import shell_cases
-from harness import LIMIT, ROOT
+from coq_text import RECHECK, words
+from harness import LIMIT
 from test_translator_of_shell import COQ, SCRIPTS
 
 import rust2coq
 import shell2coq
 
-RECHECK = ROOT / "recheck"
 # The modules that each one imports.
 IMPORTS = {file.stem: set(re.findall(r"^(?:from|import) (\w+)", file.read_text(), re.M))
            for file in RECHECK.glob("*.py")}
@@ -39,7 +40,9 @@ BROKEN = [
     ("numbers", "rust_tree.py", '"u16": 16', '"u16": 15'),
     ("numbers", "rust_tree.py", '"u32": 32', '"u32": 33'),
     ("numbers", "rust_tree.py", '"u64": 64', '"u64": 65'),
-    ("numbers", "rust_tree.py", '"usize": 64', '"usize": 65'),
+    ("numbers", "rust_tree.py", '"usize": 32', '"usize": 31'),
+    ("numbers", "coq_types.py", '"usize_bits" if', '"65" if'),
+    ("numbers", "coq_types.py", '"(2 ^ usize_bits)" if', '"(2 ^ 65)" if'),
     ("numbers", "coq_values.py", '"(pos {node.value})" if type_ == "i64"', '"(negsuc {node.value})" if type_ == "i64"'),
     ("literals", "parse_patterns.py", "10 if text.isdigit() else 0)", "8 if text.isdigit() else 0)"),
     ("literals", "parse_patterns.py", "text.isdigit() else 0), token.suffix)", "text.isdigit() else 0), None)"),
@@ -117,8 +120,8 @@ BROKEN = [
     ("priority", "parse_expressions.py",
      'BINARY = [["||"], ["&&"], COMPARISONS, ["|"]',
      'BINARY = [["||"], ["&&"], ["|"], COMPARISONS'),
-    ("as", "coq_values.py", 'f"(N.modulo {value} {2 ** to})"', "value"),
-    ("as of i64", "coq_values.py", 'f"(wrap_int {to} {value})"', 'f"(unsigned_abs {value})"'),
+    ("as", "coq_values.py", 'f"(N.modulo {value} {self.size(to)})"', "value"),
+    ("as of i64", "coq_values.py", 'f"(wrap_int {self.width(to)} {value})"', 'f"(unsigned_abs {value})"'),
     ("a[i]", "coq_values.py", "at_index {values[0]} {values[1]}", "at_index {values[0]} ({values[1]} - 1)"),
     ("a[i..j]", "coq_values.py",
      '["all_index", "upto_index", "from_index", "range_index"]',
@@ -349,24 +352,23 @@ def lines_of(edit):
 def changed_by(edit, right, ran, count, cases, folder):
     """Cases that are translated in another way with this edit, so many at most: their numbers and what is written."""
     edited = lines_of(edit)
-    order = sorted(range(len(CASES)), key=lambda at: edited.isdisjoint(ran[at]))
+    concerned = [at for at in range(len(CASES)) if not edited.isdisjoint(ran[at])] or range(len(CASES))
     with translators(edit, folder) as modules:
-        found = ((at, translated(modules, cases, at)) for at in order)
+        found = ((at, translated(modules, cases, at)) for at in concerned)
         return [*islice((one for one in found if one[1] != right[one[0]]), count)]
 
 
 def results(cases, folder):
     """What Coq computes of each translation, by its number, or that it is none."""
-    words = [re.sub(r"^Require Import Recheck\..*\n", "", (RECHECK / f"{name}.v").read_text(), flags=re.M)
-             for name in ("Prelude", "Machine", "Acts")]
+    lines = [words("Prelude", "Machine", "Acts")]
     for at, (kind, text) in enumerate(cases):
         name = f"Case{at}"
         if isinstance(text, Exception):
             continue
         body = "\n".join(line for line in text.splitlines() if not line.startswith("Require"))
         shown = "rs_case" if kind is of_device else f"(map show [{'; '.join(map(str, SCRIPTS))}])"
-        words.append(f"Module {name}.\n{body}\nTimeout {LIMIT} Compute ({at}, {shown}).\nEnd {name}.")
-    run = subprocess.run(["coqtop", "-q", "-w", "none"], input="\n".join(words), cwd=folder, capture_output=True,
+        lines.append(f"Module {name}.\n{body}\nTimeout {LIMIT} Compute ({at}, {shown}).\nEnd {name}.")
+    run = subprocess.run(["coqtop", "-q", "-w", "none"], input="\n".join(lines), cwd=folder, capture_output=True,
                          text=True)
     said = re.findall(r"^ +=\s+\((\d+),\s+(.*?)\)\s+:", run.stdout, re.M | re.S)
     return {int(at): " ".join(result.split()) for at, result in said}

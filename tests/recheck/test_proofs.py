@@ -4,6 +4,7 @@ import re
 import shutil
 
 import pytest
+from coq_text import together
 from harness import ROOT, check
 
 import coq
@@ -27,8 +28,10 @@ def test_code_does_what_coq_computes(checked, tmp_path):
     assert calls >= 100_000
     expected = f"Some ({calls}, {total}%uint63)"
     same = f"Goal found {turns} {seed} = {expected}.\nProof. vm_cast_no_check (eq_refl ({expected})). Qed.\n"
-    (folder / "Differential.v").write_text((ROOT / "tests/recheck/differential/Differential.v").read_text() + same)
-    coq.coqc(folder, "Differential")
+    files = [*(folder / f"{name}.v" for name in ("Prelude", "Machine", "Types", "Code")),
+             ROOT / "tests/recheck/differential/Differential.v"]
+    (tmp_path / "Differential.v").write_text(f"Require Import Uint63.\n{together(*files)}{same}")
+    coq.coqc(tmp_path, "Differential")
 
 
 # What is done to Claims.v, and what the run says then.

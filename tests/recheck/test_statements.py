@@ -41,6 +41,9 @@ FILES = {
 (* twice the number *)
 Definition double (n : nat) : nat := n + n.
 Definition same {kind : nat} (n : nat) : Prop := kind = kind /\\ n = n.
+(* one of two *)
+Definition width_of_usize : { bits : nat | bits = 4 \\/ bits = 8 }. Proof. exists 8. right. reflexivity. Qed.
+Definition usize_bits : nat := proj1_sig width_of_usize.
 """,
     "Machine": "Require Import Recheck.Prelude.\nDefinition plain (n : nat) : nat := n.\n",
     "Types": """Require Export Recheck.Prelude.
@@ -144,6 +147,8 @@ REFUSED = {
     "a word that is sealed": ("Claims", r"(\(\* Zero is read\. \*\)\nTheorem zero : )",
                               r"(* A word. *)\nTheorem word : Prop. Proof. exact True. Qed.\n\1word -> ",
                               r"^Claims\.zero has Claims\.word, which is not among the definitions of the statements$"),
+    "a width that is not sealed": ("Prelude", r"(?<= reflexivity\. )Qed", "Defined",
+                                   r"^Prelude\.width_of_usize is not sealed$"),
     "a definition of the proofs": ("Claims", "same \\(kind := 1\\) 2", "Proofs.hidden 2",
                                    r"^Claims\.zero has Proofs\.hidden, which is not among the definitions of the statements$"),
 }
@@ -219,6 +224,7 @@ def test_what_the_rest_is(small):
     """Each theorem and definition is in one of the files, once; a law stands under its theorem."""
     rest = small[1]["statements.txt"]
     assert "==== numbers\n\nDoubling is adding.\ndoubles\n     : DoubleLaw\nDoubleLaw = forall n : nat, double n = n + n\n" in rest
+    assert "\none of two\nwidth_of_usize\n     : {bits : nat | bits = 4 \\/ bits = 8}\n" in rest
     both = small[1]["claims.txt"] + rest
     for name in ("port_new", "port_write", "doubles", "zero", "most =", "Fits =", "kind_of =", "double =", "plain =", "writes =",
                  "DoubleLaw ="):

@@ -1,10 +1,13 @@
 # SPDX-License-Identifier: Apache-2.0 OR BSD-3-Clause
 """The run reads all that Cargo compiles: what it neither translates nor lists is refused, and so is another layout, header
 or manifest."""
+import os
 import re
 import shutil
+import subprocess
 
 import pytest
+from harness import run
 from test_plants import C_FUNCTIONS, DEVICES, ROOT, SHELL, copy_sources
 
 import expanded
@@ -220,9 +223,21 @@ def compared(root, folder, rustc="rustc"):
 
 @pytest.mark.needs("debian-rust")
 def test_rustc_reads_the_same(tmp_path):
-    """Debian's rustc does. That of PATH is asked by test_widths.py."""
+    """Debian's rustc does."""
     found = compared(ROOT, tmp_path, "/usr/bin/rustc")
     assert [folder.name for folder, count in found if count > 900] == ["superio", "from-source", "rust"]
+
+
+@pytest.mark.needs("cargo")
+def test_the_tool_asks_rustc(tmp_path):
+    """That of PATH. Coq is a stand-in that proves nothing, which is what the run says next."""
+    (tmp_path / "coqc").write_text("#!/bin/sh\necho no >&2\nexit 1\n")
+    (tmp_path / "coqc").chmod(0o755)
+    environment = os.environ | {"PATH": f"{tmp_path}:{os.environ['PATH']}"}
+    command = [ROOT / "tools/recheck", "--no-install", "--rustc", "rustc"]
+    ended = run(command, env=environment, stderr=subprocess.PIPE)
+    assert re.fullmatch(r"(rustc reads the same \d{4,} tokens of [\w/-]+\n){3}", ended.stdout), ended.stdout
+    assert (ended.returncode, ended.stderr) == (1, "recheck: Prelude.v is not proved:\nno\n\n")
 
 
 @pytest.mark.needs("cargo")
