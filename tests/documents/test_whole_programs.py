@@ -24,6 +24,14 @@ WRITE = re.compile(r"^    if \(interrupt\(superio_console_write\(.*\n.*\n", re.M
 INTERRUPT = re.compile(r"(?:^/\*[^/]*\*/\n)?^static \w+ interrupt\(.*?^\}\n", re.M | re.S)
 # How long the guest is held until the reader of its output takes some. Afterwards the program drops output.
 A_SECOND = "    end.tv_sec++;\n"
+# The first access of the guest. A kernel whose driver makes another before has been started by a loader that polls.
+READY = "    write_access(1, 0x01);"
+PROBE = """    write_access(1, 0x0F);
+    pthread_mutex_lock(&lock);
+    if (superio_console_wants(&console).input > 0)
+        abort();
+    pthread_mutex_unlock(&lock);
+"""
 SET_PIPE_SIZE = 1031   # of Linux, which Python 3.9 does not name
 SET_LINE = "static void set_line(bool is_up) { if (is_up) eventfd_write(irq, 1); }\n"
 
@@ -65,6 +73,17 @@ def test_event_loop(line, tmp_path):
               "patient")
     text = "the quick brown fox " * 10_000 + "\n"
     check(["sh", "-c", "./patient | (sleep 0.2; cat)"], text.upper(), cwd=tmp_path, input=text)
+
+
+@pytest.mark.needs("cc")
+def test_loader_that_polls(tmp_path):
+    """With the lines for a kernel that does not poll, input no longer goes in after the probe of its driver, until the
+    driver is ready."""
+    program, count = WRITE.subn(rf"\g<0>{code('docs/USING.md', 'c', 'set_polled')}", code("docs/C.md", "c", "int main"))
+    assert count == program.count(READY) == program.count("new(&console, false)") == 1
+    program = program.replace(READY, PROBE + READY).replace("new(&console, false)", "new(&console, true)")
+    compile_c(tmp_path, "console", program, LIBRARY, "-pthread", "-o", "console")
+    check(["./console"], "HELLO\n", cwd=tmp_path, input="hello\n")
 
 
 @pytest.mark.needs("cc")
