@@ -110,7 +110,20 @@ static uint8_t port_read(struct machine *machine, uint16_t port) {
     return done.byte;
 }
 
-/* The guest writes four bytes to memory. A driver that starts the clock, by RTCCR, would reset a time that was set. */
+/* The guest reads so many bytes of memory, at most eight. A narrow read of the clock shows a part of the four bytes
+ * around it. */
+static uint64_t memory_read(struct machine *machine, uint64_t address, unsigned count) {
+    unsigned within = count == 4 ? 0 : address % 4;
+    if (address < CLOCK || address - CLOCK >= SUPERIO_RTC_WINDOW || within + count > 4)
+        return UINT64_MAX;
+    uint16_t offset = (uint16_t)(address - CLOCK - within);
+    uint32_t value = superio_rtc_read(&machine->clock, offset, machine->now).value; /* 0 if the read is invalid */
+    follow_clock(machine);
+    return value >> 8 * within;
+}
+
+/* The guest writes four bytes to memory. Writes at 0x00C, RTCCR, are dropped: drivers make one when they start, and it
+ * would undo a time that the guest has set. */
 static void memory_write(struct machine *machine, uint64_t address, uint32_t value) {
     if (address < CLOCK || address - CLOCK >= SUPERIO_RTC_WINDOW)
         return;
@@ -174,6 +187,7 @@ int main(void) {
     machine.line_is_down = false;
     turn(&machine, NULL, 0);
 
+    printf("the clock is a PL0%02x\n", (unsigned)memory_read(&machine, CLOCK + 0xFE0, 1));
     memory_write(&machine, CLOCK + 0x010, 1);    /* RTCIMSC: the alarm may raise the line */
     memory_write(&machine, CLOCK + 0x004, 1060); /* RTCMR */
     machine.now += 60;

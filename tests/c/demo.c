@@ -32,6 +32,12 @@ static void read_port(uint16_t port) {
     printf("%02x\n", byte);
 }
 
+/* The guest reads so many bytes of memory. Shows them as one number. */
+static void read_memory(unsigned count) {
+    uint64_t value = memory_read(&machine, 0x09011000 + first, count); /* which may print */
+    printf("%0*llx\n", (int)(2 * count), (unsigned long long)value & ~0ULL >> (64 - 8 * count));
+}
+
 /* The guest sends so many times the same byte. */
 static void send_bytes(void) {
     for (unsigned long long i = 0; i < first; i++)
@@ -65,6 +71,7 @@ static void obey(const char *word) {
     else if (IS("out")) port_write(&machine, (uint16_t)first, (uint8_t)second);
     else if (IS("in")) read_port((uint16_t)first);
     else if (IS("store")) memory_write(&machine, 0x09011000 + first, (uint32_t)second);
+    else if (IS("fetch")) read_memory((unsigned)second);
     else if (IS("handler")) run_guest();
     else if (IS("send")) send_bytes();
     else if (IS("turn")) make_turn((size_t)first, (int)second);

@@ -24,7 +24,26 @@ WRITE = re.compile(r"^    if \(interrupt\(superio_console_write\(.*\n.*\n", re.M
 INTERRUPT = re.compile(r"(?:^/\*[^/]*\*/\n)?^static \w+ interrupt\(.*?^\}\n", re.M | re.S)
 # How long the guest is held until the reader of its output takes some. Afterwards the program drops output.
 A_SECOND = "    end.tv_sec++;\n"
+# The first access of the guest. A kernel whose driver makes another before has been started by a loader that polls.
+READY = "    write_access(1, 0x01);"
+PROBE = """    write_access(1, 0x0F);
+    pthread_mutex_lock(&lock);
+    if (superio_console_wants(&console).input > 0)
+        abort();
+    pthread_mutex_unlock(&lock);
+"""
 SET_PIPE_SIZE = 1031   # of Linux, which Python 3.9 does not name
+# The function of the program in Rust for a line that takes edges; and what a monitor has for one that takes levels.
+CARRY_OUT = re.compile(r"(?:^    ///[^\n]*\n)+    fn carry_out\(.*?^    \}\n", re.M | re.S)
+LEVEL_FIELD = [("    is_stuck: AtomicBool,\n", "    is_stuck: AtomicBool,\n    was_up: AtomicBool,\n"),
+               ("is_stuck, irq", "is_stuck, was_up: AtomicBool::new(false), irq")]
+SET_LINE_IN_RUST = """
+    fn set_line(&self, is_up: bool) {
+        if is_up {
+            let _ = self.irq.try_send(());
+        }
+    }
+"""
 SET_LINE = "static void set_line(bool is_up) { if (is_up) eventfd_write(irq, 1); }\n"
 
 
@@ -65,6 +84,17 @@ def test_event_loop(line, tmp_path):
               "patient")
     text = "the quick brown fox " * 10_000 + "\n"
     check(["sh", "-c", "./patient | (sleep 0.2; cat)"], text.upper(), cwd=tmp_path, input=text)
+
+
+@pytest.mark.needs("cc")
+def test_loader_that_polls(tmp_path):
+    """With the lines for a kernel that does not poll, input no longer goes in after the probe of its driver, until the
+    driver is ready."""
+    program, count = WRITE.subn(rf"\g<0>{code('docs/USING.md', 'c', 'set_polled')}", code("docs/C.md", "c", "int main"))
+    assert count == program.count(READY) == program.count("new(&console, false)") == 1
+    program = program.replace(READY, PROBE + READY).replace("new(&console, false)", "new(&console, true)")
+    compile_c(tmp_path, "console", program, LIBRARY, "-pthread", "-o", "console")
+    check(["./console"], "HELLO\n", cwd=tmp_path, input="hello\n")
 
 
 @pytest.mark.needs("cc")
@@ -149,6 +179,18 @@ def test_one_call(built, tmp_path):
     assert said.splitlines()[-1] == "2 interrupts, false", said
 
 
+def run_rust(program, printed, typed, built, folder):
+    """Runs a program by the lines for Cargo.toml in README.md. The `Machine` of docs/PORT.md is around a guest."""
+    (folder / "src").mkdir()
+    manifest = code("README.md", "toml", "bindings/superio" if "use superio::" in program else "patch")
+    (folder / "Cargo.toml").write_text(PACKAGE + manifest.replace("CLONE", str(ROOT)), encoding="utf-8")
+    if "fn main" not in program:
+        (folder / "src" / "lib.rs").write_text(program, encoding="utf-8")
+        program = (ROOT / "tests/documents/bare_serial.rs").read_text(encoding="utf-8")
+    (folder / "src" / "main.rs").write_text(program, encoding="utf-8")
+    check(["cargo", "run", "--quiet", "--offline"], printed, cwd=folder, env=built, input=typed)
+
+
 @pytest.mark.needs("cargo")
 @pytest.mark.parametrize("document, of, typed, printed", [
     ("README.md", "Console", "", HI), ("README.md", "Trigger", "", "!"), ("docs/RUST.md", "Cell", "", "h"),
@@ -156,13 +198,17 @@ def test_one_call(built, tmp_path):
     ("docs/RUST.md", "RtcState", "", "the line is up: true\n"), ("docs/RUST.md", "is_reset_command", "", BUS),
     ("docs/RUST.md", "fn event_loop", "hello\n", "HELLO\n"), ("docs/PORT.md", "Serial", "", "all came back\n")])
 def test_rust(document, of, typed, printed, built, tmp_path):
-    """By the lines for Cargo.toml in README.md. The `Machine` of docs/PORT.md is around a guest."""
-    (tmp_path / "src").mkdir()
-    program = code(document, "rust", of)
-    manifest = code("README.md", "toml", "bindings/superio" if "use superio::" in program else "patch")
-    (tmp_path / "Cargo.toml").write_text(PACKAGE + manifest.replace("CLONE", str(ROOT)), encoding="utf-8")
-    if "fn main" not in program:
-        (tmp_path / "src" / "lib.rs").write_text(program, encoding="utf-8")
-        program = (ROOT / "tests/documents/bare_serial.rs").read_text(encoding="utf-8")
-    (tmp_path / "src" / "main.rs").write_text(program, encoding="utf-8")
-    check(["cargo", "run", "--quiet", "--offline"], printed, cwd=tmp_path, env=built, input=typed)
+    run_rust(code(document, "rust", of), printed, typed, built, tmp_path)
+
+
+@pytest.mark.needs("cargo")
+def test_levels_in_rust(built, tmp_path):
+    """The program with the function for a line that takes levels. A text of several refills of the FIFO comes back."""
+    level = code("docs/RUST.md", "rust", "was_up.swap") + SET_LINE_IN_RUST
+    program, count = CARRY_OUT.subn(lambda _: level, code("docs/RUST.md", "rust", "fn event_loop"))
+    for old, new in LEVEL_FIELD:
+        count += program.count(old)
+        program = program.replace(old, new)
+    assert count == 3
+    text = "the quick brown fox " * 100 + "\n"
+    run_rust(program, text.upper(), text, built, tmp_path)
