@@ -5,7 +5,7 @@
 
 #include <time.h>
 
-enum { RTCMIS = 0x018 };
+enum { RTCCR = 0x00C, RTCMIS = 0x018 };
 
 static superio_rtc rtc;
 static bool was_up; /* the line, as the interrupt controller knows it */
@@ -37,13 +37,14 @@ static void follow(uint64_t now) {
 }
 
 /* The guest accesses an address without memory. The clock takes four bytes at any offset. A narrower read shows a part
- * of the four around it, as EDK II expects, or ones if it crosses two words. A narrower write has no effect. */
+ * of the four around it, as EDK II expects, or ones if it crosses two words. A narrower write has no effect, nor has one
+ * of RTCCR: drivers make one when they start, and it would undo a time that the guest has set. */
 void clock_access(uint64_t address, bool is_write, uint8_t *bytes, unsigned count) {
     uint16_t offset = (uint16_t)(address - CLOCK_BASE), within = count == 4 ? 0 : offset % 4;
     bool is_clock = address >= CLOCK_BASE && address < CLOCK_BASE + SUPERIO_RTC_WINDOW && within + count <= 4;
     uint64_t now = moment();
     uint32_t value;
-    if (is_clock && is_write && count == 4) {
+    if (is_clock && is_write && count == 4 && offset != RTCCR) {
         memcpy(&value, bytes, sizeof value);
         superio_rtc_write(&rtc, offset, value, now);
     } else if (is_clock && !is_write) {
