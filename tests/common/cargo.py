@@ -19,7 +19,7 @@ ORIGINAL = Path(os.environ["VM_SUPERIO"]).resolve() if "VM_SUPERIO" in os.enviro
 DEBIAN_RUSTC = Path("/usr/bin/rustc")
 # Most is built once, and nothing is debugged: a linker takes a second for what a debugger needs of Rust's own library.
 SETTINGS = {"CARGO_INCREMENTAL": "0", "CARGO_PROFILE_DEV_DEBUG": "0", "CARGO_PROFILE_DEV_STRIP": "debuginfo",
-            "CARGO_NET_OFFLINE": "true"}
+            "RUSTDOCFLAGS": "-C strip=debuginfo", "CARGO_NET_OFFLINE": "true"}
 # A program over bindings/rust or, without the feature `further`, over a vm-superio, which it takes by the line of the
 # README. It needs no default feature of it.
 PROGRAM = """
