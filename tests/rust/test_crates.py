@@ -3,6 +3,7 @@
 own tests by `cargo test`, with checks of overflow; here they run as released, with Debian's Rust and on other
 processors.
 """
+import fcntl
 import random
 import re
 import sys
@@ -68,7 +69,8 @@ def test_formatted(crate, tmp_path):
 @CRATES
 def test_as_released(crate, tmp_path):
     """With other random numbers for each commit."""
-    ran = copied_crate(tmp_path, crate=crate).test("--release", "--lib", "--tests")
+    ran = copied_crate(tmp_path, crate=crate).test("--release", "--lib", "--tests",
+                                                   CARGO_PROFILE_RELEASE_CODEGEN_UNITS="1")
     assert ran == number_of_tests(crate)
 
 
@@ -115,16 +117,24 @@ def test_a_dropped_result_warns(tmp_path):
 
 
 @pytest.mark.needs("debian-rust", "serde")
-def test_states_through_serde(tmp_path):
-    """States go through JSON and bincode, with Debian's crates of these and its Rust."""
-    add_crate(tmp_path, (ROOT / "tests" / "rust" / "states.rs").read_text(encoding="utf-8"), f"""
+def test_states_through_serde():
+    """States go through JSON and bincode, with Debian's crates of these and its Rust. Those stay in `out`, since to build
+    them takes long, and ours are built anew."""
+    folder = ROOT / "out" / "states"
+    folder.mkdir(parents=True, exist_ok=True)
+    with (folder / "lock").open("w") as lock:
+        fcntl.flock(lock, fcntl.LOCK_EX)   # two may run at once
+        (folder / "Cargo.lock").unlink(missing_ok=True)   # Debian may have other versions since
+        add_crate(folder, (ROOT / "tests" / "rust" / "states.rs").read_text(encoding="utf-8"), f"""
 [dependencies]
 bincode = "1"
 serde = "1"
 serde_json = "1"
 vm-superio = {{ path = "{BINDINGS}", features = ["serde"] }}
 """)
-    assert Cargo(tmp_path, oldest(), DEBIAN).test("--lib") >= 1
+        cargo = Cargo(folder, oldest(), DEBIAN)
+        cargo.check("clean", *(f"--package={name}" for name in ("states", "superio", "vm-superio")))
+        assert cargo.test("--lib") >= 1
 
 
 def calls_with_panics():

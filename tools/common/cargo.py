@@ -13,7 +13,7 @@ BINDINGS, DEVICES = ROOT / "bindings" / "rust", ROOT / "bindings" / "superio"
 DEBIAN_RUSTC = Path("/usr/bin/rustc")
 # Most is built once, and nothing is debugged: a linker takes a second for what a debugger needs of Rust's own library.
 SETTINGS = {"CARGO_INCREMENTAL": "0", "CARGO_PROFILE_DEV_DEBUG": "0", "CARGO_PROFILE_DEV_STRIP": "debuginfo",
-            "CARGO_NET_OFFLINE": "true"}
+            "RUSTDOCFLAGS": "-C strip=debuginfo", "CARGO_NET_OFFLINE": "true"}
 
 
 def add_crate(folder, code, rest="[features]\nderive = []\n"):

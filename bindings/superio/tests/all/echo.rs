@@ -4,11 +4,11 @@ use std::io;
 #[cfg(unix)]
 use std::{io::Read, os::unix::net::UnixStream};
 
-use echo::Machine;
+use example::Machine;
 
 #[allow(dead_code)] // its main
-#[path = "../examples/echo.rs"]
-mod echo;
+#[path = "../../examples/echo.rs"]
+mod example;
 
 const DATA: u8 = 0;
 const IER: u8 = 1;

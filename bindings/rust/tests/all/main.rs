@@ -1,0 +1,5 @@
+// SPDX-License-Identifier: Apache-2.0 OR BSD-3-Clause
+//! The tests as one program: with one for each file, the compiler would make and link most of the code several times.
+mod devices;
+mod line;
+mod random_objects;
