@@ -5,12 +5,12 @@
 
 static uint32_t random_state;
 
-/* A number below `bound`, by Marsaglia's xorshift. */
+/* A number below `bound`, by Marsaglia's xorshift. A product takes less than a remainder, most of all in an emulator. */
 static unsigned draw(unsigned bound) {
     random_state ^= random_state << 13;
     random_state ^= random_state >> 17;
     random_state ^= random_state << 5;
-    return random_state % bound;
+    return (unsigned)((uint64_t)random_state * bound >> 32);
 }
 
 static bool once_in(unsigned times) { return draw(times) == 0; }

@@ -60,17 +60,16 @@ static void handler_step(void) {
 /* From m, with the handler at h, others may lead to n and k. What is not named here stays. */
 static bool others_may(const struct view *m, unsigned h, const struct view *n, unsigned k) {
     unsigned lost = m->pending & ~n->pending, got = n->pending & ~m->pending;
-    if (!is_sane(n) || n->len < m->len || k > SERVES || (is_in_handler && h != k))
-        return false;
-    if ((h == SERVES && k != SERVES) || (k == RUNS && h != RUNS))
-        return false;
-    if (k != BEGUN && (h == BEGUN || is_asked_for(m)) && !is_asked_for(n))
-        return false;
-    if (h == SERVES)
-        return !lost && !(got & 2);
-    if (k == SERVES)
-        return !(n->pending & 2);
-    return !lost && !(got & 2) && (k != IDLE || !((h != IDLE || is_rda_raised(m)) && !is_rda_raised(n)));
+    bool is_possible = is_sane(n), was_asked = is_asked_for(m), stays_asked = is_asked_for(n);
+    bool was_raised = is_rda_raised(m), stays_raised = is_rda_raised(n);
+    is_possible = is_possible && n->len >= m->len && k <= SERVES && (!is_in_handler || h == k)
+        && (h != SERVES || k == SERVES) && (k != RUNS || h == RUNS)
+        && (k == BEGUN || (h != BEGUN && !was_asked) || stays_asked);
+    bool is_kept = !lost && !(got & 2);
+    return is_possible
+        && (h == SERVES       ? is_kept
+                : k == SERVES ? !(n->pending & 2)
+                              : is_kept && (k != IDLE || (h == IDLE && !was_raised) || stays_raised));
 }
 
 static unsigned accesses;
@@ -92,16 +91,17 @@ void between(void) {
 static bool invariant(void) {
     struct view m;
     look(&m, &mon);
-    bool base = is_sane(&m) && !(mon.port.line_control & 0x80) && mon.is_ready && up.ier < 16
+    bool is_good = is_sane(&m), is_asked = is_asked_for(&m), is_raised = is_rda_raised(&m), has_output = has_to_send();
+    bool base = is_good && !(mon.port.line_control & 0x80) && mon.is_ready && up.ier < 16
         && (mon.port.interrupt_enable == up.ier || mon.port.interrupt_enable == (up.ier | UART_IER_THRI)) /* the timer's */
-        && is_set(up.ier, UART_IER_RDI) && state.xmit.head >= 0 && state.xmit.head < 4096 && state.xmit.tail >= 0
+        && up.ier & UART_IER_RDI && state.xmit.head >= 0 && state.xmit.head < 4096 && state.xmit.tail >= 0
         && state.xmit.tail < 4096 && !up.port.lock.is_taken && flow <= STARTING
         && (flow == SETTLED || tty.is_stopped == (flow == STOPPING))
         && handler <= SERVES && (up.port.ignore_status_mask & ~0x1fu) == 0;
     /* What is to send has THRE enabled; THRE is pending if it is, unless the handler is about to serve the port. */
-    bool sends = !has_to_send() || is_set(up.ier, UART_IER_THRI);
-    bool thre = handler == SERVES || !is_set(up.ier, UART_IER_THRI) || m.pending & 2;
-    return base && sends && thre && (handler == BEGUN || is_asked_for(&m)) && (handler != IDLE || is_rda_raised(&m));
+    bool sends = !has_output || up.ier & UART_IER_THRI;
+    bool thre = handler == SERVES || !(up.ier & UART_IER_THRI) || m.pending & 2;
+    return base && sends && thre && (handler == BEGUN || is_asked) && (handler != IDLE || is_raised);
 }
 
 /* Nothing is in flight, no turn is owed, the handler is idle: nothing goes on unless something comes from outside. */

@@ -93,7 +93,8 @@ static void make_queue(unsigned place) {
 
 /* Whether something is left to send, and flow control has not stopped it, nor is about to start it. */
 static bool has_to_send(void) {
-    return (up.port.x_char || waiting_output() > 0) && !uart_tx_stopped(&up.port) && flow != STARTING;
+    bool waits = waiting_output() > 0, may_send = !uart_tx_stopped(&up.port);
+    return (up.port.x_char || waits) && may_send && flow != STARTING;
 }
 
 /* What else uses the port, always with its lock: a step of it, if it is its turn. */

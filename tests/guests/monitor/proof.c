@@ -28,8 +28,6 @@ static bool is_asked(void) { return mon.line == LEVEL ? mon.was_up : mon.edges >
 
 static void host_step(void) { turn(choose(MANY)); }
 
-static bool is_set(unsigned byte, unsigned bits) { return (byte & bits) == bits; }
-
 /* What of the monitor and the port the relation speaks of. */
 struct view {
     unsigned char len, pending, enable, status, modem_control, modem_status;
@@ -62,32 +60,38 @@ static unsigned enabled(const struct view *m) { return m->pending & ((m->enable 
 /* The poll has its limit while bytes are held that IER lets interrupt, if LIMIT is defined. */
 static bool has_limit(const struct view *m) {
 #ifdef LIMIT
-    return m->has_timer || m->len == 0 || !is_set(m->enable, 1);
+    return m->has_timer || m->len == 0 || !(m->enable & 1);
 #else
     return m->line != LEVEL || !m->has_timer;
 #endif
 }
 
-/* Holds always, also while a step is made, and while a driver tests the port. */
+/* Holds always, also while a step is made, and while a driver tests the port. Here and below functions are called before a
+ * condition, and not in it: CBMC takes a condition as one formula then, and otherwise makes branches of its parts. */
 static bool is_coherent(const struct view *m) {
+    bool is_up = enabled(m) != 0, is_limited = has_limit(m);
     return m->len <= SUPERIO_SERIAL_FIFO_SIZE && !(m->pending & ~6u) && (m->len > 0 || !(m->pending & 4))
         && m->status == (m->len > 0 ? 0x61 : 0x60) && m->modem_status == 0xb0 && m->enable < 16 && m->waiting <= MANY
         && m->edges <= MANY && (!m->is_ready || m->waiting == 0 || m->len > 0 || m->modem_control & 0x10)
         && m->line >= FIRST_LINE && m->line <= LAST_LINE && (m->line != MERGED || m->edges <= 1)
-        && (m->line == LEVEL ? m->was_up == (enabled(m) != 0) && !m->is_refused : !m->was_up) && has_limit(m);
+        && (m->line == LEVEL ? m->was_up == is_up && !m->is_refused : !m->was_up) && is_limited;
 }
 
 /* The same once it is tested. */
-static bool is_sane(const struct view *m) { return is_coherent(m) && !(m->modem_control & 0x10); }
+static bool is_sane(const struct view *m) {
+    bool holds = is_coherent(m);
+    return holds && !(m->modem_control & 0x10);
+}
 
 /* The guest is interrupted for what is pending, or a turn retries it, or a write of IER does. */
 static bool is_asked_for(const struct view *m) {
+    unsigned asks = enabled(m);
     return m->line == LEVEL
-        || ((!m->pending || m->edges > 0 || m->is_refused) && (!enabled(m) || m->edges > 0 || m->has_timer));
+        || ((!m->pending || m->edges > 0 || m->is_refused) && (!asks || m->edges > 0 || m->has_timer));
 }
 
 /* RDA is pending if bytes are held that IER lets interrupt. */
-static bool is_rda_pending(const struct view *m) { return !is_set(m->enable, 1) || m->len == 0 || m->pending & 4; }
+static bool is_rda_pending(const struct view *m) { return !(m->enable & 1) || m->len == 0 || m->pending & 4; }
 
 /* Held bytes have raised RDA, or a turn of the event loop will: it has a timer, and `turns` proves of each turn that it
  * does. */
@@ -106,7 +110,7 @@ static void turn_interrupts(bool reads_iir) {
     mon.can_refuse = false;
     host_step();
     look(&m, &mon);
-    REACHED(m.len > 0 && is_set(m.enable, 1) && !reads_iir);
+    REACHED(m.len > 0 && m.enable & 1 && !reads_iir);
     REACHED(m.len == 0 && enabled(&m) && !reads_iir);
     __CPROVER_assert(is_rda_pending(&m), "turn: held bytes have raised RDA");
     __CPROVER_assert(reads_iir || !enabled(&m) || is_asked(), "turn: the guest is interrupted");
