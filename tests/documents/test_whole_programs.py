@@ -9,7 +9,7 @@ import time
 
 import pytest
 from documents import Document
-from harness import LIMIT, ROOT, check
+from harness import LIMIT, ROOT, at_least, check, run
 
 PACKAGE = '[package]\nname = "hi"\nversion = "0.1.0"\nedition = "2021"\n\n'
 LIBRARY = ROOT / "prebuilt" / f"{platform.machine()}-linux" / "libsuperio_c.a"
@@ -111,6 +111,52 @@ def test_output_that_waits_at_the_end(tmp_path):
         time.sleep(0.5)
         with open(reader, "rb") as output:
             assert output.read() == before + text.upper()
+
+
+WATCH = ROOT / "tests" / "documents" / "console_rules.c"
+WRAPPED = [f"-Wl,--wrap={name}" for name in sorted({*re.findall(r"__wrap_(\w+)", WATCH.read_text(encoding="utf-8"))})]
+MANY = "the quick brown fox " * 2_000 + "\n"   # several times what waits as output
+# A rule that a monitor breaks, by an edit of the program of the page.
+FORGETFUL = at_least(12, {
+    "a refusal is not told": ("return superio_console_refuse(&console).wakes || work.wakes;", "break;"),
+    "an edge is not raised": ("i < work.interrupts", "i + 1 < work.interrupts"),
+    "an edge is raised that nobody asks for": ("i < work.interrupts", "i < work.is_up"),
+    "the loop is not woken": (".wakes || work.wakes;", ".wakes;"),
+    "the loop is woken for nothing": ("if (interrupt(done.work))", "if (interrupt(done.work) || offset == 5)"),
+    "a guest is not held": ("                is_stuck = false;\n", ""),
+    "a guest is held for nothing": ("(&console) && !is_stuck)", "(&console))"),
+    "a guest that is held is not told of room": ("pthread_cond_broadcast(&has_room);", ""),
+    "there is not one turn between two polls": ("interrupt(superio_console_turn(&console));",
+                                                "if (files[0].revents) interrupt(superio_console_turn(&console));"),
+    "its poll ends at another time": ("wants.turn ? 5 : -1", "-1"),
+    "what has woken it wakes it again": ("if (files[0].revents)", "if (files[1].revents)"),
+    "more input is read than is wanted": ("bytes, wanted);", "bytes, sizeof bytes);"),
+    "other output is consumed than was written": ("consume(&console, (size_t)count)", "consume(&console, waiting)"),
+    "a console is called without its lock": ("    pthread_mutex_lock(&lock);\n    superio_console_read_effects",
+                                             "    superio_console_read_effects"),
+}.items())
+
+
+def watched(program, folder):
+    """What console_rules.c says of a program like that of the page, and its status."""
+    (folder / "watch.c").write_bytes(WATCH.read_bytes())
+    compile_c(folder, "console", program, "watch.c", LIBRARY, *WRAPPED, "-pthread", "-o", "console")
+    ran = run([folder / "console"], input=MANY, stdout=subprocess.DEVNULL, stderr=subprocess.PIPE)
+    return ran.returncode, ran.stderr
+
+
+@pytest.mark.needs("cc")
+def test_rules_of_the_event_loop(tmp_path):
+    """It keeps those of superio.h, whatever the interrupt line refuses and however long its reader takes nothing."""
+    assert watched(code("docs/C.md", "c", "int main"), tmp_path) == (0, "held 1, refused 1, dropped 1\n")
+
+
+@pytest.mark.needs("cc")
+@pytest.mark.parametrize("rule, edit", FORGETFUL, ids=lambda it: it if isinstance(it, str) else "")
+def test_an_event_loop_that_breaks_a_rule(rule, edit, tmp_path):
+    program = code("docs/C.md", "c", "int main")
+    assert program.count(edit[0]) == 1
+    assert watched(program.replace(*edit), tmp_path) == (3, f"{rule}\n")
 
 
 @pytest.mark.needs("cc")

@@ -1,6 +1,7 @@
 # SPDX-License-Identifier: Apache-2.0 OR BSD-3-Clause
-"""The examples in Python, as programs."""
+"""The examples in Python, as programs, and by the rules that superio.h has for a monitor around a console."""
 import fcntl
+import itertools
 import os
 import random
 import select
@@ -9,9 +10,12 @@ import subprocess
 import sys
 import termios
 import time
+from contextlib import suppress
 
 import pytest
-from harness import LIMIT, ROOT
+from harness import LIMIT, ROOT, at_least
+from seeds import random_source
+from superio import Work
 
 EXAMPLE = ROOT / "examples" / "python" / "pty_console.py"
 GREETING = b"Type, and Ctrl-D to switch off.\r\n"
@@ -84,3 +88,178 @@ def test_nobody_has_to_look(program):
     time.sleep(0.2)
     console.file = os.open(console.path, os.O_RDWR | os.O_NOCTTY | os.O_NONBLOCK)
     assert console.exchange(b"a", len(GREETING) + 1) == GREETING + b"a"
+
+
+class Watched:
+    """A console that notes each call of it, with what it gave."""
+
+    def __init__(self, monitor):
+        self.console, self.monitor, self.called = monitor.console, monitor, []
+
+    def __getattr__(self, name):
+        def call(*arguments):
+            assert self.monitor.lock.locked(), "a call without the lock"
+            result = getattr(self.console, name)(*arguments)
+            self.called.append((name, *arguments, result))
+            return result
+        return call
+
+    def noted(self):
+        """The calls since the last time, and the works that they left to do."""
+        called, self.called = self.called, []
+        works = [it[-1] if isinstance(it[-1], Work) else getattr(it[-1], "work", None) for it in called]
+        return called, [it for it in works if it]
+
+
+class Machine:
+    """The example's monitor in one thread: a guest that makes random accesses, somebody who types and reads, or does
+    not, and turns of the event loop. The guest is held in vain each second time, and otherwise until the loop has
+    made a turn and output was read."""
+
+    def __init__(self, text):
+        module = {"__name__": "example"}
+        exec(compile(text, EXAMPLE.name, "exec"), module)
+        at_once = module["at_once"]
+
+        def narrow(call, *words):   # the terminal takes a part of what it gets
+            return at_once(call, *(it[:999] if isinstance(it, bytes) else it for it in words))
+        module["at_once"] = narrow
+        self.held_for, self.monitor = module["HELD_FOR"], module["Monitor"]()
+        self.monitor.console = self.console = Watched(self.monitor)
+        self.monitor.interrupt = self.monitor.room = self
+        self.typed = self.received = self.sent = self.shown = b""
+        self.edges = self.holds = self.told = 0
+        self.is_stuck, self.bytes = False, itertools.cycle(range(251))
+        os.set_blocking(self.monitor.their_end, False)
+
+    # What the monitor calls of its interrupt line, and of those who wait for room
+
+    def set(self):
+        self.edges += 1
+
+    def notify_all(self):
+        self.told += 1
+
+    def wait_for(self, has_room, seconds):
+        assert seconds == self.held_for and not self.is_stuck, "the guest is held for nothing"
+        if has_room():
+            return True
+        self.holds += 1
+        self.follow(is_guest=True)
+        self.is_stuck = self.holds % 2 > 0
+        while not self.is_stuck and not has_room():
+            self.read_shown(4096)
+            self.monitor.make_turn()
+            self.follow()
+        return not self.is_stuck
+
+    def is_woken(self):
+        try:
+            return bool(os.read(self.monitor.woken, 4096))
+        except BlockingIOError:
+            return False
+
+    def follow(self, is_guest=False):
+        """After an access of the guest, or a turn: what it left to do was done, and no more. The loop, which goes round
+        again, may also wake itself."""
+        called, works = self.console.noted()
+        assert self.edges == sum(it.interrupts for it in works), "other edges are raised"
+        is_woken, self.edges = self.is_woken(), 0
+        assert not is_guest or is_woken == any(it.wakes for it in works), "the loop is not woken, or for nothing"
+        if is_guest:
+            return
+        for name, *arguments, result in called:
+            if name == "receive":
+                self.received += arguments[0]
+                assert result.accepted == len(arguments[0]), "more input is read than is wanted"
+            if name == "consume":
+                self.sent += self.waiting[:arguments[0]]
+                self.is_stuck = False
+            if name == "output":
+                self.waiting = result
+        names = [it[0] for it in called if it[0] not in ("wants", "output", "is_full")]
+        assert names.count("turn") == 1 and names[-1] == "turn", "no turn, or not at the end"
+        assert self.told == names.count("consume"), "nobody is told of room"
+        self.told = 0
+        self.read_shown(0)
+        assert self.typed.startswith(self.received), "other input goes in"
+
+    def read_shown(self, count):
+        with suppress(BlockingIOError):
+            self.shown += os.read(self.monitor.their_end, count) if count else b""
+        assert self.sent.startswith(self.shown), "other output is consumed"
+
+    # What happens
+
+    def write(self, offset, value):
+        holds, was_stuck = self.holds, self.is_stuck
+        self.monitor.write(offset, value)
+        if self.holds == holds:
+            assert was_stuck or not self.console.console.is_full(), "the guest is not held"
+            self.follow(is_guest=True)
+
+    def send(self):
+        """Until no more fits, and a few bytes more."""
+        while not self.console.console.is_full():
+            self.write("THR", next(self.bytes))
+        for _ in range(3):
+            self.write("THR", next(self.bytes))
+
+    def turn(self):
+        with self.monitor.lock:
+            self.monitor.make_turn()
+            self.follow()
+
+    def go_on(self, source):
+        for step in range(100):
+            kind = source.randrange(5)
+            if step % 25 == 24:
+                self.send()
+            elif kind == 0 and len(self.typed) - len(self.received) < 1000:
+                data = source.randbytes(source.randrange(1, 200))
+                self.typed += data[:os.write(self.monitor.their_end, data)]
+            elif kind == 1:
+                self.read_shown(source.randrange(1, 4096))
+            elif kind == 2:
+                self.turn()
+            elif kind == 3:
+                self.monitor.read(source.choice(["RBR", "IIR", "LSR"]))
+                self.follow(is_guest=True)
+            else:
+                self.write(*source.choice([("IER", 1), ("IER", 3), ("THR", next(self.bytes))]))
+
+
+# A rule that a monitor breaks, by an edit of the example.
+FORGETFUL = at_least(9, {
+    "other edges": ("range(work.interrupts)", "range(work.interrupts - 1)"),
+    "the loop is not woken": ("if work.wakes:", "if work.interrupts:"),
+    "or for nothing": ("if work.wakes:", "if work:"),
+    "the guest is not held": ("            self.holds = True\n", ""),
+    "is held for nothing": ("self.holds = self.room.wait_for(", "self.room.wait_for("),
+    "nobody is told": ("self.room.notify_all()", "pass"),
+    "output is consumed": ("self.console.consume(taken)", "self.console.consume(len(waiting))"),
+    "no turn": ("self.carry_out(self.console.turn())", "self.carry_out(self.console.turn()) if data else None"),
+    "without the lock": ("        with self.lock:\n            done", "        if True:\n            done"),
+}.items())
+
+
+def play(text):
+    machine = Machine(text)
+    try:
+        machine.go_on(random_source("a monitor in Python"))
+    finally:
+        for file in (machine.monitor.terminal, machine.monitor.their_end, machine.monitor.woken, machine.monitor.waker):
+            os.close(file)
+    return machine.holds
+
+
+def test_rules_of_a_monitor():
+    assert play(EXAMPLE.read_text(encoding="utf-8")) > 1
+
+
+@pytest.mark.parametrize("rule, edit", FORGETFUL, ids=lambda it: it if isinstance(it, str) else "")
+def test_a_monitor_that_breaks_a_rule(rule, edit):
+    text = EXAMPLE.read_text(encoding="utf-8")
+    assert text.count(edit[0]) == 1
+    with pytest.raises(AssertionError, match=rule):
+        play(text.replace(*edit))

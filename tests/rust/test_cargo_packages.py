@@ -116,3 +116,26 @@ def test_links(packed, crate):
     package = packed[crate][2]
     links = map("".join, LINK.findall(CODE.sub("", (package / "README.md").read_text(encoding="utf-8"))))
     assert not [it for it in links if not re.match(r"#|\w+:", it) and not (package / it).exists()]
+
+
+@pytest.fixture(scope="module")
+def build_script(tmp_path_factory):
+    """The program by which Cargo learns the name of the shared library, for a binary interface of two digits."""
+    folder = tmp_path_factory.mktemp("build-script")
+    code = (ROOT / "bindings/c/from-source/src/lib.rs").read_text(encoding="utf-8")
+    changed, count = re.subn(r"(?<=const ABI: u32 = )\d+", "12", code)
+    assert count == 1
+    (folder / "src").mkdir()
+    (folder / "src/lib.rs").write_text(changed, encoding="utf-8")
+    (folder / "build.rs").write_bytes((ROOT / "bindings/c/from-source/build.rs").read_bytes())
+    check(["rustc", "--edition", "2021", "build.rs"], "", cwd=folder)
+    return folder / "build"
+
+
+@pytest.mark.parametrize("system", ["linux", "android", "macos", "windows", "none", "unknown", None])
+def test_name_of_the_shared_library(build_script, system):
+    """Only a library for Linux is given one, on whatever system Cargo runs: other linkers have not the option."""
+    environment = {"CARGO_CFG_TARGET_OS": system} if system else {}
+    said = check([build_script], env=environment).splitlines()
+    options = [line for line in said if not line.startswith("cargo:rerun-if-changed=")]
+    assert options == ["cargo:rustc-cdylib-link-arg=-Wl,-soname,libsuperio.so.12"] * (system == "linux")

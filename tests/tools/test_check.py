@@ -253,9 +253,16 @@ def test_another_user(machine):
         assert (status, said.splitlines()[-1]) == (0, PASSED), said
         assert len([it for it in called if it.startswith("dpkg-deb")]) == number
     assert not (machine.bin / "cargo").exists()
-    machine.lacks("coqc")
+
+
+def test_what_is_unpacked_is_not_asked_for_again(machine):
+    """Even if nobody finds it there, and whatever is unpacked after it."""
+    machine.stand_in("id", "[ $1 != -u ] && echo somebody || echo 1000")
     machine.stand_in("dpkg-deb", "")
-    assert [bool(installs(machine.run("tools/check")[2])) for _ in range(2)] == [True, False], "nobody finds it there"
+    for lacking, packages in [("coqc", ["coq"]), ("", []), ("rustc cc", ["gcc rustc"]), ("cargo", ["cargo"]), ("", [])]:
+        machine.lacks(*lacking.split())
+        said = machine.run("tools/check")[1]
+        assert re.findall("^Installs what this machine lacks of Debian 12: (.*)$", said, re.M) == packages, said
 
 
 def test_another_user_finds_each_kind_of_file(machine):

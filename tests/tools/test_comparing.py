@@ -65,7 +65,7 @@ def test_check_of_a_status(end):
 def test_check_of_what_is_printed(text):
     assert check(["printf", "%s", text], text) == check(["printf", "%s", text]) == text
     for it in altered(text):
-        assert refuses(check, ["printf", "%s", text], it), it
+        assert refuses(check, ["printf", "%s", text], it) and refuses(check, ["printf", "%s", it], text), it
 
 
 @pytest.mark.parametrize("end", ["", "bad line 3"])

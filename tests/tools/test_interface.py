@@ -1,6 +1,7 @@
 # SPDX-License-Identifier: Apache-2.0 OR BSD-3-Clause
 """What is made of the header, in a copy: what a header adds is written, and one that lacks a single thing of the
 interface is refused."""
+import re
 import shutil
 import sys
 
@@ -66,6 +67,29 @@ def test_what_is_added_is_written(top):
         "field superio_added.other uint8_t at 1 size 1", "function void superio_add(superio_added *)",
         "struct superio_added size 2"]
     assert table.splitlines()[0] == before[0] and not {*before} - {*table.splitlines()}
+
+
+def versions(text):
+    """From which version on the package has each function, by Debian's table."""
+    return dict(re.findall(r"^ (\w+)@Base (\S+)$", text, re.M))
+
+
+def test_each_function_keeps_its_version(top):
+    """A program that calls an old one needs no newer package. Under another number, which may be longer, all begin
+    anew."""
+    kept = {name: f"0.1.{place}" for place, name in enumerate(versions(written(top)[2]))}
+    lines = [f" {name}@Base {version}" for name, version in kept.items()]
+    (top / SYMBOLS).write_text("\n".join(["a head", *lines, ""]), "ascii")
+    (top / "VERSION").write_text("9.8.7\n", "ascii")
+    assert make(top).returncode == 0
+    assert versions(written(top)[2]) == {**kept, "superio_add": "9.8.7"}
+    change(top, "#define SUPERIO_ABI ", "#define SUPERIO_ABI 1")
+    assert make(top).returncode == 0
+    number = f"1{SHARED.rpartition('.')[2]}"
+    assert [it.name for it in (top / "debian").glob("*.symbols")] == [f"libsuperio{number}.symbols"]
+    symbols = (top / f"debian/libsuperio{number}.symbols").read_text("ascii")
+    assert symbols.startswith(f"libsuperio.so.{number} libsuperio{number} #MINVER#\n")
+    assert versions(symbols) == dict.fromkeys([*kept, "superio_add"], "9.8.7")
 
 
 @pytest.mark.parametrize("name", CHANGES)

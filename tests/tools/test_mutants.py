@@ -176,6 +176,9 @@ def test_a_command_can_do_no_harm(tmp_path):
     assert Path("/dev/full").is_char_device() and copy.run(f"! echo > {TOOL.LISTED}") == "passed"
     assert copy.run("sleep 1000 & sleep 1000", seconds=1) == "late"
     assert copy.run("while :; do :; done", processor=1) == "failed"
+    assert [copy.run(f"truncate -s {size}M file") for size in (150, 250)] == ["passed", "failed"]
+    assert [copy.run("/usr/bin/python3 -c 'bytes(600_000_000)'", *limit) for limit in ([], [1_000_000], [500_000])] == [
+        "passed", "passed", "failed"]
 
 
 def test_the_fastest_tests_that_reach_a_line_come_first():

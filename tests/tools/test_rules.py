@@ -14,6 +14,20 @@ from harness import ROOT, check, run
 
 HEAD = "import pytest\nfrom harness import at_least\n"
 RUN = HEAD + "def test():\n    "
+# A test that has a mark at each place where one may stand.
+LEVELS = "file", "class", "test"
+MARKED = HEAD + """pytestmark = pytest.mark.{}
+@pytest.mark.{}
+class TestIt:
+    @pytest.mark.{}
+    def test(self): pass"""
+
+
+def marked(level, mark, other):
+    """The test with one mark at a level and another one at the others."""
+    return MARKED.format(*(mark if it == level else other for it in LEVELS))
+
+
 # Tests, and what pytest counts of them at its end.
 BROKEN = {
     "a good one": (RUN + "pass", "1 passed"),
@@ -39,6 +53,10 @@ BROKEN = {
     "a place that is not there": (HEAD + "@pytest.mark.where('Deno')\ndef test(): pass", "1 skipped"),
     "a place of a file that is not there": (HEAD + "pytestmark = pytest.mark.where('Deno')\ndef test(): pass",
                                             "1 skipped"),
+    **{f"a tool of a {level} that is left out, beside missing ones":
+       (marked(level, "needs('node')", "needs('chromium')"), "1 skipped") for level in LEVELS},
+    **{f"a place of a {level} that is not there, beside another one":
+       (marked(level, "where('Deno')", "where('Linux on x86-64')"), "1 skipped") for level in LEVELS},
 }
 
 
@@ -104,8 +122,10 @@ def test_what_workers_count(tmp_path):
     said = run_pytest(tmp_path, RUN + "pass", "--without=node", "-n2", "--dist=loadfile").stdout
     failed = {int(it) for it in re.findall(r"^(?:FAILED|ERROR) tests/test_(\d+)\.py", said, re.M)}
     assert failed == {number for number, (_, end) in enumerate(BROKEN.values()) if "failed" in end or "error" in end}
-    assert re.search(r"\d failed, 2 passed, 3 skipped, \d+ errors in .*\n$", said), said
-    assert "NOT TRIED: 1 tests, since --without names node\n" in said
+    skipped = [text for text, end in BROKEN.values() if end == "1 skipped"]
+    assert re.search(rf"\d failed, 2 passed, {len(skipped)} skipped, \d+ errors in .*\n$", said), said
+    left_out = sum("'node'" in text for text in skipped)
+    assert f"NOT TRIED: {left_out} tests, since --without names node\n" in said
 
 
 # A test that runs, one that waits for a place, and one that --without names.

@@ -1,0 +1,93 @@
+# SPDX-License-Identifier: Apache-2.0 OR BSD-3-Clause
+"""What tools/recheck does around its steps, for which there are stand-ins here: each option reaches the step that it is
+for, and the first step that fails ends the run, which then does not say that all is proved."""
+import os
+import subprocess
+import sys
+from pathlib import Path
+
+import pytest
+from harness import ROOT
+
+import antt2coq
+import rerun
+import rust2coq
+from coq import Failed
+
+# The steps in their order, each with what it gives and how it fails. The last one is a program, which has a status.
+STEPS = {"translated": (({"Code": "(* made *)"}, ["rs_f"]), rust2coq.Refused),
+         "rustc": ([("a crate", 7)], rust2coq.Refused), "check": (None, Failed), "audit": (["a", "b"], Failed),
+         "compare": (None, Failed), "coqchk": (None, None)}
+PLACES = {"translated": (rerun, "translated"), "rustc": (rerun.expanded, "compare"), "check": (rerun, "check"),
+          "audit": (rerun, "audit"), "compare": (rerun.statements, "compare")}
+ALL = ["--chk", "--rustc", "a-rustc"]   # options without which a step is left out
+
+
+@pytest.fixture
+def recheck(monkeypatch, tmp_path):
+    """Runs it with some words, while one step fails in some way. Gives why it ended, or None, and what it called."""
+    def recheck(*words, failing=None, fault=None):
+        called = {}
+
+        def stand_in(name):
+            def call(*arguments):
+                called[name] = arguments
+                if name == failing:
+                    raise (fault or STEPS[name][1])(f"no {name}")
+                return STEPS[name][0]
+            return call
+        for name, (module, function) in PLACES.items():
+            monkeypatch.setattr(module, function, stand_in(name))
+        for name in ("coqc", "coqchk"):
+            text = f'#!/bin/sh\necho "$PWD $*" > {tmp_path}/said\nexit {3 * (name == failing)}\n'
+            (tmp_path / name).write_text(text, encoding="ascii")
+            (tmp_path / name).chmod(0o755)
+        monkeypatch.setenv("PATH", f"{tmp_path}:{os.environ['PATH']}")
+        monkeypatch.setattr(sys, "argv", ["recheck", *words])
+        try:
+            rerun.main(None)
+            end = None
+        except (SystemExit, subprocess.CalledProcessError) as ended:
+            end = str(ended)
+        if (said := tmp_path / "said").exists():
+            called["coqchk"] = said.read_text("utf-8").split()
+        return end, called
+    return recheck
+
+
+@pytest.mark.parametrize("name, fault", [*((name, fault) for name, (_, fault) in STEPS.items()),
+                                         ("translated", antt2coq.Refused)])
+def test_a_step_that_fails_ends_the_run(name, fault, recheck, capsys):
+    """None comes after it."""
+    end, called = recheck(*ALL, failing=name, fault=fault)
+    assert end and (f"no {name}" in end if fault else "coqchk" in end)
+    assert [*called] == [*STEPS][:[*STEPS].index(name) + 1] and "proved again" not in capsys.readouterr().out
+
+
+def test_each_option_reaches_its_step(recheck, tmp_path, capsys):
+    kept = tmp_path / "new" / "kept"
+    end, called = recheck("--keep", str(kept), "--jobs", "13", "--write-statements", *ALL, str(tmp_path))
+    assert end is None and [*called] == [*STEPS]
+    assert called["translated"] == (tmp_path,) and called["rustc"][:2] == (tmp_path, "a-rustc")
+    assert called["check"] == (kept, 13) and called["compare"] == (kept, True)
+    assert called["audit"] == (kept, ["rs_f"])
+    assert called["coqchk"][0] == str(kept) and called["coqchk"][-3:] == [".", "Recheck", "Recheck.Witnesses"]
+    sources = {path.name for folder in ("recheck", "recheck/proofs") for path in (ROOT / folder).glob("*.v")}
+    assert {path.name for path in kept.iterdir()} == {*sources, "Code.v"}
+    assert (kept / "Code.v").read_text("ascii") == "(* made *)"
+    assert "a-rustc reads the same 7 tokens of a crate\nproved again: 2 theorems; " in capsys.readouterr().out
+
+
+def test_no_option(recheck):
+    """All processors prove the repository's sources in a folder that then goes, and nothing is written."""
+    end, called = recheck()
+    assert end is None and [*called] == ["translated", "check", "audit", "compare"]
+    assert called["translated"] == (ROOT,)
+    folder, jobs = called["check"]
+    assert jobs == len(os.sched_getaffinity(0)) and called["compare"] == (folder, False) and not Path(folder).exists()
+
+
+def test_there_is_no_coq(recheck, monkeypatch):
+    monkeypatch.setattr(rerun.shutil, "which", lambda _: None)
+    end, called = recheck()
+    assert "there is no coqc" in end and not called
