@@ -71,8 +71,8 @@ def replace_links(folder):
             shutil.copy(target, link)
 
 
-def download_source(folder, release, package):
-    """Gets the archives of a source package into a folder. They stay as they are: no patch is applied."""
-    subprocess.run([*apt_get(folder / "apt", release, "deb-src"), "source", "--download-only", package], check=True,
+def download_sources(folder, release, packages):
+    """Gets the archives of source packages into a folder. They stay as they are: no patch is applied."""
+    subprocess.run([*apt_get(folder / "apt", release, "deb-src"), "source", "--download-only", *packages], check=True,
                    stdout=subprocess.DEVNULL, stderr=subprocess.DEVNULL, cwd=folder)
     shutil.rmtree(folder / "apt")

@@ -51,6 +51,7 @@ class Clock(NamedTuple):
         faults = "".join(f"[{fault}]=true," for fault in monitor.faults)
         built = compiled_once(compiler_of(cbmc), HARNESS / "clock_prove.c",
                               self.folder / "-".join(["clock", *monitor.faults]), *self.words, f"-DHAS={faults or 0}")
+        # Functions call themselves once at most, and `comes` has a loop: what is told here is proved too.
         return assertions([*cbmc, built, "--function", entry, "--unwind", "1", "--unwindset", "comes.2:3"])
 
 

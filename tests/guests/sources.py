@@ -15,7 +15,7 @@ from functools import lru_cache
 from pathlib import Path
 from typing import NamedTuple
 
-from debian import download, download_source, make_whole
+from debian import download, download_sources, make_whole
 from harness import ROOT
 
 HERE = Path(__file__).resolve().parent
@@ -33,7 +33,8 @@ class Source(NamedTuple):
 
     @property
     def folder(self):
-        return KEPT / "packages" / f"{self.package}-{self.release}"
+        """Source packages of a release come together."""
+        return KEPT / "packages" / f"{'sources' if self.is_source else self.package}-{self.release}"
 
 
 SOURCES = {"linux": Source("Linux", "linux-source-6.1", "bookworm"),
@@ -84,7 +85,8 @@ def fetch(name):
     if files(name)[0]:
         return
     if source.is_source:
-        make_whole(source.folder, lambda folder: download_source(folder, source.release, source.package))
+        packages = [it.package for it in SOURCES.values() if it.folder == source.folder]
+        make_whole(source.folder, lambda folder: download_sources(folder, source.release, packages))
     else:
         make_whole(source.folder, lambda folder: download(folder, source.release, [source.package]))
 
