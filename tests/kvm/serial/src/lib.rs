@@ -1,6 +1,9 @@
 // SPDX-License-Identifier: Apache-2.0 OR BSD-3-Clause
 //! The functions of `serial.c` of `examples/kvm`, over the `Serial` of the Rust crate: what docs/PORT.md has somebody do
 //! who takes the bare port. The monitor around them, in C, is the same. It calls each with its lock held.
+// Old compilers find the blocks needless, unless they have to be there.
+#![deny(unsafe_op_in_unsafe_fn)]
+
 use std::collections::VecDeque;
 use std::io::{self, Write};
 use std::mem::take;
