@@ -5,7 +5,7 @@
 
 static uint32_t random_state;
 
-/* A number below `bound`, by Marsaglia's xorshift. A product takes less than a remainder, most of all in an emulator. */
+/* A number below `bound`, by Marsaglia's xorshift. A product takes less than a remainder, most in an emulator. */
 static unsigned draw(unsigned bound) {
     random_state ^= random_state << 13;
     random_state ^= random_state >> 17;

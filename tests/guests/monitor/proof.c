@@ -66,8 +66,8 @@ static bool has_limit(const struct view *m) {
 #endif
 }
 
-/* Holds always, also while a step is made, and while a driver tests the port. Here and below functions are called before a
- * condition, and not in it: CBMC takes a condition as one formula then, and otherwise makes branches of its parts. */
+/* Holds always, also while a step is made, and while a driver tests the port. Here and below functions are called
+ * before a condition, not in it: CBMC then takes a condition as one formula, and makes no branches of its parts. */
 static bool is_coherent(const struct view *m) {
     bool is_up = enabled(m) != 0, is_limited = has_limit(m);
     return m->len <= SUPERIO_SERIAL_FIFO_SIZE && !(m->pending & ~6u) && (m->len > 0 || !(m->pending & 4))
