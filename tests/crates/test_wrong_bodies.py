@@ -1,31 +1,38 @@
 # SPDX-License-Identifier: Apache-2.0 OR BSD-3-Clause
 """Each public function of the proved crates has a must-fail edit in its body, or docs/WRONG-BODIES.md lists it as one
-without. Each likely bug that the page lists has an edit of its own, which changes one function, or a test.
+without. Each likely bug that the page lists has an edit of its own, which changes one function, or a test. An edit that
+changes several functions names them.
 
 A row of its table names functions by type, such as `Serial::writer, events`, whichever trait they are of. Laws and
 functions of `NoEvents` have no edit either.
 """
+from itertools import groupby
+from operator import itemgetter
+
 import pytest
 from contracts import functions_of
 from documents import CODE, Document
 from harness import ROOT, at_least
+from program import number_of_edits
 
 CRATES = ["superio_core", "superio_console", "vm_superio", "superio_c", "superio_script"]
 
 
 def places(edit):
-    """Where an edit changes its crate: the file, and the place in it."""
-    path = ""
+    """Where an edit changes its crate: the last comment above, the file, and the place in it."""
+    comment = path = ""
     for line in edit.read_text(encoding="utf-8").splitlines():
-        if line.startswith("file: "):
+        if line.startswith("# "):
+            comment = line
+        elif line.startswith("file: "):
             path = edit.parents[1] / line.removeprefix("file: ")
         elif line.startswith("old: "):
-            yield path, path.read_text(encoding="utf-8").find(line.removeprefix("old: "))
+            yield comment, path, path.read_text(encoding="utf-8").find(line.removeprefix("old: "))
 
 
 def edited(crate):
     """Where the edits of a crate change it."""
-    return [place for edit in sorted((crate / "must-fail").glob("*.edit")) for place in places(edit)]
+    return [place for edit in sorted((crate / "must-fail").glob("*.edit")) for _, *place in places(edit)]
 
 
 def function_at(path, at):
@@ -55,6 +62,12 @@ def listed():
             yield f"{owner}::{name}" if owner else name
 
 
+def shared():
+    """The edits that change several functions."""
+    edits = sorted((ROOT / "crates").glob("*/must-fail/*.edit"))
+    return [edit for edit in edits if len({(path, function_at(path, at)) for _, path, at in places(edit)}) > 1]
+
+
 def likely():
     """The edits and tests that the table of likely bugs names."""
     table = Document("docs/WRONG-BODIES.md").text.split("| What the port does wrong |")[1].split("\n\n")[0]
@@ -78,11 +91,19 @@ def test_likely_bug(name):
         edits = list(ROOT.glob(f"crates/*/must-fail/{name}.edit"))
         assert edits
         for edit in edits:
-            found = [function_at(*place) for place in places(edit)]
+            found = [function_at(*place) for _, *place in places(edit)]
             assert found and found == found[:1] * len(found)
     else:
         source = (ROOT / "crates/superio_tests/src" / f"{module}.rt").read_text(encoding="utf-8")
         assert f"#[test]\nfn {test}(" in source
+
+
+@pytest.mark.parametrize("edit", at_least(5, shared()))
+def test_named(edit):
+    """A line `# FUNCTION` or `# FUNCTION: what it does` stands above each wrong body."""
+    for comment, changed in groupby(places(edit), key=itemgetter(0)):
+        name = comment.removeprefix("# ").partition(": ")[0]
+        assert name in ["::".join(function_at(*place)[-2:]) for _, *place in changed], comment
 
 
 def test_listed():
@@ -91,9 +112,9 @@ def test_listed():
 
 
 def test_counts():
-    """The page says how many edits there are, and how many of them change several functions."""
-    edits = sorted((ROOT / "crates").glob("*/must-fail/*.edit"))
-    shared = [edit for edit in edits if len({(path, function_at(path, at)) for path, at in places(edit)}) > 1]
-    text = Document("docs/WRONG-BODIES.md").text
-    assert f"There are {len(edits)} edits." in text, len(edits)
-    assert f"{len(shared)} edits change several functions" in text, len(shared)
+    """The page says how many edits there are, how many of them change several functions, and how many bodies they have."""
+    text, edits = Document("docs/WRONG-BODIES.md").text, shared()
+    bodies = [line for edit in edits for line in edit.read_text(encoding="utf-8").splitlines() if line.startswith("# ")]
+    assert f"There are {number_of_edits()} edits." in text, number_of_edits()
+    assert f"{len(edits)} edits change several functions" in text, len(edits)
+    assert f"they have {len(bodies)} wrong bodies" in text, len(bodies)
