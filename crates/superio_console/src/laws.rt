@@ -147,8 +147,7 @@ pub fn each_byte_is_through()
 }
 
 /// The encoding of a console passes each check of a load, and states that have the same encoding are one state. So a
-/// console that is saved and loaded has the state that it had, and answers later calls alike. Only `output` may give
-/// another number of the oldest bytes.
+/// console that is saved and loaded has the state that it had, and no guest can tell the two apart.
 pub fn saving()
     ensures passes { ConsoleEncodingLaw }
     ensures one_state { OneConsoleStateLaw }

@@ -41,7 +41,7 @@ pub(super) const REFUSED_BIT: u8 = 0x08;
 
 const ALL_BITS: u8 = 0x0F;
 
-/// Two consoles are equal if their saved states are equal. Any later calls then answer alike.
+/// Two consoles are equal exactly if their saved states are equal. No guest can tell such consoles apart.
 impl PartialEq for Console {
     ghost eq = { λ a b. pointwise nat_eq (console_encoding (state_of a)) (console_encoding (state_of b)) };
 

@@ -278,8 +278,8 @@ impl Console {
         append(bytes, count, port)
     }
 
-    /// Reads a console back from its saved bytes. It has the state of the saved console, and so answers later calls
-    /// alike. Only [`output`](Self::output) may give another number of the oldest bytes. The port may be incoherent:
+    /// Reads a console back from its saved bytes. It has the state of the saved console, so no guest can tell the two
+    /// apart. To you, [`output`](Self::output) may give another number of the oldest bytes. The port may be incoherent:
     /// [`Uart::is_coherent`] tells.
     ///
     /// If you did not restore your interrupt controller too, call [`refuse`](Self::refuse), because an earlier

@@ -36,7 +36,7 @@ pub(super) const REFUSED_BIT: u8 = 0x08;
 
 const ALL_BITS: u8 = 0x0F;
 
-/// Two consoles are equal if their saved states are equal. Any later calls then answer alike.
+/// Two consoles are equal exactly if their saved states are equal. No guest can tell such consoles apart.
 impl PartialEq for Console {
     fn eq(&self, other: &Self) -> bool {
         let mut bytes = [0; CONSOLE_SAVED_MAX];
