@@ -66,7 +66,8 @@ def main():
     parser.add_argument("--jobs", type=int, default=len(os.sched_getaffinity(0)), help="how many proofs run at a time")
     parser.add_argument("--quick", action="store_true", help="make only the proofs that the gate makes")
     options = parser.parse_args()
-    (sources.KEPT / "unreachable").unlink(missing_ok=True)
+    for folder in (sources.KEPT, sources.KEPT / "packages"):   # it is asked for now, whatever failed before
+        (folder / "unreachable").unlink(missing_ok=True)
     try:
         read = [name for name in sources.SOURCES if sources.is_recorded(name)]
         command = cbmc.fetched()
