@@ -29,8 +29,8 @@ LAWS = [f"superio_laws.Serial.Laws.{name}" for name in """StateLaw HeldBytesLaw 
     UartRun.UartRunLaw UartRun.UartOutputLaw UartRun.UartBoundLaw Consequences.ReadOutThenHeldLaw
     Consequences.RepliesAreReadOutLaw Consequences.ReadThenHeldLaw Consequences.WaitingBytesLaw Line.NoByteWaitsLaw
     Transmit.IerWriteAsksLaw Transmit.ThrWriteAsksLaw Transmit.RetriedLaw Transmit.RefusedWriteLaw
-    Transmit.CalledSinceLaw Console.InterruptToReadLaw Console.InterruptToSendLaw Console.ReadOutInPassesLaw
-    Console.SentInPassesLaw""".split()]
+    Transmit.CalledSinceLaw GuestDriver.InterruptToReadLaw GuestDriver.InterruptToSendLaw GuestDriver.ReadOutInRunsLaw
+    GuestDriver.SentInRunsLaw""".split()]
 LAWS += [f"superio_core.Saved.{name}" for name in """SerialEncodingLaw ClockEncodingLaw OneSerialStateLaw
     OneClockStateLaw""".split()]
 LAWS += [f"superio_laws.Rtc.{name}" for name in ("ClockIsHistory", "RawBitsByHistory", "AlarmDueByHistory")]

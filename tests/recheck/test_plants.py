@@ -68,7 +68,7 @@ WRONG += [(SPECS + file, old, new, proofs) for file, old, new, proofs in [
      "acknowledges Rda kind = is_iir_read kind", {"PortHistory"}),
     ("superio_laws/specs/Serial/Laws/UartRun.antt", "≤ 2 + 2 *", "≤ 1 + 2 *", {"PortLaws"}),
     ("superio_laws/specs/Rtc/History.antt", "if at == offset then Some value else None", "None", CLOCK),
-    ("superio_laws/specs/Serial/Laws/Console.antt", "take (length runs) (held_bytes", "take (1 + length runs) (held_bytes", {"PortLaws"}),
+    ("superio_laws/specs/Serial/Laws/GuestDriver.antt", "take (length runs) (held_bytes", "take (1 + length runs) (held_bytes", {"PortLaws"}),
 ]]
 WRONG += [(C_FUNCTIONS, old, new, {"Saved", "Claims"}) for old, new in [
     ("invalid_read: value.is_none()", "invalid_read: value.is_some()"),
@@ -128,8 +128,8 @@ WRONG += [(C_FUNCTIONS, old, new, SAVED_CONSOLE | {"Claims"}) for old, new in [
     ("Console::new(is_polled)", "Console::new(!is_polled)"),
 ]]
 # Conditions of laws that no call meets.
-WRONG += [(SPECS + "superio_laws/specs/Serial/Laws/Console.antt", old, old + "  pub never : IsTrue false\n", {"PortLaws", "Witnesses"})
-          for old in ("  pub asks : AsksWhenGiven driver start before run\n", "  pub unread : NoIirRead start turn before\n")]
+WRONG += [(SPECS + "superio_laws/specs/Serial/Laws/GuestDriver.antt", old, old + "  pub never : IsTrue false\n", {"PortLaws", "Witnesses"})
+          for old in ("  pub asks : AsksWhenGiven driver start before run\n", "  pub unread : NoIirRead start pass before\n")]
 EMPTY = "        if effects.in_buffer_empty {\n            self.events.in_buffer_empty();\n        }\n"
 READ = "        if effects.buffer_read {\n            self.events.buffer_read();\n        }\n"
 WRONG += [(SHELL + file, old, new, {"Shell", "Claims"}) for file, old, new in [

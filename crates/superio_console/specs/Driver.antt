@@ -1,15 +1,36 @@
 -- SPDX-License-Identifier: Apache-2.0 OR BSD-3-Clause
--- The laws of a console and the guest's driver: the monitor's part of `superio_laws::console_driver` is done, so the
+-- The laws of a console and the guest's driver: the monitor's part of `superio_laws::guest_driver` is done, so the
 -- driver's conditions are left.
 use Rattle.std.specs.Prelude.{⊤, ℕ, ◌≡◌, Bool, false, List, [], ◌∷◌, ◌++◌, take, length, IsTrue}
 use Rattle.superio_laws.specs.Serial.{State, fresh_state, not_empty, Coherent, Rda, Thre, Trace}
 use Rattle.superio_laws.specs.Serial.History.{state_of_history}
 use Rattle.superio_laws.specs.Serial.Laws.UartRun.{trace_with}
-use Rattle.superio_laws.specs.Serial.Laws.Console.{Driver, has_to_send, EndsAtNone, IsConsoleRun, TimeoutAfterNone, IsMonitored, SentInOrder, sent, left, after_runs, free_runs}
+use Rattle.superio_laws.specs.Serial.Laws.GuestDriver.{
+  Driver,
+  has_to_send,
+  EndsAtNone,
+  IsDriverRun,
+  TimeoutAfterNone,
+  IsMonitored,
+  SentInOrder,
+  sent,
+  left,
+  after_runs,
+  free_runs,
+}
 use Rattle.superio_console.specs.Console.{ConsoleState, Call, Turns, Resets, new_console, port_calls, after}
-use Rattle.superio_console.specs.Laws.{after_calls, in_each, in_one, is_reset, is_enabled, is_shown, IsInterrupted, left_in_runs}
+use Rattle.superio_console.specs.Laws.{
+  after_calls,
+  in_each,
+  in_one,
+  is_reset,
+  is_enabled,
+  is_shown,
+  IsInterrupted,
+  left_in_runs,
+}
 
--- ---- a console at a point of its history
+-- ---- a console at a trace
 
 -- the port is in the state to which a trace leads from a coherent start
 pub record IsAt (start : State) (before : Trace) (c : ConsoleState) : Type 0 where
@@ -20,11 +41,11 @@ pub record IsAt (start : State) (before : Trace) (c : ConsoleState) : Type 0 whe
 abbrev pub newest : (calls : List Call) (c : ConsoleState) → Trace
 newest calls c = trace_with [] (in_each port_calls calls c)
 
--- a console with a coherent port, such as one that was loaded with it, is at the beginning of a history
+-- a console with a coherent port, such as one that was loaded with it, is at the empty trace
 abbrev pub StartLaw : Type 0
 StartLaw = (c : ConsoleState) → Coherent c.port → IsAt c.port [] c
 
--- a new console is at the beginning of a history
+-- a new console is at the empty trace
 abbrev pub FirstLaw : Type 0
 FirstLaw = (is_polled : Bool) → IsAt fresh_state [] (new_console is_polled)
 
@@ -33,7 +54,7 @@ abbrev pub NextLaw : Type 0
 NextLaw = (start : State) (before : Trace) (c : ConsoleState) (calls : List Call) → IsAt start before c
     → in_one is_reset calls c ≡ false → IsAt start (newest calls c ++ before) (after_calls calls c)
 
--- a reset begins a new history
+-- after a reset a console is at the empty trace of a new port
 abbrev pub ResetLaw : Type 0
 ResetLaw = (c : ConsoleState) → IsAt fresh_state [] (after Resets c)
 
@@ -44,7 +65,7 @@ abbrev pub TimeoutLaw : Type 0
 TimeoutLaw = (start : State) (before : Trace) (c : ConsoleState) (calls : List Call) → IsAt start before c
     → in_one is_reset calls c ≡ false → TimeoutAfterNone start before (newest calls c)
 
--- with a turn after the driver's run, all is done that `superio_laws::console_driver` asks of a monitor
+-- with a turn after the driver's run, all is done that `superio_laws::guest_driver` asks of a monitor
 abbrev pub MonitoredLaw : Type 0
 MonitoredLaw = (driver : Driver) (start : State) (before : Trace) (c : ConsoleState) (calls : List Call)
     → IsAt start before c → in_one is_reset calls c ≡ false
@@ -70,7 +91,7 @@ abbrev pub AreRuns :
     (driver : Driver) (start : State) (before : Trace) (runs : List (List Call)) (c : ConsoleState) → Type 0
 AreRuns driver start before [] c = ⊤
 AreRuns driver start before (run ∷ later) c =
-    (in_one is_reset run c ≡ false) × IsConsoleRun driver start before (newest run c)
+    (in_one is_reset run c ≡ false) × IsDriverRun driver start before (newest run c)
     × AreRuns driver start (newest run c ++ before) later (after_calls run c)
 
 abbrev pub EachIsServed :

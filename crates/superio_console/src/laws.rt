@@ -113,10 +113,10 @@ pub fn output()
     by_lemmas();
 }
 
-/// A console with a coherent port, whether new or loaded, is at the beginning of a history, and calls without a reset
-/// add their entries to it. A reset begins a new one. After each read of IIR that shows nothing pending, the next call
-/// of the port is a character timeout. So with a turn after the driver's run, the monitor's part of
-/// `superio_laws::console_driver` is done.
+/// A console with a coherent port, whether new or loaded, is at the empty trace, and calls without a reset add their
+/// entries to the trace. After a reset a console is at the empty trace again. After each read of IIR that shows nothing
+/// pending, the next call of the port is a character timeout. So with a turn after the driver's run, the monitor's part
+/// of `superio_laws::guest_driver` is done.
 pub fn history()
     ensures start { StartLaw }
     ensures first { FirstLaw }
@@ -128,7 +128,7 @@ pub fn history()
     by_lemmas();
 }
 
-/// This law supposes that each of a driver's runs keeps the driver's conditions of `superio_laws::console_driver`, and
+/// This law supposes that each of a driver's runs keeps the driver's conditions of `superio_laws::guest_driver`, and
 /// that no run has a reset.
 ///
 /// After each run the guest is interrupted, as [`interrupted`] says, if bytes are held, or if the driver has bytes left

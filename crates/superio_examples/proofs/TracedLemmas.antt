@@ -4,7 +4,7 @@ use Rattle.std.proofs.Common.{◌≡◌, ℕ, ◌+◌, ◌<◌, Bool, true, fals
 use Rattle.std.proofs.lemmas.Bool.{false≢true}
 use Rattle.superio_laws.specs.Serial.{Asked, Sent, Read, State, Trace, TraceEntry, is_iir_read, decode_read, register_at, not_empty}
 use Rattle.superio_laws.specs.Serial.History.{dlab_after, held_bytes, accepted_bytes, read_out_bytes, read_out_by, state_of_history}
-use Rattle.superio_laws.specs.Serial.Laws.Console.{IsConsoleRun, AreConsoleRuns, after_runs, has_to_send, left}
+use Rattle.superio_laws.specs.Serial.Laws.GuestDriver.{IsDriverRun, AreDriverRuns, after_runs, has_to_send, left}
 use Rattle.superio_laws.specs.Serial.Laws.Line.{timeout_entry}
 use Rattle.superio_laws.proofs.Lemmas.Serial.Laws.Consequences.{none_more, nowhere}
 use Rattle.superio_examples.specs.Traced.{receiver}
@@ -38,7 +38,7 @@ abbrev pub run_of : (asked : Asked) → Trace
 run_of asked = timeout_entry asked ∷ read_of 0 ∷ read_of 2 ∷ []
 
 pub is_run : (start : State) (before : Trace) (asked : Asked) → dlab_after start before ≡ false
-    → IsConsoleRun receiver start before (run_of asked)
+    → IsDriverRun receiver start before (run_of asked)
 is_run start before asked hidden =
     let taken = read_out_bytes start before in
     let held = held_bytes start (read_of 2 ∷ before) in
@@ -46,12 +46,12 @@ is_run start before asked hidden =
       takes = λ some. one_more taken held _ (ap not_empty (held_same start before) ∙ some)
           (ap (λ dlab. ((taken ++ []) ++ read_out_by (decode_read (register_at dlab 0)) held) ++ []) hidden);
       ends = inr (record {
-        turn = timeout_entry asked ∷ read_of 0 ∷ [];
+        pass = timeout_entry asked ∷ read_of 0 ∷ [];
         iir = read_of 2;
         earlier = [];
         place = refl;
         reads = refl;
-        is_turn = record {
+        is_pass = record {
           unread = none_more start is_iir_read (read_of 0 ∷ []) (read_of 2 ∷ before) (timeout_entry asked) refl
               (none_more start is_iir_read [] (read_of 2 ∷ before) (read_of 0) (no_iir (dlab_after start before))
               (nowhere start is_iir_read (read_of 2 ∷ before)));
@@ -66,6 +66,6 @@ pub record RunsSoFar (start : State) (count : ℕ) (s : State) : Type 0 where
   pub before : Trace
   pub state : s ≡ state_of_history start before
   pub runs :
-      (rest : List Trace) → AreConsoleRuns receiver start before rest
-      → (all : List Trace) × AreConsoleRuns receiver start [] all × (length all ≡ count + length rest)
+      (rest : List Trace) → AreDriverRuns receiver start before rest
+      → (all : List Trace) × AreDriverRuns receiver start [] all × (length all ≡ count + length rest)
       × (after_runs [] all ≡ after_runs before rest)

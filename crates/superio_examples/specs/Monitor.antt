@@ -1,20 +1,95 @@
 -- SPDX-License-Identifier: Apache-2.0 OR BSD-3-Clause
 -- A whole machine as one value: what an event does to it, what is replied, and what a list of events does.
-use Rattle.std.specs.Prelude.{◌≡◌, ℕ, ◌+◌, ◌-◌, ◌^◌, Bool, true, false, ◌==◌, ◌&&◌, ◌||◌, min, if◌then◌else◌, List, [], ◌∷◌, ◌++◌, length, map, Option, Some, None, unwrap_or}
+use Rattle.std.specs.Prelude.{
+  ◌≡◌,
+  ℕ,
+  ◌+◌,
+  ◌-◌,
+  ◌^◌,
+  Bool,
+  true,
+  false,
+  ◌==◌,
+  ◌&&◌,
+  ◌||◌,
+  min,
+  if◌then◌else◌,
+  List,
+  [],
+  ◌∷◌,
+  ◌++◌,
+  length,
+  map,
+  Option,
+  Some,
+  None,
+  unwrap_or,
+}
 use Rattle.std.specs.Option.{option_map, option_map_or}
 use Rattle.superio_laws.specs.Serial.{State, Trace, irq_level}
-use Rattle.superio_laws.specs.Serial.Laws.Console.{Driver}
-use Rattle.superio_laws.specs.Rtc.{RtcState, rtc_irq_level, clock_step, clock_response, Access, read, write, fresh_clock, state_of_clock}
-use Rattle.superio_console.specs.Console.{ConsoleState, state_of, new_console, wants_of, work_of, Call, Reads, Writes, Receives, Consumes, Turns, Refuses, Resets, Suspends, after, shown_at, sent_at, is_open}
+use Rattle.superio_laws.specs.Serial.Laws.GuestDriver.{Driver}
+use Rattle.superio_laws.specs.Rtc.{
+  RtcState,
+  rtc_irq_level,
+  clock_step,
+  clock_response,
+  Access,
+  read,
+  write,
+  fresh_clock,
+  state_of_clock,
+}
+use Rattle.superio_console.specs.Console.{
+  ConsoleState,
+  state_of,
+  new_console,
+  wants_of,
+  work_of,
+  Call,
+  Reads,
+  Writes,
+  Receives,
+  Consumes,
+  Turns,
+  Refuses,
+  Resets,
+  Suspends,
+  after,
+  shown_at,
+  sent_at,
+  is_open,
+}
 use Rattle.superio_console.specs.declared.Work.{Work}
-use Rattle.superio_console.specs.Laws.{in_each, in_one, is_reset, is_ready_write, lets_poll, finds_no_room, left_at, looped_at, taken_at, KeepsInput}
+use Rattle.superio_console.specs.Laws.{
+  in_each,
+  in_one,
+  is_reset,
+  is_ready_write,
+  lets_poll,
+  finds_no_room,
+  left_at,
+  looped_at,
+  taken_at,
+  KeepsInput,
+}
 use Rattle.superio_console.specs.Driver.{IsAt, AreRuns, AllIsThrough}
 use Rattle.superio_examples.specs.Bus.{serial_offset, other_byte, is_reset as is_reset_command, Keyboard}
 use Rattle.superio_examples.specs.Mmio.{is_inside}
 use Rattle.superio_examples.specs.declared.monitor.Answer.{Answer}
 use Rattle.superio_examples.specs.declared.monitor.Answer.TheVariants as answer
 pub use Rattle.superio_examples.specs.declared.monitor.MachineEvent.{MachineEvent}
-use Rattle.superio_examples.specs.declared.monitor.MachineEvent.TheVariants.{PortRead, PortWrite, MemoryRead, MemoryWrite, Typed, Drained, Moment, Timer, Refused, Suspended}
+use Rattle.superio_examples.specs.declared.monitor.MachineEvent.TheVariants.{
+  PortRead,
+  PortWrite,
+  MemoryRead,
+  MemoryWrite,
+  Typed,
+  Drained,
+  Moment,
+  Timer,
+  Refused,
+  Suspended,
+}
 use Rattle.superio_examples.specs.declared.monitor.MachineReply.{MachineReply}
 pub use Rattle.superio_examples.specs.declared.monitor.Monitor.{Monitor}
 

@@ -3,7 +3,7 @@
 use Rattle.std.specs.Prelude.{◌≡◌, true, List, [], ◌∷◌, ◌++◌, IsTrue}
 use Rattle.superio_laws.specs.Serial.{Coherent, Op, Read, State, Trace, TraceEntry, Write}
 use Rattle.superio_laws.specs.Serial.History.{is_fitting, is_fitting_entry, state_of_history}
-use Rattle.superio_laws.specs.Serial.Laws.Console.{Driver, IsConsoleRun}
+use Rattle.superio_laws.specs.Serial.Laws.GuestDriver.{Driver, IsDriverRun}
 use Rattle.superio_examples.specs.declared.many_calls.Access.{Access}
 
 abbrev pub op_of : (access : Access) → Op
@@ -41,7 +41,7 @@ receiver = record { given_at = λ trace entry. []; sends_own = λ trace entry. t
 -- a run of this driver is added to a trace
 pub record IsRunAdded (start : State) (before : Trace) (new : State) : Type 0 where
   pub run : Trace
-  pub is_run : IsConsoleRun receiver start before run
+  pub is_run : IsDriverRun receiver start before run
   pub state : new ≡ state_of_history start (run ++ before)
 
 abbrev pub AddsRun : (old new : State) → Type 0

@@ -1,16 +1,98 @@
 -- SPDX-License-Identifier: Apache-2.0 OR BSD-3-Clause
 -- The laws that join the step of an access and the history of a clock.
 pub mod History
-use Rattle.std.specs.Prelude.{if◌then◌else◌, List, [], ◌∷◌, ◌≡◌, ℕ, ◌+◌, ◌^◌, ◌<◌, ◌≤◌, Bool, true, false, ◌==◌, ◌&&◌, ◌||◌, Option, Some, None, pos, ◌+ℤ◌}
+use Rattle.std.specs.Prelude.{
+  if◌then◌else◌,
+  List,
+  [],
+  ◌∷◌,
+  ◌≡◌,
+  ℕ,
+  ◌+◌,
+  ◌^◌,
+  ◌<◌,
+  ◌≤◌,
+  Bool,
+  true,
+  false,
+  ◌==◌,
+  ◌&&◌,
+  ◌||◌,
+  Option,
+  Some,
+  None,
+  pos,
+  ◌+ℤ◌,
+}
 use Rattle.std.specs.Int.{bit_at, w32, to_le_bytes}
 use Rattle.std.specs.List.{list_any}
 pub use Rattle.superio_core.specs.declared.rtc_pl031.encoding.RtcState.{RtcState}
 pub use Rattle.superio_core.specs.declared.rtc_pl031.Pl031.{Pl031}
 pub use Rattle.superio_core.specs.declared.rtc_pl031.ClockRegister.{ClockRegister}
-pub use Rattle.superio_core.specs.declared.rtc_pl031.ClockRegister.TheVariants.{Dr, Mr, Lr, Cr, Imsc, Ris, Mis, Icr, Id, Reserved}
-pub use Rattle.superio_core.specs.Rtc.{Access, read, write, clock_register_at, is_readable, is_writable, write_of, moment_of, bytes_left, host_time, guest_time, guest_time_in, clock_register_read, after_write, fresh_clock, state_of_clock}
-pub use Rattle.superio_core.specs.Rtc.Step.{clock_response, clock_step, state_after_accesses, IsDueIn, IsAlarmDue, after_alarm, is_alarm_reached, rtc_irq_level}
-pub use Rattle.superio_laws.specs.Rtc.History.{counter, clock_of_history, clock_history_response, cleared_by, match_written, raises_alarm, is_alarm_raised, Setting, load, reset, setting_of, load_by, counter_by, newest_found, value_written, cleared_bits, guest_time_at, match_value, is_alarm_set, guest_times_since_match, is_reached, is_armed}
+pub use Rattle.superio_core.specs.declared.rtc_pl031.ClockRegister.TheVariants.{
+  Dr,
+  Mr,
+  Lr,
+  Cr,
+  Imsc,
+  Ris,
+  Mis,
+  Icr,
+  Id,
+  Reserved,
+}
+pub use Rattle.superio_core.specs.Rtc.{
+  Access,
+  read,
+  write,
+  clock_register_at,
+  is_readable,
+  is_writable,
+  write_of,
+  moment_of,
+  bytes_left,
+  host_time,
+  guest_time,
+  guest_time_in,
+  clock_register_read,
+  after_write,
+  fresh_clock,
+  state_of_clock,
+}
+pub use Rattle.superio_core.specs.Rtc.Step.{
+  clock_response,
+  clock_step,
+  state_after_accesses,
+  IsDueIn,
+  IsAlarmDue,
+  after_alarm,
+  is_alarm_reached,
+  rtc_irq_level,
+}
+pub use Rattle.superio_laws.specs.Rtc.History.{
+  counter,
+  clock_of_history,
+  clock_history_response,
+  cleared_by,
+  match_written,
+  raises_alarm,
+  is_alarm_raised,
+  Setting,
+  load,
+  reset,
+  setting_of,
+  load_by,
+  counter_by,
+  newest_found,
+  value_written,
+  cleared_bits,
+  guest_time_at,
+  match_value,
+  is_alarm_set,
+  guest_times_since_match,
+  is_reached,
+  is_armed,
+}
 
 -- ---- a clock that was set
 

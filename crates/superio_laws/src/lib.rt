@@ -13,9 +13,9 @@
 
 ghost use Rattle.superio_laws.specs.Serial.Laws.{RegisterLaw, HeldBytesLaw, LineStatusLaw, InterruptLaw, CoherenceLaw, StateLaw, ResponseLaw, StepLaw, CallLaw, RetryLaw, WholeRunLaw};
 ghost use Rattle.superio_laws.specs.Serial.Laws.Consequences.{PendingByPrefixesLaw, TriggerBoundLaw, WaitingBytesLaw, SameReadsLaw, ReadOutThenHeldLaw, RepliesAreReadOutLaw, ReadThenHeldLaw, OutputLaw, PollingDriverLaw, DriverGetsAllLaw, PollsAfterDataReadyLaw};
-ghost use Rattle.superio_laws.specs.Serial.Laws.Line.{NoByteWaitsLaw, TimeoutCallsLaw, RdaFollowsTimeoutsLaw, InterruptAfterPassLaw, ReadOutAfterPassesLaw, LineAfterLaw, UpAfterCallLaw, GoesUpLaw, StaysUpLaw, LineOfHistoryLaw};
+ghost use Rattle.superio_laws.specs.Serial.Laws.Line.{NoByteWaitsLaw, TimeoutCallsLaw, RdaFollowsTimeoutsLaw, InterruptAfterRunLaw, ReadOutAfterRunsLaw, LineAfterLaw, UpAfterCallLaw, GoesUpLaw, StaysUpLaw, LineOfHistoryLaw};
 ghost use Rattle.superio_laws.specs.Serial.Laws.Transmit.{IerWriteAsksLaw, ThrWriteAsksLaw, RefusedWriteLaw, RetriedLaw, CalledSinceLaw};
-ghost use Rattle.superio_laws.specs.Serial.Laws.Console.{InterruptToReadLaw, InterruptToSendLaw, ReadOutInPassesLaw, SentInPassesLaw, HandlerRunLaw, HandlerEndsLaw};
+ghost use Rattle.superio_laws.specs.Serial.Laws.GuestDriver.{InterruptToReadLaw, InterruptToSendLaw, ReadOutInRunsLaw, SentInRunsLaw, HandlerRunLaw, HandlerEndsLaw};
 ghost use Rattle.superio_laws.specs.Rtc.{ClockIsHistory, RawBitsByHistory, AlarmDueByHistory, SetTimeLaw, CounterLaw, SetClockLaw, GuestTimeLaw, KeepsTimeLaw, KeepsTimeInTraceLaw, TimeGoesOnLaw};
 ghost use Rattle.superio_laws.specs.Serial.Laws.UartRun.{UartRunLaw, UartOutputLaw, UartBoundLaw, UartTurnedOnLaw, UartAcceptsLaw, UartCoversLaw};
 ghost use Rattle.superio_laws.specs.Serial.Laws.ListsOfOps.{ListLaw, ListJoinLaw, ListHistoryLaw};
@@ -160,8 +160,8 @@ pub fn no_byte_waits()
 /// whatever arrives meanwhile.
 #[tactic(auto, using(crate::proofs::Lemmas::Serial::Laws::InterruptDriver::interrupt_driver_laws))]
 pub fn interrupt_driver()
-    ensures owed { InterruptAfterPassLaw }
-    ensures taken { ReadOutAfterPassesLaw }
+    ensures owed { InterruptAfterRunLaw }
+    ensures taken { ReadOutAfterRunsLaw }
 {}
 
 /// From any start, an IER write that enables THRE, and each THR write outside loopback while IER enables THRE, raise
@@ -177,7 +177,7 @@ pub fn transmitter_interrupt()
     ensures called { CalledSinceLaw }
 {}
 
-/// The law of a console's driver, from any start. A run is what an interrupt makes the driver do, with all other calls
+/// The law of the guest's driver, from any start. A run is what an interrupt makes the driver do, with all other calls
 /// up to the next run. The driver does the following:
 ///
 /// - In each run, the driver reads IIR, and takes at least one byte if one is held when the run begins. Nobody else
@@ -203,19 +203,19 @@ pub fn transmitter_interrupt()
 ///
 /// If a driver ends its run with a read of IIR that shows THRE, and has bytes left, it may not be asked again. A 16550A
 /// does not ask it either.
-pub fn console_driver()
+pub fn guest_driver()
     ensures asked_to_take { InterruptToReadLaw }
     ensures asked_to_send { InterruptToSendLaw }
-    ensures taken { ReadOutInPassesLaw }
-    ensures sent { SentInPassesLaw }
+    ensures taken { ReadOutInRunsLaw }
+    ensures sent { SentInRunsLaw }
 {}
 
 /// The law of a handler like Linux's, from any start. It reads IIR until nothing is pending. After each read it sends,
 /// and it takes bytes until none is left or it has taken as many as a limit. It gets bytes to send, or goes on after a
-/// stop, as a driver of [`console_driver`] does. Then its runs are runs of such a driver. When it reads that nothing is
+/// stop, as a driver of [`guest_driver`] does. Then its runs are runs of such a driver. When it reads that nothing is
 /// pending, it has sent all its bytes, unless it is stopped. If IER then enables RDA, it has also taken all bytes,
-/// unless its last turn came to the limit: the bytes that it left wait for the character timeout.
-pub fn console_handler()
+/// unless its last pass came to the limit: the bytes that it left wait for the character timeout.
+pub fn guest_handler()
     ensures run { HandlerRunLaw }
     ensures ends { HandlerEndsLaw }
 {}

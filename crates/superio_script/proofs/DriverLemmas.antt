@@ -40,7 +40,7 @@ module _ {T E EV W : Type 0} (trigger : Link T (TriggerAnswer E)) (events : Link
     pub reported : events old.events (read_events Data old.state.in_buffer) new.events
 
   -- a read of LSR that shows data ready, and then one of RBR
-  pub record IsPass (byte : ℕ) (old new : SerialView T EV W) : Type 0 where
+  pub record IsPolledRead (byte : ℕ) (old new : SerialView T EV W) : Type 0 where
     pub ready : IsReady old.state
     pub made : IsSerialRead trigger events contents 0 byte old new
     pub hidden : is_dlab new.state.line_control ≡ false
@@ -63,10 +63,10 @@ module _ {T E EV W : Type 0} {trigger : Link T (TriggerAnswer E)} {events : Link
         hidden made.events;
   }
 
-  pub pass : {status byte : ℕ} {old seen new : SerialView T EV W} → RbrDataReadyLaw → is_dlab old.state.line_control ≡ false
+  pub polled_read : {status byte : ℕ} {old seen new : SerialView T EV W} → RbrDataReadyLaw → is_dlab old.state.line_control ≡ false
       → IsSerialRead trigger events contents 5 status old seen → seen ≡ old → has_bits status 0x01 ≡ true
-      → IsSerialRead trigger events contents 0 byte seen new → IsPass trigger events contents byte old new
-  pass {status} {byte} {old} {seen} {new} law hidden looked same shows read =
+      → IsSerialRead trigger events contents 0 byte seen new → IsPolledRead trigger events contents byte old new
+  polled_read {status} {byte} {old} {seen} {new} law hidden looked same shows read =
       let ready = ap (λ lsr. has_bits lsr 0x01) (sym (lsr_read looked)) ∙ shows in
       let made : IsSerialRead trigger events contents 0 byte old new =
       subst (λ (port : SerialView T EV W). IsSerialRead trigger events contents 0 byte port new) same read in

@@ -11,7 +11,7 @@ use Rattle.superio_laws.specs.Serial.History.{state_of_history, decode_at, dlab_
 use Rattle.superio_laws.specs.Serial.Laws.{state_after}
 use Rattle.superio_laws.specs.Serial.Laws.Line.{timeout_entry}
 use Rattle.superio_laws.specs.Serial.Laws.UartRun.{trace_with, without_results}
-use Rattle.superio_laws.specs.Serial.Laws.Console.{ShowsNone, TimeoutAfterNone}
+use Rattle.superio_laws.specs.Serial.Laws.GuestDriver.{ShowsNone, TimeoutAfterNone}
 use Rattle.superio_laws.proofs.Lemmas.Serial.Laws.StepsOfHistory.{state_law}
 use Rattle.superio_console.specs.Console.{ConsoleState, Call, Reads, Writes, Receives, Consumes, Turns, Refuses, Resets, Suspends, SetsPolled, new_console, port_calls, steps, shown_at, answers_none, after}
 use Rattle.superio_console.specs.Laws.{after_calls, in_each, in_one, is_reset}

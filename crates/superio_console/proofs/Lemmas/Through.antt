@@ -7,8 +7,8 @@ use Rattle.superio_core.proofs.Lemmas.Serial.Step.{rda_bit, thre_bit}
 use Rattle.superio_laws.specs.Serial.{State, Op, Read, Write, Enqueue, CharacterTimeout, Trace, TraceEntry, Condition, Rda, Thre, DecodedOp, RbrRead, IirRead, Register, ByteRead, has_bits, ier_bit, iir_bit, not_empty, is_iir_read, decode_in, decode_write}
 use Rattle.superio_laws.specs.Serial.History.{state_of_history, decode_at, loopback_after, held_bytes, read_out_bytes, read_out_by, byte_read, is_pending}
 use Rattle.superio_laws.specs.Serial.Laws.UartRun.{trace_with, without_results}
-use Rattle.superio_laws.specs.Serial.Laws.Console.{Driver, NoIirRead, EndsAtNone, EndsInTurn, IsConsoleRun, AreConsoleRuns}
-use Rattle.superio_laws.proofs.Lemmas.Serial.Laws.Console.{asked_to_send_law, asked_to_take_law, sent_in_runs_law}
+use Rattle.superio_laws.specs.Serial.Laws.GuestDriver.{Driver, NoIirRead, EndsAtNone, EndsInPass, IsDriverRun, AreDriverRuns}
+use Rattle.superio_laws.proofs.Lemmas.Serial.Laws.GuestDriver.{asked_to_send_law, asked_to_take_law, sent_in_runs_law}
 use Rattle.superio_console.specs.Console.{ConsoleState, Call, Reads, Writes, Receives, Consumes, Turns, Refuses, Resets, Suspends, SetsPolled, shown_at, answers_none, after}
 use Rattle.superio_console.specs.Laws.{after_calls, in_each, in_one, is_reset, reads_iir, left_at, EachTakes}
 use Rattle.superio_console.specs.Driver.{IsAt, newest, IsServed, AreRuns, EachIsServed, runs_of, EachByteIsThroughLaw}
@@ -88,16 +88,16 @@ is_read : (kind : DecodedOp) → kind ≡ IirRead → IsFalse (is_iir_read kind)
 is_read kind reads other = grind arith
 
 reads-iir : (driver : Driver) (start : State) (before : Trace) (c : ConsoleState) (run : List Call) → IsAt start before c
-    → in_one is_reset run c ≡ false → IsConsoleRun driver start before (newest run c) → IsTrue (in_one reads_iir run c)
+    → in_one is_reset run c ≡ false → IsDriverRun driver start before (newest run c) → IsTrue (in_one reads_iir run c)
 reads-iir driver start before c run is kept runs = by-read (in_one reads_iir run c) refl where
-  by-end : in_one reads_iir run c ≡ false → EndsAtNone driver start before (newest run c) ⊎ EndsInTurn driver start before (newest run c) → ⊥
+  by-end : in_one reads_iir run c ≡ false → EndsAtNone driver start before (newest run c) ⊎ EndsInPass driver start before (newest run c) → ⊥
   by-end unread (inl ends) =
       is_read (decode_at start (ends.earlier ++ before) ends.iir.op) ends.reads
-      (none-run start before c run is kept unread (ends.tail ++ ends.none ∷ ends.turn) ends.earlier ends.iir
-      (ends.place ∙ sym (append_assoc ends.tail (ends.none ∷ ends.turn) (ends.iir ∷ ends.earlier))))
+      (none-run start before c run is kept unread (ends.tail ++ ends.none ∷ ends.pass) ends.earlier ends.iir
+      (ends.place ∙ sym (append_assoc ends.tail (ends.none ∷ ends.pass) (ends.iir ∷ ends.earlier))))
   by-end unread (inr ends) =
       is_read (decode_at start (ends.earlier ++ before) ends.iir.op) ends.reads
-      (none-run start before c run is kept unread ends.turn ends.earlier ends.iir ends.place)
+      (none-run start before c run is kept unread ends.pass ends.earlier ends.iir ends.place)
 
   by-read : (read : Bool) → in_one reads_iir run c ≡ read → IsTrue read
   by-read true found = refl
@@ -115,7 +115,7 @@ pending-at Thre start trace c same pending =
     ∙ thre_bit (is_pending Thre start trace) (is_pending Rda start trace) ∙ pending
 
 served : (driver : Driver) (start : State) (before : Trace) (c : ConsoleState) (run : List Call) → IsAt start before c
-    → in_one is_reset run c ≡ false → IsConsoleRun driver start before (newest run c) → IsServed driver start before run c
+    → in_one is_reset run c ≡ false → IsDriverRun driver start before (newest run c) → IsServed driver start before run c
 served driver start before c run is kept runs =
     let there = next_law start before c run is kept in
     let reads = reads-iir driver start before c run is kept runs in
@@ -230,7 +230,7 @@ each-takes driver start before c (run ∷ later) is (kept, runs, others) = (
 -- ---- the law
 
 are-runs : (driver : Driver) (start : State) (before : Trace) (c : ConsoleState) (runs : List (List Call))
-    → AreRuns driver start before runs c → AreConsoleRuns driver start before (runs_of runs c)
+    → AreRuns driver start before runs c → AreDriverRuns driver start before (runs_of runs c)
 are-runs driver start before c [] are = tt
 are-runs driver start before c (run ∷ later) (kept, runs, others) =
     (runs, are-runs driver start (newest run c ++ before) (after_calls run c) later others)

@@ -1,11 +1,11 @@
 -- SPDX-License-Identifier: Apache-2.0 OR BSD-3-Clause
 -- Worked examples of words that laws only assume, or bound by, since with a wrong one they would say less.
-pub mod Console
+pub mod GuestDriver
 use Rattle.std.proofs.Common.{◌≡◌, ℕ, ◌≤◌, true, false, List, [], ◌∷◌, ◌++◌, length, map, count_by, pos, ◌-ℤ◌, refl, arith}
 use Rattle.superio_laws.specs.Serial.{Asked, Sent, Coherent, State, fresh_state, Op, Read, Write, Enqueue, Response, ByteRead, WriteOk, EnqueueOk, Trace, TraceEntry, IerWrite, ThrWrite, is_iir_read, is_rbr_read, Rda, Thre, ReadEffects, conditions_due, has_bits, only_bits, with_bits}
 use Rattle.superio_laws.specs.Serial.History.{held_bytes, read_out_bytes, decoded_ops, covers_waiting_bytes}
 use Rattle.superio_laws.specs.Serial.Laws.Consequences.{polls, polls_after_data_ready}
-use Rattle.superio_laws.specs.Serial.Laws.Line.{HandlerPasses, ReadOutAfterPassesLaw, may_lower_line}
+use Rattle.superio_laws.specs.Serial.Laws.Line.{AreSimpleRuns, ReadOutAfterRunsLaw, may_lower_line}
 use Rattle.superio_laws.specs.Serial.Laws.ListsOfOps.{asked_in, acknowledged_in, read_out_in}
 use Rattle.superio_laws.specs.Serial.Laws.UartRun.{UartRead, UartTimeout, acknowledges_rda, UartCall, UartCallsFollow, ops_of_calls, trace_with, interrupts_to_raise, UartBoundLaw}
 use Rattle.superio_laws.specs.Rtc.{RtcState, guest_time_in, host_time, may_set_time, Access, read, write, fresh_clock, guest_times_since_match, is_armed}
@@ -34,8 +34,8 @@ enabling_shows_them : covers_waiting_bytes (IerWrite 0x01) [] ≡ true
 enabling_shows_them = refl
 
 -- as many runs as bytes are enough
-as_many_runs : ReadOutAfterPassesLaw → (start : State) (before after : Trace)
-    → HandlerPasses start (length (held_bytes start before)) before after
+as_many_runs : ReadOutAfterRunsLaw → (start : State) (before after : Trace)
+    → AreSimpleRuns start (length (held_bytes start before)) before after
     → (more : List ℕ) × (read_out_bytes start after ≡ read_out_bytes start before ++ held_bytes start before ++ more)
 as_many_runs law start before after runs = law start (length (held_bytes start before)) before after runs (omega arith)
 

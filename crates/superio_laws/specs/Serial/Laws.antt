@@ -1,17 +1,52 @@
 -- SPDX-License-Identifier: Apache-2.0 OR BSD-3-Clause
 -- The laws by which steps and history agree: after any trace, both describe the same port.
-pub mod Console
 pub mod Consequences
+pub mod GuestDriver
 pub mod Line
 pub mod ListsOfOps
 pub mod OneCall
 pub mod UartRun
 pub mod Transmit
 use Rattle.std.specs.Prelude.{◌≡◌, Bool, List, [], ◌∷◌, IsTrue}
-use Rattle.superio_laws.specs.Serial.{Asked, Sent, Op, Restore, TraceEntry, Response, NoResponse, Trace, sent_by, has_bits, lsr_dr_bit, State, not_empty, identification_of, Coherent, step, step_response, step_events, step_calls, answers_fit, conditions_due}
+use Rattle.superio_laws.specs.Serial.{
+  Asked,
+  Sent,
+  Op,
+  Restore,
+  TraceEntry,
+  Response,
+  NoResponse,
+  Trace,
+  sent_by,
+  has_bits,
+  lsr_dr_bit,
+  State,
+  not_empty,
+  identification_of,
+  Coherent,
+  step,
+  step_response,
+  step_events,
+  step_calls,
+  answers_fit,
+  conditions_due,
+}
 use Rattle.superio_laws.specs.Serial.{bytes_sent}
 pub use Rattle.superio_laws.specs.Serial.History.Registers.{RegistersAgree}
-use Rattle.superio_laws.specs.Serial.History.{calls_due, history_events, iir_after, lsr_after, state_of_history, history_response, ResponsesAre, decode_at, held_bytes, is_fitting_entry, is_fitting, conditions_due_after}
+use Rattle.superio_laws.specs.Serial.History.{
+  calls_due,
+  history_events,
+  iir_after,
+  lsr_after,
+  state_of_history,
+  history_response,
+  ResponsesAre,
+  decode_at,
+  held_bytes,
+  is_fitting_entry,
+  is_fitting,
+  conditions_due_after,
+}
 use Rattle.superio_laws.specs.Serial.{trace_after}
 
 -- the state that the steps of a trace lead to

@@ -4,8 +4,8 @@
 use Rattle.std.proofs.Common.{◌≡◌, ◌==◌, ℕ, true, false, if◌then◌else◌, inl, inr, List, [], ◌∷◌, ◌++◌, length, refl, arith}
 use Rattle.superio_laws.specs.Serial.{fresh_state, Read, Write, CharacterTimeout, Trace, TraceEntry, is_iir_read, has_bits, with_bits, only_bits}
 use Rattle.superio_laws.specs.Serial.Laws.UartRun.{without_results}
-use Rattle.superio_laws.specs.Serial.Laws.Console.{Driver, sent, IsConsoleRun, SentInOrder, after_runs}
-use Rattle.superio_laws.proofs.Lemmas.Examples.Console.{none_by, asks_by}
+use Rattle.superio_laws.specs.Serial.Laws.GuestDriver.{Driver, sent, IsDriverRun, SentInOrder, after_runs}
+use Rattle.superio_laws.proofs.Lemmas.Examples.GuestDriver.{none_by, asks_by}
 use Rattle.superio_console.specs.Console.{ConsoleState, Call, Reads, Writes, Receives, Turns, Refuses, new_console, wants_of, interrupts_of}
 use Rattle.superio_console.specs.Laws.{after_calls, left_in_runs}
 use Rattle.superio_console.specs.Driver.{IsAt, newest, AreRuns, AllIsThrough, runs_of, EachByteIsThroughLaw}
@@ -56,17 +56,17 @@ first_entries = timeout ∷ sends 0x41 ∷ read 0 ∷ read 2 ∷ []
 abbrev second_entries : Trace
 second_entries = sends 0x42 ∷ read 0 ∷ read 2 ∷ []
 
-first_is : IsConsoleRun plain fresh_state before first_entries
+first_is : IsDriverRun plain fresh_state before first_entries
 unfolding has_bits with_bits only_bits
 first_is = record {
   takes = λ some. omega arith;
   ends = inr (record {
-    turn = timeout ∷ sends 0x41 ∷ read 0 ∷ [];
+    pass = timeout ∷ sends 0x41 ∷ read 0 ∷ [];
     iir = read 2;
     earlier = [];
     place = refl;
     reads = refl;
-    is_turn = record {
+    is_pass = record {
       unread = none_by fresh_state is_iir_read (timeout ∷ sends 0x41 ∷ read 0 ∷ []) (read 2 ∷ before) refl;
       sends = inl (record {
         later = timeout ∷ [];
@@ -83,17 +83,17 @@ first_is = record {
   asks = asks_by plain fresh_state before first_entries refl;
 }
 
-second_is : IsConsoleRun plain fresh_state (first_entries ++ before) second_entries
+second_is : IsDriverRun plain fresh_state (first_entries ++ before) second_entries
 unfolding has_bits with_bits only_bits
 second_is = record {
   takes = λ some. omega arith;
   ends = inr (record {
-    turn = sends 0x42 ∷ read 0 ∷ [];
+    pass = sends 0x42 ∷ read 0 ∷ [];
     iir = read 2;
     earlier = [];
     place = refl;
     reads = refl;
-    is_turn = record {
+    is_pass = record {
       unread = none_by fresh_state is_iir_read (sends 0x42 ∷ read 0 ∷ []) (read 2 ∷ first_entries ++ before) refl;
       sends = inl (record {
         later = [];

@@ -35,7 +35,7 @@ returns-clause-taken g c =
     let start = c.args.serial.now.state in
     let so_far = c.loop.invariant.made in
     let all = so_far.runs [] tt in
-    let taken = c.console_driver.ensures.taken receiver start [] all.0 all.1 in (
+    let taken = c.guest_driver.ensures.taken receiver start [] all.0 all.1 in (
       so_far.before,
       so_far.state,
       taken.0,

@@ -1,7 +1,7 @@
 -- SPDX-License-Identifier: Apache-2.0 OR BSD-3-Clause
 -- The register law: one call leaves in each register what it wrote there, and otherwise what was there.
-pub mod Console
 pub mod Consequences
+pub mod GuestDriver
 pub mod InterruptDriver
 pub mod Interrupts
 pub mod ListsOfOps

@@ -1,9 +1,66 @@
 -- SPDX-License-Identifier: Apache-2.0 OR BSD-3-Clause
 -- The laws of a character timeout, after which no byte waits without an interrupt; of a driver that takes bytes at
 -- interrupts; and of the level of the interrupt line.
-use Rattle.std.specs.Prelude.{◌≡◌, false, ◌∷◌, IsTrue, ℕ, zero, suc, ◌≤◌, ◌<◌, List, ◌++◌, length, ◌⊎◌, Bool, true, not, ◌==◌, ◌&&◌, ◌||◌, IsFalse}
-use Rattle.superio_laws.specs.Serial.{Asked, Sent, CharacterTimeout, TraceEntry, Trace, IirRead, Op, answer_count, DecodedOp, RbrRead, IerWrite, has_bits, only_bits, State, not_empty, ier_bits, Rda, Thre, Condition, ier_bit, identification_of, step, decode_in, answers_fit, is_asserted, irq_level}
-use Rattle.superio_laws.specs.Serial.History.{ier_after, held_bytes, decode_at, read_out_bytes, is_pending, is_call_due, is_fitting, RdaFollowsTimeouts}
+use Rattle.std.specs.Prelude.{
+  ◌≡◌,
+  false,
+  ◌∷◌,
+  IsTrue,
+  ℕ,
+  zero,
+  suc,
+  ◌≤◌,
+  ◌<◌,
+  List,
+  ◌++◌,
+  length,
+  ◌⊎◌,
+  Bool,
+  true,
+  not,
+  ◌==◌,
+  ◌&&◌,
+  ◌||◌,
+  IsFalse,
+}
+use Rattle.superio_laws.specs.Serial.{
+  Asked,
+  Sent,
+  CharacterTimeout,
+  TraceEntry,
+  Trace,
+  IirRead,
+  Op,
+  answer_count,
+  DecodedOp,
+  RbrRead,
+  IerWrite,
+  has_bits,
+  only_bits,
+  State,
+  not_empty,
+  ier_bits,
+  Rda,
+  Thre,
+  Condition,
+  ier_bit,
+  identification_of,
+  step,
+  decode_in,
+  answers_fit,
+  is_asserted,
+  irq_level,
+}
+use Rattle.superio_laws.specs.Serial.History.{
+  ier_after,
+  held_bytes,
+  decode_at,
+  read_out_bytes,
+  is_pending,
+  is_call_due,
+  is_fitting,
+  RdaFollowsTimeouts,
+}
 use Rattle.superio_laws.specs.Serial.Laws.{state_after}
 
 abbrev pub timeout_entry : (asked : Asked) → TraceEntry
@@ -33,7 +90,7 @@ RdaFollowsTimeoutsLaw =
 
 -- entries after `before`, newest first, of a driver's run, and of others meanwhile, such as the host. They take a byte
 -- if one is held at first, and the last reads IIR
-pub record HandlerPass (start : State) (before run : Trace) : Type 0 where
+pub record IsSimpleRun (start : State) (before run : Trace) : Type 0 where
   pub earlier : Trace
   pub last : TraceEntry
   pub ends : run ≡ last ∷ earlier
@@ -43,22 +100,22 @@ pub record HandlerPass (start : State) (before run : Trace) : Type 0 where
       → length (read_out_bytes start before) < length (read_out_bytes start (run ++ before))
 
 -- a character timeout after such a run asks for the interrupt again if bytes are held and IER enables RDA
-abbrev pub InterruptAfterPassLaw : Type 0
-InterruptAfterPassLaw = (start : State) (before run : Trace) (asked : Asked) → HandlerPass start before run
+abbrev pub InterruptAfterRunLaw : Type 0
+InterruptAfterRunLaw = (start : State) (before run : Trace) (asked : Asked) → IsSimpleRun start before run
     → IsTrue (not_empty (held_bytes start (run ++ before)))
     → IsTrue (has_bits (ier_after start (run ++ before)) (ier_bit Rda))
     → IsTrue (is_call_due Rda start (run ++ before) (timeout_entry asked))
 
 -- so many such runs, each with a timeout after it, take a trace to another
-abbrev pub HandlerPasses : (start : State) (runs : ℕ) (before after : Trace) → Type 0
-HandlerPasses start zero before after = after ≡ before
-HandlerPasses start (suc others) before after =
-    (run : Trace) × (asked : Asked) × HandlerPass start before run
-    × HandlerPasses start others (timeout_entry asked ∷ run ++ before) after
+abbrev pub AreSimpleRuns : (start : State) (runs : ℕ) (before after : Trace) → Type 0
+AreSimpleRuns start zero before after = after ≡ before
+AreSimpleRuns start (suc others) before after =
+    (run : Trace) × (asked : Asked) × IsSimpleRun start before run
+    × AreSimpleRuns start others (timeout_entry asked ∷ run ++ before) after
 
 -- after as many runs as bytes are held, all of these are taken, in order
-abbrev pub ReadOutAfterPassesLaw : Type 0
-ReadOutAfterPassesLaw = (start : State) (runs : ℕ) (before after : Trace) → HandlerPasses start runs before after
+abbrev pub ReadOutAfterRunsLaw : Type 0
+ReadOutAfterRunsLaw = (start : State) (runs : ℕ) (before after : Trace) → AreSimpleRuns start runs before after
     → length (held_bytes start before) ≤ runs
     → (more : List ℕ)
     × (read_out_bytes start after ≡ read_out_bytes start before ++ held_bytes start before ++ more)

@@ -3,7 +3,7 @@
 use Rattle.std.proofs.Common.{[], ◌∷◌, ◌++◌, sym, ap, ◌∙◌, subst, append_assoc, append-nil, refl, arith}
 use Rattle.vm_superio.specs.Serial.{SerialView, has_bits, Other, State, is_dlab}
 use Rattle.superio_script.specs.Driver.{ReadsWhileReady}
-use Rattle.superio_script.proofs.DriverLemmas.{reads_left-few, lcr_read, lsr_read, pass, coherent_after, takes_all}
+use Rattle.superio_script.proofs.DriverLemmas.{reads_left-few, lcr_read, lsr_read, polled_read, coherent_after, takes_all}
 use Rattle.superio_script.proofs.driver.drain.Goals as goal
 
 pub loop-bytes-init : goal.loop-bytes-init
@@ -25,14 +25,14 @@ loop-bytes-init g c =
 
 pub loop-bytes-smaller : goal.loop-bytes-smaller
 loop-bytes-smaller g c =
-    let one = pass c.one_call.ensures.data_ready c.loop-bytes.invariant.hidden c.read-in-loop-bytes.ensures.step
+    let one = polled_read c.one_call.ensures.data_ready c.loop-bytes.invariant.hidden c.read-in-loop-bytes.ensures.step
     (c.read-in-loop-bytes.ensures.rest_unchanged (refl {a = Other})) (sym c.has_data_ready.ensures ∙ c.loop-bytes-test.true) c.read-in-loop-bytes-2.ensures.step in
     omega (arith, one.less)
 
 pub loop-bytes-preserved : goal.loop-bytes-preserved
 loop-bytes-preserved g c =
     let before = c.loop-bytes.invariant in
-    let one = pass c.one_call.ensures.data_ready c.loop-bytes.invariant.hidden c.read-in-loop-bytes.ensures.step
+    let one = polled_read c.one_call.ensures.data_ready c.loop-bytes.invariant.hidden c.read-in-loop-bytes.ensures.step
     (c.read-in-loop-bytes.ensures.rest_unchanged (refl {a = Other})) (sym c.has_data_ready.ensures ∙ c.loop-bytes-test.true) c.read-in-loop-bytes-2.ensures.step in
     record {
       hidden = one.hidden;

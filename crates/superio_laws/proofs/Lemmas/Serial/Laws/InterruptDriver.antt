@@ -7,7 +7,7 @@ use Rattle.std.proofs.lemmas.List.{take-append-drop, take-append-le}
 use Rattle.std.proofs.Math.Seq.{take-append_seam}
 use Rattle.superio_laws.specs.Serial.{Rda, Thre, State, not_empty, CharacterTimeout, TraceEntry, Trace, is_refused_at_once, answer_count, count_if, Timeout, DecodedOp, IirRead}
 use Rattle.superio_laws.specs.Serial.History.{decode_at, ier_after, held_bytes, accepted_bytes, read_out_bytes, acknowledges, raises_rda, raises_thre, rda_raised, rda_pending, is_raised, is_pending, is_call_due, trigger_calls, is_fitting_entry, is_fitting, has_waiting_bytes}
-use Rattle.superio_laws.specs.Serial.Laws.Line.{timeout_entry, NoByteWaitsLaw, TimeoutCallsLaw, RdaFollowsTimeoutsLaw, InterruptAfterPassLaw, HandlerPasses, ReadOutAfterPassesLaw}
+use Rattle.superio_laws.specs.Serial.Laws.Line.{timeout_entry, NoByteWaitsLaw, TimeoutCallsLaw, RdaFollowsTimeoutsLaw, InterruptAfterRunLaw, AreSimpleRuns, ReadOutAfterRunsLaw}
 use Rattle.superio_laws.proofs.Lemmas.Serial.Laws.Consequences.{nowhere, waiting_bytes_law}
 use Rattle.superio_laws.proofs.Lemmas.Serial.Laws.{read_out_then_held}
 
@@ -65,7 +65,7 @@ idle start last trace reads =
     ap (λ (kind : DecodedOp). raises_rda kind (held_bytes start trace) (ier_after start trace)
     || (not (acknowledges Rda kind) && is_pending Rda start trace)) reads
 
-pub owed_after_run_law : InterruptAfterPassLaw
+pub owed_after_run_law : InterruptAfterRunLaw
 owed_after_run_law start before run asked is some enabled =
     timeout_calls_law start (run ++ before) asked some enabled
     (ap (λ (run : Trace). is_pending Rda start (run ++ before)) is.ends ∙ idle start is.last (is.earlier ++ before) is.reads_iir)
@@ -121,7 +121,7 @@ enough_next most taken zero all runs taken_next count grows takes few enough = o
 enough_next most taken (suc held) all runs taken_next count grows takes few enough = omega (arith, takes (omega arith), enough)
 
 -- if `most` bytes are to be taken in all, and the runs are enough for them
-after_runs : (start : State) (most runs : ℕ) (before after : Trace) → HandlerPasses start runs before after
+after_runs : (start : State) (most runs : ℕ) (before after : Trace) → AreSimpleRuns start runs before after
     → most ≤ length (all_bytes start before) → most ≤ length (read_out_bytes start before) + runs
     → most ≤ length (read_out_bytes start after)
 after_runs start most zero before after same few enough =
@@ -135,7 +135,7 @@ after_runs start most (suc runs) before after (run, asked, is, later) few enough
     (enough_next most (length (read_out_bytes start before)) (length (held_bytes start before)) (length (all_bytes start before)) runs (length (read_out_bytes start next))
     (counted start before) grown (λ some. omega (arith, timeout, is.takes (some_held (held_bytes start before) some))) few enough)
 
-extended : (start : State) (runs : ℕ) (before after : Trace) → HandlerPasses start runs before after
+extended : (start : State) (runs : ℕ) (before after : Trace) → AreSimpleRuns start runs before after
     → (later : Trace) × (after ≡ later ++ before)
 extended start zero before after same = ([], same)
 extended start (suc runs) before after (run, asked, is, rest) =
@@ -151,7 +151,7 @@ begins_first first second third (more, one) (rest, two) few =
           (sym (take-append-le n second rest few) ∙ ap (take n) (sym two ∙ one) ∙ take-append_seam first more),
     )
 
-pub taken_after_runs_law : ReadOutAfterPassesLaw
+pub taken_after_runs_law : ReadOutAfterRunsLaw
 taken_after_runs_law start runs before after all few =
     let (later, whole) = extended start runs before after all in
     let enough = after_runs start (length (all_bytes start before)) runs before after all (omega arith) (omega (arith, counted start before, few)) in

@@ -7,7 +7,7 @@ use Rattle.std.specs.Bool.{IsFalse}
 use Rattle.superio_laws.specs.Serial.{Rda, Thre, Condition, State, not_empty, TraceEntry, Trace, count_if, DecodedOp, IirRead, IerWrite, ThrWrite, sent_by, has_bits, ier_bit}
 use Rattle.superio_laws.specs.Serial.History.{decode_at, ier_after, held_bytes, accepted_bytes, read_out_bytes, accepted_by, read_out_by, acknowledges, is_raised, is_pending, NoneAcknowledges, covers_waiting_bytes}
 use Rattle.superio_laws.specs.Serial.Laws.Line.{timeout_entry}
-use Rattle.superio_laws.specs.Serial.Laws.Console.{Driver, given, sent, left, has_to_send, EnablesThre, SendsEnabled, AsksWhenGiven, SendsOne, Rests, EndsAtNone, EndsInTurn, EndsInTimeout, IsAskedFor, InterruptToReadLaw, InterruptToSendLaw, AreConsoleRuns, after_runs, is_free, free_runs, ReadOutInPassesLaw, SentInPassesLaw, TakesUntilNone, TakesMost, HandlerRunLaw, HandlerEndsLaw}
+use Rattle.superio_laws.specs.Serial.Laws.GuestDriver.{Driver, given, sent, left, has_to_send, EnablesThre, SendsEnabled, AsksWhenGiven, SendsOne, Rests, EndsAtNone, EndsInPass, EndsInTimeout, IsAskedFor, InterruptToReadLaw, InterruptToSendLaw, AreDriverRuns, after_runs, is_free, free_runs, ReadOutInRunsLaw, SentInRunsLaw, TakesUntilNone, TakesMost, HandlerRunLaw, HandlerEndsLaw}
 use Rattle.superio_laws.proofs.Lemmas.Serial.Laws.{read_out_then_held}
 use Rattle.superio_laws.proofs.Lemmas.Serial.Laws.Consequences.{waiting_bytes_law}
 use Rattle.superio_laws.proofs.Lemmas.Serial.Laws.InterruptDriver.{Begins, begins_then, begins_first, all_bytes, some_held, taken_grows, accepted_grows, longer, counted, all_grow, enough_next}
@@ -81,20 +81,20 @@ stays_waiting driver start (entry ∷ newest) before none asks was some =
 resting : (driver : Driver) (start : State) (trace : Trace) → has_to_send driver start trace ≡ false → Waits driver start trace
 resting driver start trace rests some = absurd (false≢true (sym rests ∙ some))
 
-turn_waits : (driver : Driver) (start : State) (before turn : Trace) → NoneAcknowledges start (acknowledges Thre) turn before
-    → AsksWhenGiven driver start before turn → SendsOne driver start before turn ⊎ Rests driver start before turn
-    → Waits driver start (turn ++ before)
-turn_waits driver start before turn none asks (inl at) some =
+pass_waits : (driver : Driver) (start : State) (before pass : Trace) → NoneAcknowledges start (acknowledges Thre) pass before
+    → AsksWhenGiven driver start before pass → SendsOne driver start before pass ⊎ Rests driver start before pass
+    → Waits driver start (pass ++ before)
+pass_waits driver start before pass none asks (inl at) some =
     let point = at.earlier ++ before in
-    let unread = none_within start (acknowledges Thre) turn [] at.later (at.entry ∷ at.earlier) before at.place none in
+    let unread = none_within start (acknowledges Thre) pass [] at.later (at.entry ∷ at.earlier) before at.place none in
     let raised = thr_raises start point at.entry at.value at.writes at.enabled in
     subst (λ trace. IsTrue (is_pending Thre start trace))
-    (sym (ap (λ (turn : Trace). turn ++ before) at.place ∙ append_assoc at.later (at.entry ∷ at.earlier) before))
+    (sym (ap (λ (pass : Trace). pass ++ before) at.place ∙ append_assoc at.later (at.entry ∷ at.earlier) before))
     (raised_stays Thre start at.later point at.entry raised unread)
-turn_waits driver start before turn none asks (inr (later, earlier, place, rests)) some =
-    (subst (Waits driver start) (sym (ap (λ (turn : Trace). turn ++ before) place ∙ append_assoc later earlier before))
-    (stays_waiting driver start later (earlier ++ before) (none_within start (acknowledges Thre) turn [] later earlier before place none)
-    (asks_within driver start turn [] later earlier before place asks) (resting driver start (earlier ++ before) rests))) some
+pass_waits driver start before pass none asks (inr (later, earlier, place, rests)) some =
+    (subst (Waits driver start) (sym (ap (λ (pass : Trace). pass ++ before) place ∙ append_assoc later earlier before))
+    (stays_waiting driver start later (earlier ++ before) (none_within start (acknowledges Thre) pass [] later earlier before place none)
+    (asks_within driver start pass [] later earlier before place asks) (resting driver start (earlier ++ before) rests))) some
 
 has_none : (b pending : Bool) → (IsTrue b → IsTrue pending) → pending ≡ false → b ≡ false
 has_none b pending waits none = grind arith
@@ -107,28 +107,28 @@ module _ (driver : Driver) (start : State) (before run : Trace) (asks : AsksWhen
     opened = ends.iir ∷ ends.earlier ++ before
 
     abbrev end : Trace
-    end = ends.turn ++ opened
+    end = ends.pass ++ opened
 
     whole_at_none : run ++ before ≡ ends.tail ++ ends.none ∷ end
     whole_at_none =
-        ap (λ (run : Trace). run ++ before) ends.place ∙ append_assoc ends.tail (ends.none ∷ (ends.turn ++ ends.iir ∷ ends.earlier)) before
-        ∙ ap (λ (list : Trace). ends.tail ++ ends.none ∷ list) (append_assoc ends.turn (ends.iir ∷ ends.earlier) before)
+        ap (λ (run : Trace). run ++ before) ends.place ∙ append_assoc ends.tail (ends.none ∷ (ends.pass ++ ends.iir ∷ ends.earlier)) before
+        ∙ ap (λ (list : Trace). ends.tail ++ ends.none ∷ list) (append_assoc ends.pass (ends.iir ∷ ends.earlier) before)
 
-    asks_in_turn : AsksWhenGiven driver start opened ends.turn
-    asks_in_turn =
-        asks_within driver start run (ends.tail ++ ends.none ∷ []) ends.turn (ends.iir ∷ ends.earlier) before
-        (ends.place ∙ sym (append_assoc ends.tail (ends.none ∷ []) (ends.turn ++ ends.iir ∷ ends.earlier))) asks
+    asks_in_pass : AsksWhenGiven driver start opened ends.pass
+    asks_in_pass =
+        asks_within driver start run (ends.tail ++ ends.none ∷ []) ends.pass (ends.iir ∷ ends.earlier) before
+        (ends.place ∙ sym (append_assoc ends.tail (ends.none ∷ []) (ends.pass ++ ends.iir ∷ ends.earlier))) asks
 
     has_none_at_end : has_to_send driver start end ≡ false
     has_none_at_end =
-        has_none _ _ (turn_waits driver start opened ends.turn ends.is_turn.unread asks_in_turn ends.is_turn.sends) ends.shows_none.0
+        has_none _ _ (pass_waits driver start opened ends.pass ends.is_pass.unread asks_in_pass ends.is_pass.sends) ends.shows_none.0
 
     has_none_after : Waits driver start (ends.none ∷ end)
     has_none_after some =
-        let nested : (ends.turn ++ ends.iir ∷ ends.earlier) ++ before ≡ end = append_assoc ends.turn (ends.iir ∷ ends.earlier) before in
+        let nested : (ends.pass ++ ends.iir ∷ ends.earlier) ++ before ≡ end = append_assoc ends.pass (ends.iir ∷ ends.earlier) before in
         absurd (not_either (subst (λ (trace : Trace). IsTrue (has_to_send driver start (ends.none ∷ trace))
         → IsTrue (has_to_send driver start trace) ⊎ EnablesThre start trace ends.none ⊎ SendsEnabled start trace ends.none) nested
-        (asks ends.tail (ends.turn ++ ends.iir ∷ ends.earlier) ends.none ends.place) some)) where
+        (asks ends.tail (ends.pass ++ ends.iir ∷ ends.earlier) ends.none ends.place) some)) where
           not_either : IsTrue (has_to_send driver start end) ⊎ EnablesThre start end ends.none ⊎ SendsEnabled start end ends.none → ⊥
           not_either (inl has) = false≢true (sym has_none_at_end ∙ has)
           not_either (inr (inl (value, kind, enabled, kept))) = reads_not (sym ends.reads_none ∙ kind) where
@@ -140,27 +140,27 @@ module _ (driver : Driver) (start : State) (before run : Trace) (asks : AsksWhen
 
     asks_in_tail : AsksWhenGiven driver start (ends.none ∷ end) ends.tail
     asks_in_tail =
-        subst (λ (trace : Trace). AsksWhenGiven driver start (ends.none ∷ trace) ends.tail) (append_assoc ends.turn (ends.iir ∷ ends.earlier) before)
-        (asks_within driver start run [] ends.tail (ends.none ∷ (ends.turn ++ ends.iir ∷ ends.earlier)) before ends.place asks)
+        subst (λ (trace : Trace). AsksWhenGiven driver start (ends.none ∷ trace) ends.tail) (append_assoc ends.pass (ends.iir ∷ ends.earlier) before)
+        (asks_within driver start run [] ends.tail (ends.none ∷ (ends.pass ++ ends.iir ∷ ends.earlier)) before ends.place asks)
 
     waits_at_none : Waits driver start (run ++ before)
     waits_at_none =
         subst (Waits driver start) (sym whole_at_none)
         (stays_waiting driver start ends.tail (ends.none ∷ end) (no_iir start ends.tail (ends.none ∷ end) ends.untouched) asks_in_tail has_none_after)
 
-  -- ---- one that ends in a turn
+  -- ---- one that ends in a pass
 
-  module _ (ends : EndsInTurn driver start before run) where
+  module _ (ends : EndsInPass driver start before run) where
     abbrev begun : Trace
     begun = ends.iir ∷ ends.earlier ++ before
 
-    waits_in_turn : Waits driver start (run ++ before)
-    waits_in_turn =
-        let whole : run ++ before ≡ ends.turn ++ begun =
-        ap (λ (run : Trace). run ++ before) ends.place ∙ append_assoc ends.turn (ends.iir ∷ ends.earlier) before in
+    waits_in_pass : Waits driver start (run ++ before)
+    waits_in_pass =
+        let whole : run ++ before ≡ ends.pass ++ begun =
+        ap (λ (run : Trace). run ++ before) ends.place ∙ append_assoc ends.pass (ends.iir ∷ ends.earlier) before in
         subst (Waits driver start) (sym whole)
-        (turn_waits driver start begun ends.turn ends.is_turn.unread
-        (asks_within driver start run [] ends.turn (ends.iir ∷ ends.earlier) before ends.place asks) ends.is_turn.sends)
+        (pass_waits driver start begun ends.pass ends.is_pass.unread
+        (asks_within driver start run [] ends.pass (ends.iir ∷ ends.earlier) before ends.place asks) ends.is_pass.sends)
 
 -- ---- the driver is asked again
 
@@ -177,17 +177,17 @@ asked_for condition start before run pending = record {
 
 pub asked_to_send_law : InterruptToSendLaw
 asked_to_send_law driver start before run is some = asked_for Thre start before run (pending is.ends) where
-  pending : EndsAtNone driver start before run ⊎ EndsInTurn driver start before run → IsTrue (is_pending Thre start (run ++ before))
+  pending : EndsAtNone driver start before run ⊎ EndsInPass driver start before run → IsTrue (is_pending Thre start (run ++ before))
   pending (inl ends) = waits_at_none driver start before run is.asks ends some
-  pending (inr ends) = waits_in_turn driver start before run is.asks ends some
+  pending (inr ends) = waits_in_pass driver start before run is.asks ends some
 
 pub asked_to_take_law : InterruptToReadLaw
 asked_to_take_law driver start before run is monitored some enabled = asked_for Rda start before run (pending monitored.in_loop) where
   pending : EndsAtNone driver start before run ⊎ EndsInTimeout start before run → IsTrue (is_pending Rda start (run ++ before))
   pending (inl ends) =
-      let end = ends.turn ++ (ends.iir ∷ ends.earlier ++ before) in
-      let nested : (ends.turn ++ ends.iir ∷ ends.earlier) ++ before ≡ end = append_assoc ends.turn (ends.iir ∷ ends.earlier) before in
-      let (later, asked, timed) = monitored.after_none ends.tail (ends.turn ++ ends.iir ∷ ends.earlier) ends.none ends.place
+      let end = ends.pass ++ (ends.iir ∷ ends.earlier ++ before) in
+      let nested : (ends.pass ++ ends.iir ∷ ends.earlier) ++ before ≡ end = append_assoc ends.pass (ends.iir ∷ ends.earlier) before in
+      let (later, asked, timed) = monitored.after_none ends.tail (ends.pass ++ ends.iir ∷ ends.earlier) ends.none ends.place
       (ap (λ (trace : Trace). decode_at start trace ends.none.op) nested ∙ ends.reads_none)
       (ap (λ (trace : Trace). is_pending Thre start trace) nested ∙ ends.shows_none.0, ap (λ (trace : Trace). is_pending Rda start trace) nested ∙ ends.shows_none.1) in
       waiting_bytes_law start (run ++ before) later (ends.none ∷ end) (timeout_entry asked)
@@ -218,7 +218,7 @@ sent_grows driver start [] before = ([], sym (append-nil _))
 sent_grows driver start (entry ∷ newest) before =
     begins_then (sent driver start before) (sent driver start (newest ++ before)) (sent driver start (entry ∷ newest ++ before)) (sent_grows driver start newest before) (_, refl)
 
-taken_within : (driver : Driver) (start : State) (most : ℕ) (before : Trace) (runs : List Trace) → AreConsoleRuns driver start before runs
+taken_within : (driver : Driver) (start : State) (most : ℕ) (before : Trace) (runs : List Trace) → AreDriverRuns driver start before runs
     → most ≤ length (all_bytes start before) → most ≤ length (read_out_bytes start before) + length runs
     → most ≤ length (read_out_bytes start (after_runs before runs))
 taken_within driver start most before [] are few enough = omega (arith, enough)
@@ -246,7 +246,7 @@ most_first through waiting all n count = (
   omega (arith, length-append through (take n waiting), length-take n waiting),
 )
 
-pub taken_in_runs_law : ReadOutInPassesLaw
+pub taken_in_runs_law : ReadOutInRunsLaw
 taken_in_runs_law driver start before runs are =
     let held = held_bytes start before in
     let taken = read_out_bytes start before in
@@ -298,15 +298,15 @@ all_sent : (given_before given_at sent_before sent_at sent_end : ℕ) → 0 < gi
     → given_at - sent_at ≡ 0 → sent_at ≤ sent_end → sent_before < sent_end
 all_sent given_before given_at sent_before sent_at sent_end some grows none more = omega (arith, some, grows, none, more)
 
-turn_sends : (driver : Driver) (start : State) (before run later turn earlier : Trace) → run ≡ later ++ (turn ++ earlier)
-    → SendsOne driver start (earlier ++ before) turn ⊎ Rests driver start (earlier ++ before) turn
+pass_sends : (driver : Driver) (start : State) (before run later pass earlier : Trace) → run ≡ later ++ (pass ++ earlier)
+    → SendsOne driver start (earlier ++ before) pass ⊎ Rests driver start (earlier ++ before) pass
     → IsTrue (is_free driver before run) → 0 < length (left driver start before)
     → length (sent driver start before) < length (sent driver start (run ++ before))
-turn_sends driver start before run later turn earlier place (inl at) free some =
+pass_sends driver start before run later pass earlier place (inl at) free some =
     let point = at.earlier ++ earlier in
     let same = append_assoc at.earlier earlier before in
     let whole : run ++ before ≡ (later ++ at.later) ++ (at.entry ∷ point ++ before) =
-    ap (λ (run : Trace). run ++ before) (place ∙ within later turn earlier at.entry at.later at.earlier at.place)
+    ap (λ (run : Trace). run ++ before) (place ∙ within later pass earlier at.entry at.later at.earlier at.place)
     ∙ append_assoc (later ++ at.later) (at.entry ∷ point) before in
     omega (
       arith,
@@ -316,11 +316,11 @@ turn_sends driver start before run later turn earlier place (inl at) free some =
           (sent_grows driver start (later ++ at.later) (at.entry ∷ point ++ before)),
       ap (λ (trace : Trace). length (sent driver start trace)) whole,
     )
-turn_sends driver start before run later turn earlier place (inr (newer, older, split, rests)) free some =
+pass_sends driver start before run later pass earlier place (inr (newer, older, split, rests)) free some =
     let point = older ++ earlier in
     let same = append_assoc older earlier before in
     let parts : run ≡ (later ++ newer) ++ point =
-    place ∙ ap (λ (turn : Trace). later ++ (turn ++ earlier)) split ∙ ap (λ (list : Trace). later ++ list) (append_assoc newer older earlier)
+    place ∙ ap (λ (pass : Trace). later ++ (pass ++ earlier)) split ∙ ap (λ (list : Trace). later ++ list) (append_assoc newer older earlier)
     ∙ sym (append_assoc later newer point) in
     let whole : run ++ before ≡ (later ++ newer) ++ (point ++ before) =
     ap (λ (run : Trace). run ++ before) parts ∙ append_assoc (later ++ newer) point before in
@@ -339,14 +339,14 @@ turn_sends driver start before run later turn earlier place (inr (newer, older, 
       ap (λ (trace : Trace). length (sent driver start trace)) whole,
     )
 
-run_sends : (driver : Driver) (start : State) (before run : Trace) → EndsAtNone driver start before run ⊎ EndsInTurn driver start before run
+run_sends : (driver : Driver) (start : State) (before run : Trace) → EndsAtNone driver start before run ⊎ EndsInPass driver start before run
     → IsTrue (is_free driver before run) → 0 < length (left driver start before)
     → length (sent driver start before) < length (sent driver start (run ++ before))
 run_sends driver start before run (inl ends) free some =
-    turn_sends driver start before run (ends.tail ++ ends.none ∷ []) ends.turn (ends.iir ∷ ends.earlier)
-    (ends.place ∙ sym (append_assoc ends.tail (ends.none ∷ []) (ends.turn ++ ends.iir ∷ ends.earlier))) ends.is_turn.sends free some
+    pass_sends driver start before run (ends.tail ++ ends.none ∷ []) ends.pass (ends.iir ∷ ends.earlier)
+    (ends.place ∙ sym (append_assoc ends.tail (ends.none ∷ []) (ends.pass ++ ends.iir ∷ ends.earlier))) ends.is_pass.sends free some
 run_sends driver start before run (inr ends) free some =
-    turn_sends driver start before run [] ends.turn (ends.iir ∷ ends.earlier) ends.place ends.is_turn.sends free some
+    pass_sends driver start before run [] ends.pass (ends.iir ∷ ends.earlier) ends.place ends.is_pass.sends free some
 
 -- one run more: it sends a byte if it has some, unless it is stopped
 sends_next : (most sent given rest sent_next : ℕ) (free : Bool) → sent ≤ sent_next → (IsTrue free → 0 < given - sent → sent < sent_next)
@@ -356,7 +356,7 @@ sends_next most sent given rest sent_next true grows sends few enough = sends_fr
   sends_free sends = grind (arith, sends, few, enough, grows)
 sends_next most sent given rest sent_next false grows sends few enough = omega (arith, grows, enough)
 
-sent_within : (driver : Driver) (start : State) (most : ℕ) (before : Trace) (runs : List Trace) → AreConsoleRuns driver start before runs
+sent_within : (driver : Driver) (start : State) (most : ℕ) (before : Trace) (runs : List Trace) → AreDriverRuns driver start before runs
     → most ≤ length (given driver before) → most ≤ length (sent driver start before) + free_runs driver before runs
     → most ≤ length (sent driver start (after_runs before runs))
 sent_within driver start most before [] are few enough = omega (arith, enough)
@@ -369,7 +369,7 @@ sent_within driver start most before (run ∷ runs) (is, later) few enough =
     (λ free some. run_sends driver start before run is.ends free
     (omega (arith, some, length-drop (length (sent driver start before)) (given driver before)))) few enough)
 
-pub sent_in_runs_law : SentInPassesLaw
+pub sent_in_runs_law : SentInRunsLaw
 sent_in_runs_law driver start before runs are ordered ordered_after =
     let some = left driver start before in
     let first = sent driver start before in
@@ -461,9 +461,9 @@ held_by : (start : State) (trace : Trace) (some : Bool) → not_empty (held_byte
 held_by start trace true is idle pending = absurd (false≢true (sym idle ∙ pending is))
 held_by start trace false is idle pending = none_of (held_bytes start trace) is
 
-emptied : (start : State) (before turn : Trace) → TakesUntilNone start before turn → is_pending Rda start (turn ++ before) ≡ false
-    → IsTrue (has_bits (ier_after start (turn ++ before)) (ier_bit Rda)) → held_bytes start (turn ++ before) ≡ []
-emptied start before turn at idle enabled =
+emptied : (start : State) (before pass : Trace) → TakesUntilNone start before pass → is_pending Rda start (pass ++ before) ≡ false
+    → IsTrue (has_bits (ier_after start (pass ++ before)) (ier_bit Rda)) → held_bytes start (pass ++ before) ≡ []
+emptied start before pass at idle enabled =
     let point = at.earlier ++ before in
     let whole = ap (λ (list : Trace). list ++ before) at.place ∙ append_assoc at.later at.earlier before in
     subst (λ trace. held_bytes start trace ≡ []) (sym whole)
@@ -476,20 +476,20 @@ handler_ends_law most driver start before run is = (
   has_none_at_end driver start before run is.asks is.ends,
   λ enabled. ended is.takes enabled,
 ) where
-  ended : TakesUntilNone start (is.ends.iir ∷ is.ends.earlier ++ before) is.ends.turn
-      ⊎ TakesMost start most (is.ends.iir ∷ is.ends.earlier ++ before) is.ends.turn
-      → IsTrue (has_bits (ier_after start (is.ends.turn ++ (is.ends.iir ∷ is.ends.earlier ++ before))) (ier_bit Rda))
-      → (held_bytes start (is.ends.turn ++ (is.ends.iir ∷ is.ends.earlier ++ before)) ≡ [])
-      ⊎ TakesMost start most (is.ends.iir ∷ is.ends.earlier ++ before) is.ends.turn
-  ended (inl empty) enabled = inl (emptied start (is.ends.iir ∷ is.ends.earlier ++ before) is.ends.turn empty is.ends.shows_none.1 enabled)
+  ended : TakesUntilNone start (is.ends.iir ∷ is.ends.earlier ++ before) is.ends.pass
+      ⊎ TakesMost start most (is.ends.iir ∷ is.ends.earlier ++ before) is.ends.pass
+      → IsTrue (has_bits (ier_after start (is.ends.pass ++ (is.ends.iir ∷ is.ends.earlier ++ before))) (ier_bit Rda))
+      → (held_bytes start (is.ends.pass ++ (is.ends.iir ∷ is.ends.earlier ++ before)) ≡ [])
+      ⊎ TakesMost start most (is.ends.iir ∷ is.ends.earlier ++ before) is.ends.pass
+  ended (inl empty) enabled = inl (emptied start (is.ends.iir ∷ is.ends.earlier ++ before) is.ends.pass empty is.ends.shows_none.1 enabled)
   ended (inr many) enabled = inr many
 
 -- it takes a byte if one is held
 
-turn_takes : (start : State) (most : ℕ) (before opened turn : Trace) → 0 < most
-    → TakesUntilNone start (opened ++ before) turn ⊎ TakesMost start most (opened ++ before) turn → 0 < length (held_bytes start before)
-    → length (read_out_bytes start before) < length (read_out_bytes start (turn ++ (opened ++ before)))
-turn_takes start most before opened turn some (inl empty) held =
+pass_takes : (start : State) (most : ℕ) (before opened pass : Trace) → 0 < most
+    → TakesUntilNone start (opened ++ before) pass ⊎ TakesMost start most (opened ++ before) pass → 0 < length (held_bytes start before)
+    → length (read_out_bytes start before) < length (read_out_bytes start (pass ++ (opened ++ before)))
+pass_takes start most before opened pass some (inl empty) held =
     let point = empty.earlier ++ (opened ++ before) in
     let whole = ap (λ (list : Trace). list ++ (opened ++ before)) empty.place ∙ append_assoc empty.later empty.earlier (opened ++ before) in
     omega (
@@ -503,16 +503,16 @@ turn_takes start most before opened turn some (inl empty) held =
       longer (read_out_bytes start point) (read_out_bytes start (empty.later ++ point)) (taken_grows start empty.later point),
       ap (λ (trace : Trace). length (read_out_bytes start trace)) whole,
     )
-turn_takes start most before opened turn some (inr many) held =
+pass_takes start most before opened pass some (inr many) held =
     omega (arith, some, many, longer (read_out_bytes start before) (read_out_bytes start (opened ++ before)) (taken_grows start opened before))
 
 pub handler_run_law : HandlerRunLaw
 handler_run_law most driver start before run is = record {
   takes = λ held.
-      let end = is.ends.turn ++ (is.ends.iir ∷ is.ends.earlier ++ before) in
+      let end = is.ends.pass ++ (is.ends.iir ∷ is.ends.earlier ++ before) in
       omega (
         arith,
-        turn_takes start most before (is.ends.iir ∷ is.ends.earlier) is.ends.turn is.some is.takes (held_some (held_bytes start before) held),
+        pass_takes start most before (is.ends.iir ∷ is.ends.earlier) is.ends.pass is.some is.takes (held_some (held_bytes start before) held),
         longer (read_out_bytes start end) (read_out_bytes start (is.ends.tail ++ is.ends.none ∷ end)) (later_grows (is.ends.tail) (is.ends.none) end),
         ap (λ (trace : Trace). length (read_out_bytes start trace)) (whole_at_none driver start before run is.asks is.ends),
       );

@@ -1,6 +1,6 @@
 -- SPDX-License-Identifier: Apache-2.0 OR BSD-3-Clause
-use Rattle.superio_laws.proofs.Lemmas.Serial.Laws.Console.{handler_run_law, handler_ends_law}
-use Rattle.superio_laws.proofs.console_handler.Goals as goal
+use Rattle.superio_laws.proofs.Lemmas.Serial.Laws.GuestDriver.{handler_run_law, handler_ends_law}
+use Rattle.superio_laws.proofs.guest_handler.Goals as goal
 
 pub returns-clause-run : goal.returns-clause-run
 returns-clause-run c = handler_run_law

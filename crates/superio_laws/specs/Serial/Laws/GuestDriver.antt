@@ -2,9 +2,58 @@
 -- The laws of a driver that takes received bytes and sends its own when an interrupt runs it, over a port whose monitor
 -- makes character timeouts. After each run an interrupt has been asked for, for what is held and for what is left to
 -- send, and each run moves the first bytes first.
-use Rattle.std.specs.Prelude.{◌≡◌, ⊤, ℕ, ◌+◌, ◌<◌, ◌≤◌, Bool, false, not, ◌&&◌, ◌||◌, if◌then◌else◌, List, [], ◌∷◌, ◌++◌, length, take, drop, ◌⊎◌, IsTrue}
-use Rattle.superio_laws.specs.Serial.{Asked, is_refused_at_once, count_if, TraceEntry, Trace, IirRead, IerWrite, ThrWrite, is_iir_read, is_rbr_read, sent_by, has_bits, State, not_empty, Rda, Thre, Condition, ier_bit}
-use Rattle.superio_laws.specs.Serial.History.{ier_after, held_bytes, read_out_bytes, decode_at, is_call_due, is_pending, NoneAcknowledges}
+use Rattle.std.specs.Prelude.{
+  ◌≡◌,
+  ⊤,
+  ℕ,
+  ◌+◌,
+  ◌<◌,
+  ◌≤◌,
+  Bool,
+  false,
+  not,
+  ◌&&◌,
+  ◌||◌,
+  if◌then◌else◌,
+  List,
+  [],
+  ◌∷◌,
+  ◌++◌,
+  length,
+  take,
+  drop,
+  ◌⊎◌,
+  IsTrue,
+}
+use Rattle.superio_laws.specs.Serial.{
+  Asked,
+  is_refused_at_once,
+  count_if,
+  TraceEntry,
+  Trace,
+  IirRead,
+  IerWrite,
+  ThrWrite,
+  is_iir_read,
+  is_rbr_read,
+  sent_by,
+  has_bits,
+  State,
+  not_empty,
+  Rda,
+  Thre,
+  Condition,
+  ier_bit,
+}
+use Rattle.superio_laws.specs.Serial.History.{
+  ier_after,
+  held_bytes,
+  read_out_bytes,
+  decode_at,
+  is_call_due,
+  is_pending,
+  NoneAcknowledges,
+}
 use Rattle.superio_laws.specs.Serial.Laws.Line.{timeout_entry}
 use Rattle.superio_laws.specs.Serial.Laws.Transmit.{IsRetried, CallsFor}
 
@@ -90,47 +139,47 @@ abbrev pub Rests : (driver : Driver) (start : State) (before newest : Trace) →
 Rests driver start before newest =
     (later earlier : Trace) × (newest ≡ later ++ earlier) × (has_to_send driver start (earlier ++ before) ≡ false)
 
--- a turn: entries after a read of IIR in which IIR is not read again. The driver sends at least one byte while it
--- has bytes left and is not stopped
-pub record IsTurn (driver : Driver) (start : State) (before turn : Trace) : Type 0 where
-  pub unread : NoIirRead start turn before
-  pub sends : SendsOne driver start before turn ⊎ Rests driver start before turn
+-- a pass, after its read of IIR, which is the newest entry of `before`: in these entries IIR is not read again. The
+-- driver sends at least one byte while it has bytes left and is not stopped
+pub record IsPass (driver : Driver) (start : State) (before pass : Trace) : Type 0 where
+  pub unread : NoIirRead start pass before
+  pub sends : SendsOne driver start before pass ⊎ Rests driver start before pass
 
 -- IIR shows nothing pending at this point
 abbrev pub ShowsNone : (start : State) (trace : Trace) → Type 0
 ShowsNone start trace = (is_pending Thre start trace ≡ false) × (is_pending Rda start trace ≡ false)
 
--- a run that reads IIR until it shows nothing pending, as in Linux and Xen: this read ends its last turn, and neither
+-- a run that reads IIR until it shows nothing pending, as in Linux and Xen: this read ends its last pass, and neither
 -- IIR nor RBR is read later
 pub record EndsAtNone (driver : Driver) (start : State) (before run : Trace) : Type 0 where
   pub tail : Trace
   pub none : TraceEntry
-  pub turn : Trace
+  pub pass : Trace
   pub iir : TraceEntry
   pub earlier : Trace
-  pub place : run ≡ tail ++ none ∷ (turn ++ iir ∷ earlier)
+  pub place : run ≡ tail ++ none ∷ (pass ++ iir ∷ earlier)
   pub reads : decode_at start (earlier ++ before) iir.op ≡ IirRead
-  pub is_turn : IsTurn driver start (iir ∷ earlier ++ before) turn
-  pub reads_none : decode_at start (turn ++ (iir ∷ earlier ++ before)) none.op ≡ IirRead
-  pub shows_none : ShowsNone start (turn ++ (iir ∷ earlier ++ before))
-  pub untouched : NoIirOrRbrRead start tail (none ∷ (turn ++ (iir ∷ earlier ++ before)))
+  pub is_pass : IsPass driver start (iir ∷ earlier ++ before) pass
+  pub reads_none : decode_at start (pass ++ (iir ∷ earlier ++ before)) none.op ≡ IirRead
+  pub shows_none : ShowsNone start (pass ++ (iir ∷ earlier ++ before))
+  pub untouched : NoIirOrRbrRead start tail (none ∷ (pass ++ (iir ∷ earlier ++ before)))
 
--- a run that ends in a turn, as in a driver that reads IIR once
-pub record EndsInTurn (driver : Driver) (start : State) (before run : Trace) : Type 0 where
-  pub turn : Trace
+-- a run that ends in a pass, as in a driver that reads IIR once
+pub record EndsInPass (driver : Driver) (start : State) (before run : Trace) : Type 0 where
+  pub pass : Trace
   pub iir : TraceEntry
   pub earlier : Trace
-  pub place : run ≡ turn ++ iir ∷ earlier
+  pub place : run ≡ pass ++ iir ∷ earlier
   pub reads : decode_at start (earlier ++ before) iir.op ≡ IirRead
-  pub is_turn : IsTurn driver start (iir ∷ earlier ++ before) turn
+  pub is_pass : IsPass driver start (iir ∷ earlier ++ before) pass
 
 -- entries after `before`, newest first, of a driver's run, and of others meanwhile, such as the host. The driver takes
 -- a byte if one is held at first, and ends in one of the two ways
-pub record IsConsoleRun (driver : Driver) (start : State) (before run : Trace) : Type 0 where
+pub record IsDriverRun (driver : Driver) (start : State) (before run : Trace) : Type 0 where
   pub takes :
       IsTrue (not_empty (held_bytes start before))
       → length (read_out_bytes start before) < length (read_out_bytes start (run ++ before))
-  pub ends : EndsAtNone driver start before run ⊎ EndsInTurn driver start before run
+  pub ends : EndsAtNone driver start before run ⊎ EndsInPass driver start before run
   pub asks : AsksWhenGiven driver start before run
 
 -- ---- the monitor's part
@@ -172,7 +221,7 @@ pub record IsAskedFor (condition : Condition) (start : State) (before run : Trac
 -- the interrupt is asked for after each run for RDA, if bytes are held and IER enables RDA, and the monitor makes its
 -- timeouts. No other of these laws needs the timeouts
 abbrev pub InterruptToReadLaw : Type 0
-InterruptToReadLaw = (driver : Driver) (start : State) (before run : Trace) → IsConsoleRun driver start before run
+InterruptToReadLaw = (driver : Driver) (start : State) (before run : Trace) → IsDriverRun driver start before run
     → IsMonitored driver start before run
     → IsTrue (not_empty (held_bytes start (run ++ before)))
     → IsTrue (has_bits (ier_after start (run ++ before)) (ier_bit Rda))
@@ -180,16 +229,16 @@ InterruptToReadLaw = (driver : Driver) (start : State) (before run : Trace) → 
 
 -- the interrupt is asked for after each run for THRE, if the driver has bytes left and is not stopped
 abbrev pub InterruptToSendLaw : Type 0
-InterruptToSendLaw = (driver : Driver) (start : State) (before run : Trace) → IsConsoleRun driver start before run
+InterruptToSendLaw = (driver : Driver) (start : State) (before run : Trace) → IsDriverRun driver start before run
     → IsTrue (has_to_send driver start (run ++ before)) → IsAskedFor Thre start before run
 
 -- ---- every byte is through
 
 -- the driver's runs follow each other
-abbrev pub AreConsoleRuns : (driver : Driver) (start : State) (before : Trace) (runs : List Trace) → Type 0
-AreConsoleRuns driver start before [] = ⊤
-AreConsoleRuns driver start before (run ∷ later) =
-    IsConsoleRun driver start before run × AreConsoleRuns driver start (run ++ before) later
+abbrev pub AreDriverRuns : (driver : Driver) (start : State) (before : Trace) (runs : List Trace) → Type 0
+AreDriverRuns driver start before [] = ⊤
+AreDriverRuns driver start before (run ∷ later) =
+    IsDriverRun driver start before run × AreDriverRuns driver start (run ++ before) later
 
 -- the trace after some runs
 abbrev pub after_runs : (before : Trace) (runs : List Trace) → Trace
@@ -208,17 +257,17 @@ free_runs driver before [] = 0
 free_runs driver before (run ∷ later) = count_if (is_free driver before run) + free_runs driver (run ++ before) later
 
 -- of the bytes held before the runs, the first are taken, in order, as many as there were runs
-abbrev pub ReadOutInPassesLaw : Type 0
-ReadOutInPassesLaw = (driver : Driver) (start : State) (before : Trace) (runs : List Trace)
-    → AreConsoleRuns driver start before runs
+abbrev pub ReadOutInRunsLaw : Type 0
+ReadOutInRunsLaw = (driver : Driver) (start : State) (before : Trace) (runs : List Trace)
+    → AreDriverRuns driver start before runs
     → (more : List ℕ) × (read_out_bytes start (after_runs before runs)
     ≡ read_out_bytes start before ++ take (length runs) (held_bytes start before) ++ more)
 
 -- of the bytes left to send before the runs, the first are sent, in order, as many as there were runs without a
 -- stop
-abbrev pub SentInPassesLaw : Type 0
-SentInPassesLaw = (driver : Driver) (start : State) (before : Trace) (runs : List Trace)
-    → AreConsoleRuns driver start before runs
+abbrev pub SentInRunsLaw : Type 0
+SentInRunsLaw = (driver : Driver) (start : State) (before : Trace) (runs : List Trace)
+    → AreDriverRuns driver start before runs
     → SentInOrder driver start before → SentInOrder driver start (after_runs before runs)
     → (more : List ℕ) × (sent driver start (after_runs before runs)
     ≡ sent driver start before ++ take (free_runs driver before runs) (left driver start before) ++ more)
@@ -239,28 +288,28 @@ abbrev pub TakesMost : (start : State) (most : ℕ) (before newest : Trace) → 
 TakesMost start most before newest =
     length (read_out_bytes start before) + most ≤ length (read_out_bytes start (newest ++ before))
 
--- a run that reads IIR until it shows nothing pending, and in its last turn takes bytes until LSR shows none, or as
+-- a run that reads IIR until it shows nothing pending, and in its last pass takes bytes until LSR shows none, or as
 -- many as `most`; Linux takes at most 256
 pub record IsHandlerRun (most : ℕ) (driver : Driver) (start : State) (before run : Trace) : Type 0 where
   pub ends : EndsAtNone driver start before run
   pub asks : AsksWhenGiven driver start before run
   pub some : 0 < most
   pub takes :
-      TakesUntilNone start (ends.iir ∷ ends.earlier ++ before) ends.turn
-      ⊎ TakesMost start most (ends.iir ∷ ends.earlier ++ before) ends.turn
+      TakesUntilNone start (ends.iir ∷ ends.earlier ++ before) ends.pass
+      ⊎ TakesMost start most (ends.iir ∷ ends.earlier ++ before) ends.pass
 
--- it is a run of a console: it takes a byte if one is held at first
+-- it is a run of the guest's driver: it takes a byte if one is held at first
 abbrev pub HandlerRunLaw : Type 0
 HandlerRunLaw = (most : ℕ) (driver : Driver) (start : State) (before run : Trace)
-    → IsHandlerRun most driver start before run → IsConsoleRun driver start before run
+    → IsHandlerRun most driver start before run → IsDriverRun driver start before run
 
 -- where it reads that nothing is pending, it has sent all its bytes, unless it is stopped. It has also taken all
--- bytes if IER enables RDA, unless the last turn took as many as `most`: what that turn left waits for the
+-- bytes if IER enables RDA, unless the last pass took as many as `most`: what that pass left waits for the
 -- character timeout
 abbrev pub HandlerEndsLaw : Type 0
 HandlerEndsLaw = (most : ℕ) (driver : Driver) (start : State) (before run : Trace)
     → (is : IsHandlerRun most driver start before run)
-    → let opened : Trace = is.ends.iir ∷ is.ends.earlier ++ before in let end : Trace = is.ends.turn ++ opened in
+    → let opened : Trace = is.ends.iir ∷ is.ends.earlier ++ before in let end : Trace = is.ends.pass ++ opened in
     (has_to_send driver start end ≡ false)
     × (IsTrue (has_bits (ier_after start end) (ier_bit Rda))
-    → (held_bytes start end ≡ []) ⊎ TakesMost start most opened is.ends.turn)
+    → (held_bytes start end ≡ []) ⊎ TakesMost start most opened is.ends.pass)

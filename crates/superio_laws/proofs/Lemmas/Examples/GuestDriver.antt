@@ -1,11 +1,11 @@
 -- SPDX-License-Identifier: Apache-2.0 OR BSD-3-Clause
--- Worked examples of a console: runs as its laws assume them, a driver that stalls, and a trigger that refuses.
+-- Worked examples of the guest's driver: runs as its laws assume them, a driver that stalls, and a trigger that refuses.
 use Rattle.std.proofs.Common.{◌≡◌, ℕ, Bool, true, false, not, ◌==◌, ◌&&◌, ◌||◌, if◌then◌else◌, nat_le, inl, inr, [], ◌∷◌, ◌++◌, length, refl, sym, subst, arith, IsTrue, ◌⊎◌}
 use Rattle.std.proofs.lemmas.Bool.{and_parts, false≢true}
 use Rattle.superio_laws.specs.Serial.{Asked, is_refused_at_once, Sent, State, fresh_state, Op, Read, Write, Enqueue, Trace, TraceEntry, DecodedOp, IirRead, is_iir_read, is_rbr_read, Rda, Thre, has_bits, only_bits, with_bits}
 use Rattle.superio_laws.specs.Serial.History.{NoneAcknowledges, ier_after, decode_at, raises_thre, is_call_due, is_raised, is_pending, trigger_calls, conditions_due_after, guest_read}
 use Rattle.superio_laws.specs.Serial.Laws.Line.{timeout_entry}
-use Rattle.superio_laws.specs.Serial.Laws.Console.{Driver, sent, left, has_to_send, EnablesThre, SendsEnabled, AsksWhenGiven, SentInOrder, ShowsNone, IsHandlerRun, IsConsoleRun, TimeoutAfterNone, IsMonitored, IsAskedFor, InterruptToReadLaw, InterruptToSendLaw, after_runs, free_runs}
+use Rattle.superio_laws.specs.Serial.Laws.GuestDriver.{Driver, sent, left, has_to_send, EnablesThre, SendsEnabled, AsksWhenGiven, SentInOrder, ShowsNone, IsHandlerRun, IsDriverRun, TimeoutAfterNone, IsMonitored, IsAskedFor, InterruptToReadLaw, InterruptToSendLaw, after_runs, free_runs}
 
 -- ---- what holds at each place of some entries, as a test
 
@@ -121,7 +121,7 @@ arrives value asked = entry (Enqueue (value ∷ [])) asked Sent.Nothing
 
 -- ---- a handler of Linux's shape, in both directions, whose transmitter is stopped
 
--- between its first two turns it is given three bytes, and a turn sends at most two. Then a byte arrives, and flow
+-- between its first two passes it is given three bytes, and a pass sends at most two. Then a byte arrives, and flow
 -- control stops the transmitter for as long as the trace has 15 to 22 calls
 abbrev linux : Driver
 linux = record {
@@ -133,17 +133,17 @@ linux = record {
 abbrev opened : Trace
 opened = arrives 0x61 Asked.Took ∷ ier 0x01 Asked.Nothing ∷ []
 
--- its third turn takes the byte that arrived, and sends none
-abbrev last_turn : Trace
-last_turn = msr ∷ lsr ∷ rbr ∷ lsr ∷ []
+-- its third pass takes the byte that arrived, and sends none
+abbrev last_pass : Trace
+last_pass = msr ∷ lsr ∷ rbr ∷ lsr ∷ []
 
-abbrev first_turns : Trace
-first_turns =
+abbrev first_passes : Trace
+first_passes =
     ier 0x01 Asked.Nothing ∷ arrives 0x62 Asked.Took ∷ thr 0x42 Asked.Nothing ∷ thr 0x41 Asked.Took ∷ msr ∷ lsr ∷ iir
     ∷ ier 0x03 Asked.Took ∷ msr ∷ lsr ∷ rbr ∷ lsr ∷ iir ∷ []
 
 abbrev first_run : Trace
-first_run = timeout_entry Asked.Nothing ∷ iir ∷ (last_turn ++ iir ∷ first_turns)
+first_run = timeout_entry Asked.Nothing ∷ iir ∷ (last_pass ++ iir ∷ first_passes)
 
 handler_stops : IsHandlerRun 256 linux fresh_state opened first_run
 unfolding has_bits only_bits with_bits
@@ -151,35 +151,35 @@ handler_stops = record {
   ends = record {
     tail = timeout_entry Asked.Nothing ∷ [];
     none = iir;
-    turn = last_turn;
+    pass = last_pass;
     iir = iir;
-    earlier = first_turns;
+    earlier = first_passes;
     place = refl;
     reads = refl;
-    is_turn = record {
-      unread = none_by fresh_state is_iir_read last_turn (iir ∷ first_turns ++ opened) refl;
-      sends = inr ([], last_turn, refl, refl);
+    is_pass = record {
+      unread = none_by fresh_state is_iir_read last_pass (iir ∷ first_passes ++ opened) refl;
+      sends = inr ([], last_pass, refl, refl);
     };
     reads_none = refl;
     shows_none = (refl, refl);
     untouched =
         none_by fresh_state (λ kind. is_iir_read kind || is_rbr_read kind) (timeout_entry Asked.Nothing ∷ [])
-        (iir ∷ (last_turn ++ (iir ∷ first_turns ++ opened))) refl;
+        (iir ∷ (last_pass ++ (iir ∷ first_passes ++ opened))) refl;
   };
   asks = asks_by linux fresh_state opened first_run refl;
   some = omega arith;
   takes = inl (record {
     later = [];
-    earlier = last_turn;
+    earlier = last_pass;
     place = refl;
     none = refl;
-    unread = none_by fresh_state (λ kind. is_iir_read kind || is_rbr_read kind) [] (last_turn ++ (iir ∷ first_turns ++ opened)) refl;
+    unread = none_by fresh_state (λ kind. is_iir_read kind || is_rbr_read kind) [] (last_pass ++ (iir ∷ first_passes ++ opened)) refl;
   });
 }
 
 handler_timed : TimeoutAfterNone fresh_state opened first_run
 unfolding has_bits only_bits with_bits
-handler_timed = rule_by fresh_state opened (last_turn ++ iir ∷ first_turns) iir Asked.Nothing refl
+handler_timed = rule_by fresh_state opened (last_pass ++ iir ∷ first_passes) iir Asked.Nothing refl
 
 -- one byte is left, but the driver has none to send as long as it is stopped
 one_is_left : left linux fresh_state (first_run ++ opened) ≡ 0x43 ∷ []
@@ -215,17 +215,17 @@ begun = entry (Enqueue (0x61 ∷ 0x62 ∷ [])) Asked.Took Sent.Nothing ∷ ier 0
 abbrev plain_run : Trace
 plain_run = timeout_entry Asked.Took ∷ thr 0x41 Asked.Took ∷ rbr ∷ iir ∷ []
 
-reads_iir_once : IsConsoleRun plain fresh_state begun plain_run
+reads_iir_once : IsDriverRun plain fresh_state begun plain_run
 unfolding has_bits only_bits with_bits
 reads_iir_once = record {
   takes = λ some. omega arith;
   ends = inr (record {
-    turn = timeout_entry Asked.Took ∷ thr 0x41 Asked.Took ∷ rbr ∷ [];
+    pass = timeout_entry Asked.Took ∷ thr 0x41 Asked.Took ∷ rbr ∷ [];
     iir = iir;
     earlier = [];
     place = refl;
     reads = refl;
-    is_turn = record {
+    is_pass = record {
       unread = none_by fresh_state is_iir_read (timeout_entry Asked.Took ∷ thr 0x41 Asked.Took ∷ rbr ∷ []) (iir ∷ begun) refl;
       sends = inl (record {
         later = timeout_entry Asked.Took ∷ [];
