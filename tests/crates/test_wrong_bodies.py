@@ -13,7 +13,7 @@ import pytest
 from contracts import functions_of
 from documents import CODE, Document
 from harness import ROOT, at_least
-from program import number_of_edits
+from common.rattle import number_of_edits
 
 CRATES = ["superio_core", "superio_console", "vm_superio", "superio_c", "superio_script"]
 
