@@ -9,6 +9,7 @@ last lines name all that was not tried, and why.
 import os
 import platform
 import random
+import time
 from collections import Counter
 from pathlib import Path
 
@@ -28,10 +29,18 @@ DEAREST = ["tests/packages/test_releases.py", "tests/rust/test_crates.py", "test
            "tests/guests/test_verifier.py"]
 
 os.environ.setdefault("HYPOTHESIS_STORAGE_DIRECTORY", str(ROOT / "out" / "hypothesis"))
+# Each date that a program of ours tells is of UTC. So tests run where local time is another.
+os.environ["TZ"] = "Asia/Kathmandu"
+time.tzset()
 common = {"deadline": None, "database": None, "suppress_health_check": list(HealthCheck), "print_blob": True}
 settings.register_profile("quick", max_examples=50, **common)
 settings.register_profile("thorough", max_examples=3000, **common)
 settings.load_profile(os.environ.get("HYPOTHESIS_PROFILE", "quick"))
+
+
+def pytest_configure():
+    if time.localtime(0).tm_gmtoff != 19_800:
+        raise pytest.UsageError(f"there is no zone {os.environ['TZ']}, in which local time is not UTC: install tzdata")
 
 
 def pytest_addoption(parser):
