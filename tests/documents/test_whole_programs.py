@@ -15,6 +15,7 @@ PACKAGE = '[package]\nname = "hi"\nversion = "0.1.0"\nedition = "2021"\n\n'
 LIBRARY = ROOT / "prebuilt" / f"{platform.machine()}-linux" / "libsuperio_c.a"
 # What the programs of README.md print.
 HI = "the event loop wakes, and reads input\n2 bytes accepted, 1 interrupt to raise\nthe guest reads h\n"
+MONITOR = "fn event_loop"   # which the whole monitor of docs/RUST.md has
 # What the program of docs/RUST.md with a bus prints: the clock twice, a read of the port, and the reset.
 BUS = "".join(f"{line}\n" for line in [*["clock: line false, alarm in Some(60) s"] * 2, *[
     "Work { interrupts: 0, is_up: false, wakes: false }"] * 2])
@@ -154,7 +155,7 @@ def test_one_call(built, tmp_path):
     ("README.md", "Console", "", HI), ("README.md", "Trigger", "", "!"), ("docs/RUST.md", "Cell", "", "h"),
     ("docs/RUST.md", "from_snapshot", "", "h"), ("docs/RUST.md", "CONSOLE_SAVED_MAX", "", "h"),
     ("docs/RUST.md", "RtcState", "", "the line is up: true\n"), ("docs/RUST.md", "is_reset_command", "", BUS),
-    ("docs/RUST.md", "fn event_loop", "hello\n", "HELLO\n"), ("docs/PORT.md", "Serial", "", "all came back\n")])
+    ("docs/RUST.md", MONITOR, "hello\n", "HELLO\n"), ("docs/PORT.md", "Serial", "", "all came back\n")])
 def test_rust(document, of, typed, printed, built, tmp_path):
     """By the lines for Cargo.toml in README.md. The `Machine` of docs/PORT.md is around a guest."""
     (tmp_path / "src").mkdir()
@@ -166,3 +167,17 @@ def test_rust(document, of, typed, printed, built, tmp_path):
         program = (ROOT / "tests/documents/bare_serial.rs").read_text(encoding="utf-8")
     (tmp_path / "src" / "main.rs").write_text(program, encoding="utf-8")
     check(["cargo", "run", "--quiet", "--offline"], printed, cwd=tmp_path, env=built, input=typed)
+
+
+@pytest.mark.needs("cargo")
+def test_rules_of_the_whole_monitor(built, tmp_path):
+    """The monitor of docs/RUST.md, with a guest and files at the worst moments in place of its `main`."""
+    shown = code("docs/RUST.md", "rust", MONITOR)
+    program, count = re.subn("^fn main", "#[allow(dead_code)]\nfn main_of_the_page", shown, flags=re.M)
+    assert count == 1
+    (tmp_path / "src").mkdir()
+    rules = (ROOT / "tests/documents/monitor_rules.rs").read_text("utf-8")
+    (tmp_path / "src" / "main.rs").write_text(program + rules, encoding="utf-8")
+    manifest = code("README.md", "toml", "bindings/superio").replace("CLONE", str(ROOT))
+    (tmp_path / "Cargo.toml").write_text(PACKAGE + manifest, encoding="utf-8")
+    check(["cargo", "run", "--quiet", "--offline"], "each rule is kept\n", cwd=tmp_path, env=built)
