@@ -9,6 +9,7 @@ last lines name all that was not tried, and why.
 import os
 import platform
 import random
+import time
 from collections import Counter
 from pathlib import Path
 
@@ -27,6 +28,9 @@ DEAREST = ["tests/packages/test_releases.py", "tests/rust/test_crates.py", "test
            "tests/guests/test_linux_driver.py", "tests/guests/test_polling.py", "tests/guests/test_verifier.py"]
 
 os.environ.setdefault("HYPOTHESIS_STORAGE_DIRECTORY", str(ROOT / "out" / "hypothesis"))
+# Each date that a program of ours tells is of UTC. So tests run where local time is another.
+os.environ["TZ"] = "Asia/Kathmandu"
+time.tzset()
 common = {"deadline": None, "database": None, "suppress_health_check": list(HealthCheck), "print_blob": True}
 settings.register_profile("quick", max_examples=50, **common)
 settings.register_profile("thorough", max_examples=3000, **common)
@@ -70,6 +74,8 @@ def pytest_configure(config):
         config.option.hypothesis_seed = seed()
     if unknown := left_out(config) - set(TOOLS):
         raise pytest.UsageError(f"--without: there is no tool {', '.join(sorted(unknown))}")
+    if time.localtime(0).tm_gmtoff != 19_800:
+        raise pytest.UsageError(f"there is no zone {os.environ['TZ']}, in which local time is not UTC: install tzdata")
 
 
 def pytest_collection_modifyitems(items):

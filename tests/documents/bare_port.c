@@ -72,6 +72,13 @@ static void start(void) {
     write_access(1, 0x01); /* and is ready */
 }
 
+/* The guest prints a message as Linux does, with IER clear meanwhile. The event loop finds nothing enabled then. */
+static void message(void) {
+    write_access(1, 0x00);
+    turn();
+    write_access(1, 0x01);
+}
+
 /* Runs until nothing happens any more. Returns whether all input came back. */
 static bool exchange(unsigned most, bool is_until_none) {
     typed = waiting = sent = in_order = 0;
@@ -85,6 +92,8 @@ static bool exchange(unsigned most, bool is_until_none) {
     for (unsigned calls = 0; calls < 1000000; calls++) {
         if (calls == 20)
             start();
+        else if (calls > 20 && rand() % 8 == 0)
+            message();
         if (takes_levels ? is_up : edges > 0) {
             edges -= !takes_levels;
             handle(most, is_until_none);

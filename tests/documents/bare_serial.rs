@@ -57,6 +57,13 @@ fn handle(machine: &mut Machine<Line>, line: &Line, most: usize, is_until_none: 
     }
 }
 
+/// The guest prints a message as Linux does, with IER clear meanwhile. The event loop finds nothing enabled then.
+fn message(machine: &mut Machine<Line>) {
+    machine.write_access(1, 0x00);
+    machine.turn();
+    machine.write_access(1, 0x01);
+}
+
 fn exchange(seed: u32, most: usize, is_until_none: bool) {
     let line = Line::default();
     line.1.set(seed);
@@ -74,7 +81,10 @@ fn exchange(seed: u32, most: usize, is_until_none: bool) {
     machine.input.extend(&typed[100..]);
     machine.turn();
     let mut received = Vec::new();
-    loop {
+    for _ in 0..1_000_000 {
+        if line.next() % 8 == 0 {
+            message(&mut machine);
+        }
         if line.0.get() > 0 {
             line.0.set(line.0.get() - 1);
             handle(&mut machine, &line, most, is_until_none);

@@ -15,6 +15,7 @@ PACKAGE = '[package]\nname = "hi"\nversion = "0.1.0"\nedition = "2021"\n\n'
 LIBRARY = ROOT / "prebuilt" / f"{platform.machine()}-linux" / "libsuperio_c.a"
 # What the programs of README.md print.
 HI = "the event loop wakes, and reads input\n2 bytes accepted, 1 interrupt to raise\nthe guest reads h\n"
+MONITOR = "fn event_loop"   # which the whole monitor of docs/RUST.md has
 # What the program of docs/RUST.md with a bus prints: the clock twice, a read of the port, and the reset.
 BUS = "".join(f"{line}\n" for line in [*["clock: line false, alarm in Some(60) s"] * 2, *[
     "Work { interrupts: 0, is_up: false, wakes: false }"] * 2])
@@ -242,7 +243,7 @@ def run_rust(program, printed, typed, built, folder):
     ("README.md", "Console", "", HI), ("README.md", "Trigger", "", "!"), ("docs/RUST.md", "Cell", "", "h"),
     ("docs/RUST.md", "from_snapshot", "", "h"), ("docs/RUST.md", "CONSOLE_SAVED_MAX", "", "h"),
     ("docs/RUST.md", "RtcState", "", "the line is up: true\n"), ("docs/RUST.md", "is_reset_command", "", BUS),
-    ("docs/RUST.md", "fn event_loop", "hello\n", "HELLO\n"), ("docs/PORT.md", "Serial", "", "all came back\n")])
+    ("docs/RUST.md", MONITOR, "hello\n", "HELLO\n"), ("docs/PORT.md", "Serial", "", "all came back\n")])
 def test_rust(document, of, typed, printed, built, tmp_path):
     run_rust(code(document, "rust", of), printed, typed, built, tmp_path)
 
@@ -251,10 +252,20 @@ def test_rust(document, of, typed, printed, built, tmp_path):
 def test_levels_in_rust(built, tmp_path):
     """The program with the function for a line that takes levels. A text of several refills of the FIFO comes back."""
     level = code("docs/RUST.md", "rust", "was_up.swap") + SET_LINE_IN_RUST
-    program, count = CARRY_OUT.subn(lambda _: level, code("docs/RUST.md", "rust", "fn event_loop"))
+    program, count = CARRY_OUT.subn(lambda _: level, code("docs/RUST.md", "rust", MONITOR))
     for old, new in LEVEL_FIELD:
         count += program.count(old)
         program = program.replace(old, new)
     assert count == 3
     text = "the quick brown fox " * 100 + "\n"
     run_rust(program, text.upper(), text, built, tmp_path)
+
+
+@pytest.mark.needs("cargo")
+def test_rules_of_the_whole_monitor(built, tmp_path):
+    """The monitor of docs/RUST.md, with a guest and files at the worst moments in place of its `main`."""
+    shown = code("docs/RUST.md", "rust", MONITOR)
+    program, count = re.subn("^fn main", "#[allow(dead_code)]\nfn main_of_the_page", shown, flags=re.M)
+    assert count == 1
+    rules = (ROOT / "tests/documents/monitor_rules.rs").read_text("utf-8")
+    run_rust(program + rules, "each rule is kept\n", "", built, tmp_path)

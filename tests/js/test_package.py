@@ -90,6 +90,10 @@ Rtc.fromState({ lr: 5 });
 clock.state = clock.state;
 export const reason: "too long" = new SavedStateError("too short").reason;
 """
+# How a file of each ending takes the package whole, and how it may not, as Node would not find it either.
+WHOLE = {"mts": ('import * as whole from "superio";\n', 'import whole from "superio";\n'),
+         "cts": ('import whole = require("superio");\n', 'import { whole } from "superio";\n'),
+         "ts": ('import whole = require("superio");\n', 'import { whole } from "superio";\n')}
 
 
 @pytest.fixture(scope="module")
@@ -214,14 +218,18 @@ def test_the_manifest_can_be_required(user):
 
 
 @pytest.mark.needs("npm", "tsc")
-@pytest.mark.parametrize("ending", ["mts", "cts"])
-def test_types(user, ending):
-    """A file compiles, and another has an error in each line of its own."""
-    for name, lines in ("taken", TAKEN), ("refused", REFUSED):
-        (user / f"{name}.{ending}").write_text(TYPED + lines, "ascii")
-    ran = run(["tsc", *"--strict --noEmit --target es2022 --module node16 --moduleResolution node16".split(),
-               f"taken.{ending}", f"refused.{ending}"], cwd=user)
+@pytest.mark.parametrize("module, resolution, endings", [
+    ("node16", "node16", ["mts", "cts"]), ("commonjs", "node", ["ts"])])
+def test_types(user, module, resolution, endings):
+    """A file compiles, and another has an error in each line of its own, for each way to find the types."""
+    expected, first = set(), len(TYPED.splitlines()) + 1
+    for ending in endings:
+        taken, refused = WHOLE[ending]
+        (user / f"taken.{ending}").write_text(f"{TYPED}{taken}new whole.I8042();\n{TAKEN}", "ascii")
+        (user / f"refused.{ending}").write_text(TYPED + REFUSED + refused, "ascii")
+        expected.update((f"refused.{ending}", str(first + place)) for place in range(len(REFUSED.splitlines()) + 1))
+    names = [f"{name}.{ending}" for name in ("taken", "refused") for ending in endings]
+    options = f"--strict --noEmit --target es2022 --module {module} --moduleResolution {resolution}"
+    ran = run(["tsc", *options.split(), *names], cwd=user)
     found = re.findall(r"^(\S+)\((\d+),\d+\): error", ran.stdout, re.M)
-    first = len(TYPED.splitlines()) + 1
-    expected = {(f"refused.{ending}", str(first + place)) for place in range(len(REFUSED.splitlines()))}
     assert {*found} == expected, ran.stdout

@@ -25,7 +25,7 @@ async function open(fragment, width = WIDTH, scheme = SCHEME) {
 
 const by = (id) => page.document.getElementById(id);
 const all = (selector, within = page.document) => Array.from(within.querySelectorAll(selector));
-const texts = (selector) => all(selector).map((one) => one.textContent);
+const texts = (selector, within) => all(selector, within).map((one) => one.textContent);
 const labels = (selector) => all(selector).map((one) => one.getAttribute("aria-label") ?? one.id).join(", ");
 /** The shown registers, by their offsets. */
 const register = (offset) => all("#registers .register:not([hidden])")[offset];
@@ -47,6 +47,12 @@ const STEPS = {
   put: (offset, value) => {
     register(offset).querySelector("input").value = value;
     register(offset).querySelector(".act button:last-child").click();
+  },
+  /** Puts each number with each character before it, and after it. */
+  around: (offset, ...numbers) => {
+    const printed = Array.from({ length: 94 }, (_, place) => String.fromCharCode(33 + place));
+    const values = numbers.flatMap((number) => printed.flatMap((one) => [one + number, number + one]));
+    for (const value of values) STEPS.put(offset, value);
   },
   bit: (offset, name) => all(".bit", register(offset)).find((one) => one.textContent === name).click(),
   fill: (id, ...words) => set(id, words.join(" "), "input"),
@@ -118,6 +124,8 @@ const SEEN = {
   values: () => texts("#registers .register:not([hidden]) code").join(" "),
   notes: () => texts("#registers .register:not([hidden]) .bits .quiet").filter(Boolean).join(", "),
   names: () => texts("#registers .register:not([hidden]) b").join(" "),
+  bits: () =>
+    all(".register:not([hidden])").map((row) => texts(".bit", row).join(" ")).filter(Boolean).join(", "),
   changed: () => texts("#registers .changed b").join(" "),
   flipped: () => texts("#registers .flipped").join(" "),
   ignored: () => labels("#registers [aria-label$=ignored]"),

@@ -7,6 +7,8 @@ import json
 import os
 import pickle
 import re
+import shutil
+import tempfile
 import typing
 import unittest
 from pathlib import Path
@@ -140,6 +142,26 @@ class Arguments(unittest.TestCase):
         places = " or ".join(map(str, [folder / "none.so", *(folder.parents[up] / prebuilt for up in (0, 2))]))
         self.assertRegex(str(caught.exception), "^none.so cannot be loaded: .*, nor is it "
                                                 f"{re.escape(places)}: set SUPERIO_LIBRARY to its path$")
+
+    def test_which_library_is_loaded(self):
+        """The one that the variable names, or the first that is there. An empty variable names none."""
+        package = Path(tempfile.mkdtemp(), "bindings", "python", "superio")
+        self.addCleanup(shutil.rmtree, package.parents[2])
+        prebuilt = f"prebuilt/{os.uname().machine}-linux"
+        places = [package / library.FILE_NAME, *(package.parents[up] / prebuilt / library.FILE_NAME for up in (0, 2))]
+        for place in places:
+            place.parent.mkdir(parents=True, exist_ok=True)
+            place.touch()
+        for first in [*map(str, places), library.FILE_NAME]:
+            for named in (None, "", "/nowhere/lib.so"):
+                with self.subTest(first=first, named=named), mock.patch.dict(os.environ), \
+                        mock.patch.object(library, "_PACKAGE", package), \
+                        mock.patch.object(library, "_loaded", lambda path: path):
+                    os.environ.pop(library.VARIABLE, None)
+                    os.environ.update({library.VARIABLE: named} if named is not None else {})
+                    self.assertEqual(named or first, library.open_library())
+            if first != library.FILE_NAME:
+                os.unlink(first)
 
 
 class NamedPort(Serial):
