@@ -110,7 +110,7 @@ static uint8_t port_read(struct machine *machine, uint16_t port) {
     return done.byte;
 }
 
-/* The guest reads so many bytes of memory, at most eight. A narrow read of the clock shows a part of the four bytes
+/* The guest reads `count` bytes of memory, at most eight. A narrow read of the clock shows a part of the four bytes
  * around it. */
 static uint64_t memory_read(struct machine *machine, uint64_t address, unsigned count) {
     unsigned within = count == 4 ? 0 : address % 4;
@@ -122,8 +122,8 @@ static uint64_t memory_read(struct machine *machine, uint64_t address, unsigned 
     return value >> 8 * within;
 }
 
-/* The guest writes four bytes to memory. Writes at 0x00C, RTCCR, are dropped: drivers make one when they start, and it
- * would undo a time that the guest has set. */
+/* The guest writes four bytes to memory. Writes at 0x00C, RTCCR, are dropped, because drivers reset the time by one
+ * when they start. */
 static void memory_write(struct machine *machine, uint64_t address, uint32_t value) {
     if (address < CLOCK || address - CLOCK >= SUPERIO_RTC_WINDOW)
         return;
@@ -148,7 +148,7 @@ static struct machine migrate(const struct machine *machine) {
     check(superio_console_load(&other.console, console, count) == SUPERIO_LOAD_OK, "loading the console");
     check(superio_rtc_load(&other.clock, clock, sizeof clock) == SUPERIO_LOAD_OK, "loading the clock");
     printf("moved a clock, and a console of %zu bytes\n", count);
-    carry_out(&other, superio_console_refuse(&other.console)); /* the new line has not got the old one's interrupts */
+    carry_out(&other, superio_console_refuse(&other.console)); /* the old line's interrupts are lost */
     carry_out(&other, superio_console_turn(&other.console));
     follow_clock(&other);
     return other;

@@ -13,7 +13,7 @@ void write_access(uint8_t offset, uint8_t value);
 uint8_t read_access(uint8_t offset);
 void turn(void);
 void reset(void);
-void sleep_in_memory(void);
+void suspend(void);
 
 enum { INPUT = 2000, ROOM = 100 };
 static uint8_t input[ROOM];    /* what waits for the guest */
@@ -82,7 +82,7 @@ static void message(void) {
 /* Runs until nothing happens any more. Returns whether all input came back. */
 static bool exchange(unsigned most, bool is_until_none) {
     typed = waiting = sent = in_order = 0;
-    sleep_in_memory(); /* what is typed meanwhile waits until the machine is reset */
+    suspend(); /* what is typed meanwhile waits until the machine is reset */
     turn();
     if (waiting != typed)
         return false;

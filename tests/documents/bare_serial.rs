@@ -96,7 +96,7 @@ fn exchange(seed: u32, most: usize, is_until_none: bool) {
         }
     }
     assert!(received == typed, "seed {}: {} bytes", seed, received.len());
-    machine.sleep_in_memory();
+    machine.suspend();
     machine.input.extend(&typed[..100]);
     machine.turn();
     assert!(machine.input.len() == 100, "seed {}: a guest that sleeps gets input", seed);

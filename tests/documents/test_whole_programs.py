@@ -45,6 +45,12 @@ SET_LINE_IN_RUST = """
         }
     }
 """
+# As PROBE and READY, in Rust. Before them, the end of a write there.
+END_OF_WRITE_IN_RUST = "        self.end_access(&mut console, work);\n"
+READY_IN_RUST = "    monitor.write_access(1, 0x01);"
+PROBE_IN_RUST = """    monitor.write_access(1, 0x0F);
+    assert_eq!(monitor.console.lock().unwrap().wants().input, 0);
+"""
 SET_LINE = "static void set_line(bool is_up) { if (is_up) eventfd_write(irq, 1); }\n"
 
 
@@ -269,3 +275,15 @@ def test_rules_of_the_whole_monitor(built, tmp_path):
     assert count == 1
     rules = (ROOT / "tests/documents/monitor_rules.rs").read_text("utf-8")
     run_rust(program + rules, "each rule is kept\n", "", built, tmp_path)
+
+
+@pytest.mark.needs("cargo")
+def test_loader_that_polls_in_rust(built, tmp_path):
+    """As in C: with the lines for a kernel that does not poll, no input goes in between its driver's probe and its being
+    ready."""
+    program = code("docs/RUST.md", "rust", MONITOR)
+    for old, new in [(END_OF_WRITE_IN_RUST, END_OF_WRITE_IN_RUST + code("docs/USING.md", "rust", "set_polled")),
+                     (READY_IN_RUST, PROBE_IN_RUST + READY_IN_RUST), ("Console::new(false)", "Console::new(true)")]:
+        assert program.count(old) == 1
+        program = program.replace(old, new)
+    run_rust(program, "HELLO\n", "hello\n", built, tmp_path)
