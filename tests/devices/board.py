@@ -5,7 +5,7 @@ from functools import partial
 from struct import Struct
 
 import oracle
-from oracle import CLOCK_FIELDS, FIFO_SIZE, FRESH
+from pages import CLOCK_FIELDS, FIFO_SIZE, FRESH
 
 ROOM = 256                           # bytes that the output takes
 SERIAL, CLOCK = 1, 2                 # the kinds of saved states
@@ -123,7 +123,7 @@ class Board:
     @further_line("sl", BYTES)
     def load(self, data=b""):
         words = fault(SERIAL, data)
-        return self.restore(data[8:17], data[17:]) if words == "ok" else words
+        return self.restore(data[8:8 + REGISTERS], data[8 + REGISTERS:]) if words == "ok" else words
 
     @script_line("so")
     def sent(self):

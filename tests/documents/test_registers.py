@@ -3,6 +3,7 @@
 import re
 
 import pytest
+from documents import table
 from harness import ROOT, at_least
 from superio import registers
 from superio.registers import CLOCK, DLAB, FIELDS, FIFO_BITS, IDENTIFICATION, LOOPBACK, SERIAL
@@ -20,12 +21,6 @@ def numbers(text):
     return [int(digits, 16) for digits in HEX.findall(text)]
 
 
-def rows_of(text, heading):
-    """The rows of a table of DEVICES.md, which begins with these words."""
-    table = re.search(rf"^\| {re.escape(heading)}.*\n(?:\|.*\n)+", text, re.M)[0]
-    return [[cell.strip() for cell in row.split("|")[1:-1]] for row in table.splitlines()[2:]]
-
-
 def compare(what, *values):
     """What `what` is in several places: the package's value, and the value of each place."""
     return pytest.param(*values[:1], values[1:], id=what)
@@ -39,8 +34,8 @@ def serial_results(devices):
                 for offset, latched, clear, only in re.findall(
                     r"offset == (\d) then (?:\(if dlab then (\w+) else (\w+)\)|(\w+))", register_map)
                 for is_latched in (False, True)}
-    shown = {(offset, dlab): row for offset, dlab, *row in rows_of(devices, "Offset | DLAB |")}
-    kept = {row[0]: row[1] for row in rows_of(devices, "Register | Bits |")}
+    shown = {(offset, dlab): row for offset, dlab, *row in table(devices, "Offset | DLAB |")}
+    kept = {row[0]: row[1] for row in table(devices, "Register | Bits |")}
     for name, (_, offset, _, bits, latched, access, ignored) in SERIAL.items():
         place = str(offset), {None: "any", False: "clear", True: "set"}[latched]
         reads, writes, fresh = shown.get(place, ["none", "none", "none"])
@@ -73,7 +68,7 @@ def clock_results(devices):
     """Offsets, accesses, and the bytes of the identification."""
     text = read(SPECS / "Rtc.antt")
     variants = {int(offset, 16): name for offset, name in re.findall(r"offset == 0x(\w+) then (\w+)", text)}
-    shown = {int(offset, 16): row for offset, *row in rows_of(devices, "Offset | Register |") if HEX.fullmatch(offset)}
+    shown = {int(offset, 16): row for offset, *row in table(devices, "Offset | Register |") if HEX.fullmatch(offset)}
     accesses = {letter: dict(re.findall(rf"is_{kind} (\w+) = (true|false)", text))
                 for letter, kind in (("r", "readable"), ("w", "writable"))}
     for name, register in CLOCK.items():
