@@ -18,6 +18,11 @@ def numbers(text):
     return [int(digits, 16) for digits in re.findall(r"0x([0-9A-Fa-f]+)", text)]
 
 
+# The header of a saved state: the magic, the version, and the kind of each device.
+HEADER = section(SAVED_STATES, "The header")
+MAGIC, VERSION = bytes(numbers(HEADER)), int(re.search(r"the version of the encoding: (\d+)", HEADER)[1])
+KINDS = {device: int(kind) for kind, device in at_least(3, re.findall(r"(\d) for a ([a-z ]*[a-z])", HEADER))}
+
 FIFO_SIZE = int(re.search(r"a receive FIFO of (\d+) bytes", DEVICES)[1])
 
 # The port's rows of offsets: the offset, whether DLAB is set, and what a read shows, a write does and a new port has.
