@@ -1,5 +1,6 @@
 # SPDX-License-Identifier: Apache-2.0 OR BSD-3-Clause
-"""The rows of the errors of saved states that tools/generate writes are those of saved.py, in each file that has them."""
+"""The rows of the errors of saved states that tools/generate writes are those of saved.py, in each file that has
+them."""
 import pytest
 from generators import errors
 from harness import ROOT
