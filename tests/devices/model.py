@@ -5,8 +5,8 @@ Its port and its clock have the calls of those in oracle.py, which search the pa
 from which pages.py reads the map of registers, and not from the code.
 """
 import pages
-from pages import (BITS, BY_OFFSET, CLOCK_AT, CLOCK_FIELDS, DLAB, FIFO_BITS, FIFO_SIZE, FRESH, IDENTIFICATION, IER_MASK,
-                   KEPT, LOOPBACK, LOOPED, READ_ONLY)
+from pages import (BITS, BY_OFFSET, CLOCK_AT, CLOCK_FIELDS, CONSTANTS, DLAB, FIFO_BITS, FIFO_SIZE, FRESH,
+                   IDENTIFICATION, IER_MASK, KEPT, LOOPBACK, LOOPED, READ_ONLY)
 
 RDA, THRE, NONE = BITS["IIR"].values()
 READY = BITS["LSR"]["READY"]
@@ -136,9 +136,8 @@ class Clock:
         if fields["armed"] and time >= fields["MR"]:
             fields.update(armed=0, RIS=fields["RIS"] | 1)
         if value is None:
-            if 0xFE0 <= offset < 0x1000:
-                return IDENTIFICATION[(offset - 0xFE0) // 4]
-            return {**fields, "DR": time, "CR": 1, "MIS": fields["RIS"] & fields["IMSC"]}.get(name)
+            shown = {**fields, **CONSTANTS, "DR": time, "MIS": fields["RIS"] & fields["IMSC"]}
+            return shown.get(name, IDENTIFICATION.get(offset))
         if name is None or name in READ_ONLY:
             return None
         if name == "MR":

@@ -8,7 +8,7 @@ docs/DEVICES.md has the rules, and the map of registers and bits, which pages.py
 """
 from typing import NamedTuple
 
-from pages import (BITS, BY_OFFSET, CLOCK_AT, CLOCK_FIELDS, DLAB, ENABLED_BY, FIFO_BITS, FIFO_SIZE, FRESH,
+from pages import (BITS, BY_OFFSET, CLOCK_AT, CLOCK_FIELDS, CONSTANTS, DLAB, ENABLED_BY, FIFO_BITS, FIFO_SIZE, FRESH,
                    IDENTIFICATION, IER_MASK, KEPT, LOOPBACK, LOOPED, READ_ONLY)
 
 
@@ -196,8 +196,8 @@ class Clock(Device):
         if value is None:
             self.past.append(Fact(found))
             state = self.state()
-            shown = {**state, "DR": guest_time, "CR": 1, "MIS": state["RIS"] & state["IMSC"]}
-            return shown.get(name, IDENTIFICATION[offset - 0xFE0 >> 2] if 0xFE0 <= offset < 0x1000 else None)
+            shown = {**state, **CONSTANTS, "DR": guest_time, "MIS": state["RIS"] & state["IMSC"]}
+            return shown.get(name, IDENTIFICATION.get(offset))
         writes = {
             "MR": {"MR": value, "armed": int(value > guest_time)} | ({"RIS": 1} if value == guest_time else {}),
             "LR": {"LR": value, "offset": value - time},

@@ -53,13 +53,18 @@ IER_MASK = sum(numbers(BIT_ROWS["IER"]))   # the bits that IER keeps
 LOOPED = {MEANT["MCR"][output]: MEANT["MSR"][shown] for output, shown in at_least(4, re.findall(
     r"(\w+) as (\w+)", re.search(r"the outputs of MCR above them: (.*)", DEVICES)[1]))}
 
-# The clock's registers: the offset, the name, and what a write does.
-CLOCK_ROWS = at_least(8, re.findall(r"^\| 0x(\w+) \| RTC(\w+), .* \| (.*) \|$", section(DEVICES, "The clock"), re.M))
-CLOCK_AT = {int(offset, 16): name for offset, name, _ in CLOCK_ROWS}
-READ_ONLY = {name for _, name, write in CLOCK_ROWS if write == "is invalid"}
+# The clock's registers: the offset, the name, what a read shows, and what a write does.
+CLOCK_ROWS = [(int(offset, 16), re.match(r"RTC(\w+)", register)[1], read, write)
+              for offset, register, read, write in table(DEVICES, "Offset | Register |") if register.startswith("RTC")]
+CLOCK_AT = {offset: name for offset, name, *_ in at_least(8, CLOCK_ROWS)}
+READ_ONLY = {name for _, name, _, write in CLOCK_ROWS if write == "is invalid"}
+# Those that always show one number.
+CONSTANTS = {name: int(read, 0) for _, name, read, _ in CLOCK_ROWS if re.fullmatch(r"\d+|0x\w+", read)}
 # The fields of a clock, in their order, each with the format of its number, as struct has it.
 FORMATS = {"1": "b", "4": "I", "8": "q"}
 CLOCK_FIELDS = {register or field: FORMATS[size] for size, field, register in at_least(6, re.findall(
     r"^\| \d+ \| (\d) \| `(\w+)`(?:, RTC(\w+))?", section(SAVED_STATES, "A clock"), re.M))}
-# From 0xFE0 on, at four offsets each.
-IDENTIFICATION = bytes(numbers(re.search(r"The identification bytes are (.*?), each", DEVICES)[1]))
+# The bytes of the identification, each at four offsets, and what is shown at each of these.
+ID_BYTES = bytes(numbers(re.search(r"The identification bytes are (.*?), each", DEVICES)[1]))
+ID_FIRST, ID_LAST = numbers(re.search(r"^\| (.*) \| identification \|", DEVICES, re.M)[1])
+IDENTIFICATION = {offset: ID_BYTES[(offset - ID_FIRST) // 4] for offset in range(ID_FIRST, ID_LAST + 1)}

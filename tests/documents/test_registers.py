@@ -79,9 +79,9 @@ def clock_results(devices):
                 stated = accesses[letter].get(variant, accesses[letter]["_"]) == "true"
                 yield compare(f"{letter} of {name}", letter in register.access, stated, effect != "is invalid")
     first = next(register.offset for name, register in CLOCK.items() if name == "ID0")
-    yield compare("the first identification", first, int(re.search(r"nat_le 0x(\w+) offset", text)[1], 16),
-                  int(re.search(r"0x(\w+) to 0xFFF \| identification", devices)[1], 16))
-    yield compare("the identification", IDENTIFICATION, pages.IDENTIFICATION,
+    yield compare("the first identification", first, pages.ID_FIRST,
+                  int(re.search(r"nat_le 0x(\w+) offset", text)[1], 16))
+    yield compare("the identification", IDENTIFICATION, pages.ID_BYTES,
                   bytes(numbers(re.search(r"identification_bytes = (.*?) \[\]", text)[1])))
 
 
