@@ -40,7 +40,7 @@ def errors():
     cases = re.findall(r"^    (\w+)(\(\w+\))?,$", declared, re.M)
     words = [re.sub("(?<!^)(?=[A-Z])", " ", case).lower() for case, _ in cases]
     if words != [*SAVED_STATE_ERRORS]:
-        raise ValueError(f"SAVED_STATE_ERRORS has {', '.join(SAVED_STATE_ERRORS)}, and the devices {', '.join(words)}")
+        raise ValueError(f"SAVED_STATE_ERRORS of saved.py has not the cases {', '.join(words)}, in this order")
     return [Error(case, bool(value), word, SAVED_STATE_ERRORS[word]) for (case, value), word in zip(cases, words)]
 
 
@@ -58,17 +58,19 @@ def written(text, template, those):
             for number, one in enumerate(those, 1)]
     made, places = rows_of(template).subn(lambda _: "\n".join([*rows, ""]), text)
     if places != 1:
-        raise ValueError(f"{places} places have rows such as {template.strip()}")
+        raise ValueError(f"{places} places have rows as {template.strip()}")
     return made
 
 
 def main():
-    for name, template in ROWS.items():
-        path = ROOT / name
-        try:
-            path.write_text(written(path.read_text(encoding="utf-8"), template, errors()), encoding="utf-8")
-        except ValueError as fault:
-            sys.exit(f"{name}: {fault}")
+    try:
+        those = errors()
+        texts = {ROOT / name: written((ROOT / name).read_text(encoding="utf-8"), template, those)
+                 for name, template in ROWS.items()}
+    except ValueError as fault:
+        sys.exit(str(fault))
+    for path, text in texts.items():
+        path.write_text(text, encoding="utf-8")
 
 
 if __name__ == "__main__":
