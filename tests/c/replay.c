@@ -305,9 +305,17 @@ static void save(void) {
 
 /* Loads bytes as a device, and replies with the status in the words of docs/SCRIPT.md. */
 static void load(void) {
-    static const char *const WORDS[] = {"ok", "too short", "not a saved state", "other device", "unknown version",
-                                        "wrong length", "too many bytes", "invalid armed",
-                                        "invalid flags"}; /* by the status */
+    static const char *const WORDS[] = {
+        "ok", /* by the status. tools/generate writes those after it */
+        "too short", /* 1 */
+        "not a saved state", /* 2 */
+        "other device", /* 3 */
+        "unknown version", /* 4 */
+        "wrong length", /* 5 */
+        "too many bytes", /* 6 */
+        "invalid armed", /* 7 */
+        "invalid flags", /* 8 */
+    };
     size_t count;
     const uint8_t *bytes = bytes_of(words[1], &count);
     uint32_t status = *words[0] == 's' ? superio_serial_load(port, bytes, count)

@@ -68,6 +68,12 @@ class Document:
         return ["".join(targets) for targets in LINK.findall(CODE.sub("", self.prose))]
 
 
+def table(text, heading):
+    """The cells of each row of a table, whose first row begins with these words."""
+    found = re.search(rf"^\| {re.escape(heading)}.*\n(?:\|.*\n)+", text, re.M)[0]
+    return [[cell.strip() for cell in row.split("|")[1:-1]] for row in found.splitlines()[2:]]
+
+
 def documents():
     """Each document, README.md first."""
     paths = [path.relative_to(ROOT) for path in ROOT.rglob("*.md")]

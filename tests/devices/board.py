@@ -5,28 +5,34 @@ from functools import partial
 from struct import Struct
 
 import oracle
-from oracle import CLOCK_FIELDS, FIFO_SIZE, FRESH
+from pages import CLOCK_FIELDS, FIFO_SIZE, FRESH, KINDS, MAGIC, VERSION
 
 ROOM = 256                           # bytes that the output takes
-SERIAL, CLOCK = 1, 2                 # the kinds of saved states
+SERIAL, CLOCK = KINDS["serial port"], KINDS["clock"]
 REGISTERS = len(FRESH)
 CLOCK_CONTENTS = Struct("<" + "".join(CLOCK_FIELDS.values()))
 
 
 def saved(kind, contents):
     """The saved state with these contents, by docs/SAVED-STATES.md."""
-    return b"SIOS" + bytes([kind, 1]) + len(contents).to_bytes(2, "little") + contents
+    return MAGIC + bytes([kind, VERSION]) + len(contents).to_bytes(2, "little") + contents
+
+
+def header_checks(kind, data):
+    """The checks of a header, in their order: the words, and whether the bytes fail the check."""
+    return [
+        ("too short", len(data) < 8),
+        ("not a saved state", data[:4] != MAGIC),
+        ("other device", data[4:5] != bytes([kind])),
+        (f"unknown version {data[5:6].hex()}", data[5:6] != bytes([VERSION])),
+        ("wrong length", int.from_bytes(data[6:8], "little") != len(data) - 8),
+    ]
 
 
 def fault(kind, data):
     """Why these bytes are no saved state of a kind: the first check of docs/SAVED-STATES.md that they fail, or 'ok'."""
     size = len(data) - 8
-    checks = [
-        ("too short", size < 0),
-        ("not a saved state", data[:4] != b"SIOS"),
-        ("other device", data[4:5] != bytes([kind])),
-        (f"unknown version {data[5:6].hex()}", data[5:6] != b"\x01"),
-        ("wrong length", int.from_bytes(data[6:8], "little") != size),
+    checks = header_checks(kind, data) + [
         ("wrong length", size < REGISTERS if kind == SERIAL else size != CLOCK_CONTENTS.size),
         ("too many bytes", kind == SERIAL and size > REGISTERS + FIFO_SIZE),
         ("invalid armed", kind == CLOCK and data[-1:] not in (b"\x00", b"\x01")),
@@ -123,7 +129,7 @@ class Board:
     @further_line("sl", BYTES)
     def load(self, data=b""):
         words = fault(SERIAL, data)
-        return self.restore(data[8:17], data[17:]) if words == "ok" else words
+        return self.restore(data[8:8 + REGISTERS], data[8 + REGISTERS:]) if words == "ok" else words
 
     @script_line("so")
     def sent(self):

@@ -5,13 +5,14 @@ import random
 import re
 
 import model
-from board import REGISTERS, SERIAL, fault, saved
+from board import REGISTERS, SERIAL, fault, header_checks, saved
 from made import port_state
+from pages import ENABLED_BY, KINDS
 
-KIND = 3                           # of its saved states
+KIND = KINDS["console"]            # of its saved states
 OUTPUT_SIZE, PREFIX = 4096, 11     # the output that waits at most; flags, the dropped bytes, and those that wait
 FLAGS = ("polled", "ready", "asleep", "refused")
-RDA, THRE = 0x01, 0x02             # in IER
+RDA, THRE = ENABLED_BY.values()    # in IER
 PORT_SIZE, MOST = 75, 2 ** 64 - 1  # of the port's struct, and of the number of dropped bytes
 LEAVES_WORK = ("lr", "lw", "lq", "lt", "lf", "lz", "lp")
 
@@ -20,12 +21,7 @@ def console_fault(data):
     """Why these bytes are no saved console: the first check that they fail, or 'ok'."""
     contents = data[8:]
     count = int.from_bytes(contents[9:PREFIX], "little")
-    checks = [
-        ("too short", len(data) < 8),
-        ("not a saved state", data[:4] != b"SIOS"),
-        ("other device", data[4:5] != bytes([KIND])),
-        ("unknown version", data[5:6] != b"\x01"),
-        ("wrong length", int.from_bytes(data[6:8], "little") != len(contents)),
+    checks = header_checks(KIND, data) + [
         ("wrong length", len(contents) < PREFIX or count > OUTPUT_SIZE or len(contents) < PREFIX + count),
         ("invalid flags", contents[:1] > b"\x0f"),
     ]

@@ -5,7 +5,7 @@ import random
 from functools import partial
 
 from board import BYTES, CLOCK, CLOCK_CONTENTS, FIFO_SIZE, REGISTERS, SERIAL, saved
-from oracle import CLOCK_AT, CLOCK_FIELDS
+from pages import CLOCK_AT, CLOCK_FIELDS
 from script import LINES, PROGRAM_LINES, line_of, script_of, syntax_of
 from seeds import random_source
 

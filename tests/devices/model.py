@@ -1,16 +1,16 @@
 # SPDX-License-Identifier: Apache-2.0 OR BSD-3-Clause
 """The devices in plain Python, step by step, as docs/DEVICES.md has them: fast, and easy to read.
 
-Its port and its clock have the calls of those in oracle.py, which search the past instead, and the map of registers
-that is there. It is written from the page, and not from the code.
+Its port and its clock have the calls of those in oracle.py, which search the past instead. It is written from the page,
+from which pages.py reads the map of registers, and not from the code.
 """
-import oracle
-from oracle import (BITS, BY_OFFSET, CLOCK_AT, CLOCK_FIELDS, DLAB, FIFO_BITS, FIFO_SIZE, FRESH, IDENTIFICATION,
-                    IER_MASK, LOOPBACK, LOOPED, READ_ONLY)
+import pages
+from pages import (BITS, BY_OFFSET, CLOCK_AT, CLOCK_FIELDS, CONSTANTS, DLAB, FIFO_BITS, FIFO_SIZE, FRESH,
+                   IDENTIFICATION, IER_MASK, KEPT, LOOPBACK, LOOPED, READ_ONLY)
 
 RDA, THRE, NONE = BITS["IIR"].values()
 READY = BITS["LSR"]["READY"]
-ENABLED_BY = {BITS["IIR"][name]: bit for name, bit in oracle.ENABLED_BY.items()}
+ENABLED_BY = {BITS["IIR"][name]: bit for name, bit in pages.ENABLED_BY.items()}
 
 
 class Port:
@@ -21,9 +21,8 @@ class Port:
 
     def at(self, offset):
         """The name of the register at an offset."""
-        if offset < 2 and self.registers["LCR"] & DLAB:
-            return ("DLL", "DLM")[offset]
-        return BY_OFFSET[offset] if offset < 8 else None
+        names = BY_OFFSET[self.registers["LCR"] & DLAB != 0]
+        return names[offset] if offset < len(names) else None
 
     def raises(self, *conditions):
         """Raises conditions in order, up to a refusal, and returns whether there was none."""
@@ -63,7 +62,7 @@ class Port:
             is_sent = self.objects.write(value)
             self.objects.tell("o" if is_sent else "l")
             return "trigger" if not self.raises(THRE) else "ok" if is_sent else "io"
-        if name in ("DLL", "DLM", "LCR", "MCR", "SCR"):
+        if name in KEPT:
             self.registers[name] = value
         if name == "IER":
             self.registers["IER"] = value & IER_MASK
@@ -137,9 +136,8 @@ class Clock:
         if fields["armed"] and time >= fields["MR"]:
             fields.update(armed=0, RIS=fields["RIS"] | 1)
         if value is None:
-            if 0xFE0 <= offset < 0x1000:
-                return IDENTIFICATION[(offset - 0xFE0) // 4]
-            return {**fields, "DR": time, "CR": 1, "MIS": fields["RIS"] & fields["IMSC"]}.get(name)
+            shown = {**fields, **CONSTANTS, "DR": time, "MIS": fields["RIS"] & fields["IMSC"]}
+            return shown.get(name, IDENTIFICATION.get(offset))
         if name is None or name in READ_ONLY:
             return None
         if name == "MR":

@@ -4,40 +4,12 @@
 There are no registers, and no rule is shared with the definitions that the proofs use. Of each call a fact is kept:
 what it wrote, raised and acknowledged, and which bytes were accepted and read out. What a call shows is found by a
 search of the facts before it. A search ends at the latest at the newest start state, a fact of the past too.
-docs/DEVICES.md has the rules, and the map of the clock's registers.
+docs/DEVICES.md has the rules, and the map of registers and bits, which pages.py reads there.
 """
-import re
 from typing import NamedTuple
 
-from harness import ROOT, at_least
-
-
-def section(page, heading):
-    """What a page of docs has below a heading."""
-    return (ROOT / "docs" / f"{page}.md").read_text(encoding="utf-8").split(f"\n## {heading}\n")[1].split("\n## ")[0]
-
-
-FIFO_SIZE = 64
-DLAB, LOOPBACK, FIFO_BITS = 0x80, 0x10, 0xC0   # of LCR, of MCR, and of what a guest reads of IIR
-# The registers of a new port, in the order of a saved state, and those by offset. DLAB changes the first two.
-FRESH = {"DLL": 0x0C, "DLM": 0, "IER": 0, "IIR": 0x01, "LCR": 0x03, "LSR": 0x60, "MCR": 0x08, "MSR": 0xB0, "SCR": 0}
-BY_OFFSET = ["RBR", "IER", "IIR", "LCR", "MCR", "LSR", "MSR", "SCR"]
-# The bits of registers that are facts of their own: the two conditions, that none is pending, and data ready.
-BITS = {"IIR": {"RDA": 0x04, "THRE": 0x02, "NONE": 0x01}, "LSR": {"READY": 0x01}}
-ENABLED_BY = {"RDA": 0x01, "THRE": 0x02}
-IER_MASK = 0x0F   # the bits that IER keeps
-# The outputs of MCR, DTR, RTS, OUT1 and OUT2, each with the input of MSR that shows it in loopback.
-LOOPED = {0x01: 0x20, 0x02: 0x10, 0x04: 0x40, 0x08: 0x80}
-
-# The clock's registers by docs/DEVICES.md: the offset, the name, and what a write does.
-CLOCK_ROWS = at_least(8, re.findall(r"^\| 0x(\w+) \| RTC(\w+), .* \| (.*) \|$", section("DEVICES", "The clock"), re.M))
-CLOCK_AT = {int(offset, 16): name for offset, name, _ in CLOCK_ROWS}
-READ_ONLY = {name for _, name, write in CLOCK_ROWS if write == "is invalid"}
-# The fields of a clock by docs/SAVED-STATES.md, in their order, each with the format of its number, as struct has it.
-FORMATS = {"1": "b", "4": "I", "8": "q"}
-CLOCK_FIELDS = {register or field: FORMATS[size] for size, field, register in at_least(6, re.findall(
-    r"^\| \d+ \| (\d) \| `(\w+)`(?:, RTC(\w+))?", section("SAVED-STATES", "A clock"), re.M))}
-IDENTIFICATION = bytes.fromhex("31 10 04 00 0d f0 05 b1")   # from 0xFE0 on, at four offsets each
+from pages import (BITS, BY_OFFSET, CLOCK_AT, CLOCK_FIELDS, CONSTANTS, DLAB, ENABLED_BY, FIFO_BITS, FIFO_SIZE, FRESH,
+                   IDENTIFICATION, IER_MASK, KEPT, LOOPBACK, LOOPED, READ_ONLY)
 
 
 class Fact(NamedTuple):
@@ -84,8 +56,8 @@ class Port(Device):
 
     def at(self, offset):
         """The name of the register that an offset reaches."""
-        names = ["DLL", "DLM", *BY_OFFSET[2:]] if self.last("LCR") & DLAB else BY_OFFSET
-        return names[offset] if offset < 8 else None
+        names = BY_OFFSET[self.last("LCR") & DLAB != 0]
+        return names[offset] if offset < len(names) else None
 
     def is_looped(self):
         return self.last("MCR") & LOOPBACK != 0
@@ -151,7 +123,7 @@ class Port(Device):
         if name == "IER":
             raised, is_taken = self.raised(["RDA", "THRE"] if self.held() else ["THRE"], value)
             return self.done("ok", {"IER": value & IER_MASK} | raised, is_taken)
-        return self.done("ok", {name: value} if name in ("DLL", "DLM", "LCR", "MCR", "SCR") else {})
+        return self.done("ok", {name: value} if name in KEPT else {})
 
     def send(self, value):
         """Writes a byte, and reports what became of it. Raises THRE in any case."""
@@ -224,8 +196,8 @@ class Clock(Device):
         if value is None:
             self.past.append(Fact(found))
             state = self.state()
-            shown = {**state, "DR": guest_time, "CR": 1, "MIS": state["RIS"] & state["IMSC"]}
-            return shown.get(name, IDENTIFICATION[offset - 0xFE0 >> 2] if 0xFE0 <= offset < 0x1000 else None)
+            shown = {**state, **CONSTANTS, "DR": guest_time, "MIS": state["RIS"] & state["IMSC"]}
+            return shown.get(name, IDENTIFICATION.get(offset))
         writes = {
             "MR": {"MR": value, "armed": int(value > guest_time)} | ({"RIS": 1} if value == guest_time else {}),
             "LR": {"LR": value, "offset": value - time},

@@ -15,14 +15,12 @@ ORIGINAL = ROOT / "tests" / "compare" / "vm-superio-0.8.2.names"
 SOURCES = ("crates/vm_superio/src", "crates/superio_core/src/rtc_pl031")
 # What has to read alike, in Rattle and in Rust.
 SERIAL = "crates/vm_superio/src/serial.rt", "bindings/rust/src/serial.rs"
-TEXTS = "crates/superio_core/src/saved/error_text.rt", "bindings/superio/src/printed.rs"
 # The declaration of a type, or an `impl`; and in it functions and types, fields, and cases.
 BLOCK = re.compile(r"^(?:pub (?:struct|enum|trait) (\w+)|impl([^{]*))[^{;]*(?:;|\{\}|\{.*?^\})", re.M | re.S)
 PART = re.compile(r"\b(?:fn|type) (\w+)|^    (?:pub (\w+):|([A-Z]\w*)[,({])", re.M)
 # An `impl` of a type alone, and a function that others may call in it.
 INHERENT = re.compile(r"^impl(?:(?! for |\{).)*\{$.*?^\}", re.M | re.S)
 METHOD = re.compile(r"^    pub fn (\w+)", re.M)
-TEXT = re.compile(r"SavedStateError::(\w+)(?:\(_\))? => .*(\".*\")")
 
 
 def read(path):
@@ -43,7 +41,6 @@ NAMES = [(owner, part) for owner, words in re.findall(r"^(\w+)([^:\n]*)", ORIGIN
          for part in words.split()]
 ORDERS = [METHOD.findall("".join(INHERENT.findall(code_of(read(path))))) for path in SERIAL]
 COMMON = [[name for name in order if all(name in other for other in ORDERS)] for order in ORDERS]
-ERRORS = [dict(TEXT.findall(read(path))) for path in TEXTS]
 
 
 @pytest.mark.parametrize("owner, part", at_least(50, NAMES))
@@ -55,10 +52,3 @@ def test_name_of_vm_superio(owner, part):
 def test_order_of_methods(rattle, rust):
     """The methods of `Serial` that both crates have stand in one order."""
     assert rattle == rust
-
-
-@pytest.mark.parametrize("case", at_least(7, sorted({*ERRORS[0], *ERRORS[1]})))
-def test_text_of_error(case):
-    """The errors of saved states print the same."""
-    rattle, rust = ERRORS
-    assert rattle.get(case) == rust.get(case)

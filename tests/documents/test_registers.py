@@ -2,8 +2,11 @@
 """The registers of the Python package against those of the definitions, of superio.h and of DEVICES.md."""
 import re
 
+import pages
 import pytest
+from documents import table
 from harness import ROOT, at_least
+from pages import numbers
 from superio import registers
 from superio.registers import CLOCK, DLAB, FIELDS, FIFO_BITS, IDENTIFICATION, LOOPBACK, SERIAL
 
@@ -14,16 +17,6 @@ FRESH = registers.SerialState()
 
 def read(path):
     return " ".join(path.read_text(encoding="utf-8").split())
-
-
-def numbers(text):
-    return [int(digits, 16) for digits in HEX.findall(text)]
-
-
-def rows_of(text, heading):
-    """The rows of a table of DEVICES.md, which begins with these words."""
-    table = re.search(rf"^\| {re.escape(heading)}.*\n(?:\|.*\n)+", text, re.M)[0]
-    return [[cell.strip() for cell in row.split("|")[1:-1]] for row in table.splitlines()[2:]]
 
 
 def compare(what, *values):
@@ -39,8 +32,7 @@ def serial_results(devices):
                 for offset, latched, clear, only in re.findall(
                     r"offset == (\d) then (?:\(if dlab then (\w+) else (\w+)\)|(\w+))", register_map)
                 for is_latched in (False, True)}
-    shown = {(offset, dlab): row for offset, dlab, *row in rows_of(devices, "Offset | DLAB |")}
-    kept = {row[0]: row[1] for row in rows_of(devices, "Register | Bits |")}
+    shown = {(offset, dlab): row for offset, dlab, *row in table(devices, "Offset | DLAB |")}
     for name, (_, offset, _, bits, latched, access, ignored) in SERIAL.items():
         place = str(offset), {None: "any", False: "clear", True: "set"}[latched]
         reads, writes, fresh = shown.get(place, ["none", "none", "none"])
@@ -55,9 +47,10 @@ def serial_results(devices):
             yield compare(f"{name} of a new port", value, (numbers(fresh) or [None])[0],
                           int(re.search(rf"{field} = 0x(\w+);", state)[1], 16))
             comment = re.search(rf"\b{field};\s*/\*(.*?)\*/", header)[1]
-            stated = {*numbers(comment), *numbers(kept.get(name, ""))} - {FRESH.interrupt_identification, FIFO_BITS}
+            stated = {*numbers(comment), *numbers(pages.BIT_ROWS.get(name, ""))}
+            stated -= {FRESH.interrupt_identification, FIFO_BITS}
             yield compare(f"bits of {name} beside those of the texts", set(), stated - {bit for bit, _ in bits})
-    yield compare("the bits of FIFOs", FIFO_BITS, numbers(shown["2", "any"][0])[0],
+    yield compare("the bits of FIFOs", FIFO_BITS, pages.FIFO_BITS,
                   int(re.search(r"iir_fifo_bits = 0x(\w+)", register_map)[1], 16))
     named = {**{(register.name, name): bit for register in SERIAL.values() for bit, name in register.bits},
              ("LCR", "DLAB"): DLAB, ("MCR", "LOOP"): LOOPBACK}
@@ -66,14 +59,14 @@ def serial_results(devices):
     for register, name, digits in stated:
         register, name, bit = register.upper(), name.upper(), int(digits, 16)
         yield compare(f"bit {name} of {register}", named[register, name], bit)
-        yield compare(f"bit 0x{digits} of {register} in DEVICES.md", True, f"0x{digits}" in kept[register])
+        yield compare(f"bit 0x{digits} of {register} in DEVICES.md", True, f"0x{digits}" in pages.BIT_ROWS[register])
 
 
 def clock_results(devices):
     """Offsets, accesses, and the bytes of the identification."""
     text = read(SPECS / "Rtc.antt")
     variants = {int(offset, 16): name for offset, name in re.findall(r"offset == 0x(\w+) then (\w+)", text)}
-    shown = {int(offset, 16): row for offset, *row in rows_of(devices, "Offset | Register |") if HEX.fullmatch(offset)}
+    shown = {int(offset, 16): row for offset, *row in table(devices, "Offset | Register |") if HEX.fullmatch(offset)}
     accesses = {letter: dict(re.findall(rf"is_{kind} (\w+) = (true|false)", text))
                 for letter, kind in (("r", "readable"), ("w", "writable"))}
     for name, register in CLOCK.items():
@@ -86,16 +79,15 @@ def clock_results(devices):
                 stated = accesses[letter].get(variant, accesses[letter]["_"]) == "true"
                 yield compare(f"{letter} of {name}", letter in register.access, stated, effect != "is invalid")
     first = next(register.offset for name, register in CLOCK.items() if name == "ID0")
-    yield compare("the first identification", first, int(re.search(r"nat_le 0x(\w+) offset", text)[1], 16),
-                  int(re.search(r"0x(\w+) to 0xFFF \| identification", devices)[1], 16))
-    yield compare("the identification", list(IDENTIFICATION),
-                  numbers(re.search(r"identification_bytes = (.*?) \[\]", text)[1]),
-                  numbers(re.search(r"The identification bytes are (.*?),", devices)[1]))
+    yield compare("the first identification", first, pages.ID_FIRST,
+                  int(re.search(r"nat_le 0x(\w+) offset", text)[1], 16))
+    yield compare("the identification", IDENTIFICATION, pages.ID_BYTES,
+                  bytes(numbers(re.search(r"identification_bytes = (.*?) \[\]", text)[1])))
 
 
-DEVICES = (ROOT / "docs" / "DEVICES.md").read_text(encoding="utf-8")
+RESULTS = [*serial_results(pages.DEVICES), *clock_results(pages.DEVICES)]
 
 
-@pytest.mark.parametrize("value, others", at_least(113, [*serial_results(DEVICES), *clock_results(DEVICES)]))
+@pytest.mark.parametrize("value, others", at_least(113, RESULTS))
 def test_register(value, others):
     assert all(other == value for other in others)

@@ -91,15 +91,16 @@ impl Run {
     }
 
     fn error(&mut self, error: SavedStateError) {
+        // tools/generate writes these rows, and those of Differential.v.
         let number = match error {
-            SavedStateError::TooShort => 0,
-            SavedStateError::NotASavedState => 1,
-            SavedStateError::OtherDevice => 2,
-            SavedStateError::UnknownVersion(version) => 100 + u64::from(version),
-            SavedStateError::WrongLength => 3,
-            SavedStateError::TooManyBytes => 4,
-            SavedStateError::InvalidArmed => 5,
-            SavedStateError::InvalidFlags => 6,
+            SavedStateError::TooShort => 1,
+            SavedStateError::NotASavedState => 2,
+            SavedStateError::OtherDevice => 3,
+            SavedStateError::UnknownVersion(value) => 4 + 100 * u64::from(value),
+            SavedStateError::WrongLength => 5,
+            SavedStateError::TooManyBytes => 6,
+            SavedStateError::InvalidArmed => 7,
+            SavedStateError::InvalidFlags => 8,
         };
         self.add(1000 + number);
     }
