@@ -187,6 +187,6 @@ def test_the_fastest_tests_that_reach_a_line_come_first():
     reach = TOOL.Reach([test("slow", 41, True), test("other", 2, False), test("quick", 1, True), test("good", 2, True)])
     reaching, others = reach.of(TOOL.Mutant("a.c", 3, "", ""))   # in the statement that begins in line 3
     assert [[it.name for it in some] for some in (reaching, others)] == [["quick", "good", "slow"], ["other"]]
-    assert [*reach.commands(reaching)] == [("run quick good", 25, 28), ("run slow", 220, 122)]
+    assert [*reach.commands(reaching)] == [("run quick good", 90, 28), ("run slow", 675, 122)]
     assert reach.of(TOOL.Mutant("a.c", 4, "", ""))[0] == []
     assert len(reach.of(TOOL.Mutant("b.c", 4, "", ""))[1]) == 4

@@ -160,7 +160,7 @@ class Reach:
     def commands(self, tests):
         """Commands for tests, the fastest first, each with the limits of its seconds and of those of a processor. The
         first takes a twentieth of all, and each may take four times as long as the one before: a mutant without an end
-        is found soon."""
+        is found soon. One that waits costs no processor, so its limit leaves room for a busy machine."""
         most, groups = self.first, [[]]
         for test in tests:
             if groups[-1] and sum(map(self.more, [*groups[-1], test])) > most:
@@ -172,4 +172,4 @@ class Reach:
                 found = [it for it in group if it.command == command]
                 seconds = self.start[command] + sum(map(self.more, found))
                 processor = sum(it.processor for it in found)
-                yield joined(found), 15 + 5 * seconds, round(20 + 5 * min(seconds, processor))
+                yield joined(found), 60 + 15 * seconds, round(20 + 5 * min(seconds, processor))
