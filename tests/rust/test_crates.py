@@ -69,8 +69,7 @@ def test_formatted(crate, tmp_path):
 @CRATES
 def test_as_released(crate, tmp_path):
     """With other random numbers for each commit."""
-    ran = copied_crate(tmp_path, crate=crate).test("--release", "--lib", "--tests",
-                                                   CARGO_PROFILE_RELEASE_CODEGEN_UNITS="1")
+    ran = copied_crate(tmp_path, crate=crate).test("--release", "--lib", "--tests")
     assert ran == number_of_tests(crate)
 
 
