@@ -105,21 +105,42 @@ def test_page(releases):
     assert page.read_bytes() == (ROOT / "docs/try.html").read_bytes()
 
 
-UNDATED = DATED.replace("2026-01-01", "unreleased")
+def headed(heading):
+    """What commits and tags the tree again, with another heading of the version."""
+    return f"sed -i 's/^## {VERSION} - .*/## {heading}/' CHANGELOG.md && rm -rf .git && {COMMIT}"
 
 
-@pytest.mark.parametrize("spoil, said", [
-    ("touch new", "not clean"),
-    (f"git tag -d v{VERSION}", "HEAD has no tag"),
-    (f"{UNDATED} && rm -rf .git && {COMMIT}", "has no date"),
-], ids=lambda it: it[:20])
-def test_refused(releases, spoil, said, tmp_path):
-    """A release of files that no commit has, and without a tag or a date."""
-    tree = tmp_path / "tree"
+# What is done to a tree of which a release could be made, and what refuses the release then: each condition is missing,
+# or is there for something else.
+ANOTHER_COMMIT = "git -c user.name=a -c user.email=a commit -q --allow-empty -m b"
+SPOILED = {
+    "a new file": ("touch new", "not clean"),
+    "a changed file": ("echo >> README.md", "not clean"),
+    "a change to commit": ("echo >> README.md && git add README.md", "not clean"),
+    "a file that is gone": ("rm README.md", "not clean"),
+    "no tag": (f"git tag -d v{VERSION}", "HEAD has no tag"),
+    "the tag of the commit before": (ANOTHER_COMMIT, "HEAD has no tag"),
+    "the tag of the commit after": (f"{ANOTHER_COMMIT} && git tag -f v{VERSION} && git checkout -q HEAD^",
+                                    "HEAD has no tag"),
+    "tags of other versions": (f"git tag -d v{VERSION} && git tag v{VERSION}1 && git tag v1{VERSION} && "
+                               f"git tag {VERSION}", "HEAD has no tag"),
+    "no date": (headed(f"{VERSION} - unreleased"), "has no date"),
+    "half a date": (headed(f"{VERSION} - 2026-01"), "has no date"),
+    "more than a date": (headed(f"{VERSION} - 2026-01-01, not yet"), "has no date"),
+    "dates of other versions": (headed(f"1{VERSION} - 2026-01-01\\n## {VERSION}1 - 2026-01-01"), "has no date"),
+    "an earlier release": ("mkdir ../no", "no is there already"),
+}
+
+
+@pytest.mark.parametrize("name", SPOILED)
+def test_refused(releases, name, tmp_path):
+    """A release of files that no commit has, of a commit or version without tag or date, or over another release."""
+    tree, (spoil, said) = tmp_path / "tree", SPOILED[name]
     shutil.copytree(releases / "the tree of two", tree, symlinks=True)
-    ran = run(["sh", "-c", f"{spoil} && {RELEASE}={tmp_path / 'no'}"], cwd=tree)
+    check(["sh", "-ec", spoil], cwd=tree)
+    ran = run(["sh", "-c", f"{RELEASE}=../no"], cwd=tree)
     assert ran.returncode and said in ran.stdout
-    assert not (tmp_path / "no").exists()
+    assert not [*tmp_path.glob("no/*")]
 
 
 @pytest.mark.needs("cc")

@@ -21,14 +21,15 @@ STAND_INS = {
     # For root it installs what is named, by making the command that is missing. Without a time to wait for another
     # apt-get it fails, since there is one.
     "apt-get": """
-for last; do :; done
 case "$*" in
 *DPkg::Lock::Timeout=[1-9][0-9][0-9]*) ;;
 *) echo "E: Could not get lock" >&2; exit 100 ;;
 esac
-case "$*" in
-*" install "*--simulate*) echo "Inst $last (1)" ;;
-*" download "*) touch "$last.deb" ;;
+words=" $* "
+case "$words" in
+*" install --simulate "*) for it in ${words##* --simulate }; do echo "Inst $it (1)"; done ;;
+*" download --print-uris "*) ;;
+*" download "*) for it in ${words##* download }; do touch "$it.deb"; done ;;
 *" install "*) cp "$AWAY"/* "$HERE" ;;
 esac""",
     "dpkg-deb": 'mkdir -p "$3/usr/bin"; cp "$AWAY"/* "$3/usr/bin"',
@@ -288,6 +289,39 @@ def test_each_archive_is_unpacked_once(machine):
         status, said, called = machine.run("tools/install-packages", package)
         [unpacked] = [it for it in called if it.startswith("dpkg-deb")]
         assert status == 0 and f"/{package}.deb " in unpacked, said
+
+
+# Packages of this processor and of others, alone and beside each other in each order.
+NAMED = ["cargo", "cargo coq", "rust:s390x", "rust:s390x rust:armhf", "cargo rust:s390x", "rust:s390x cargo",
+         "rust:s390x cargo rust:armhf coq"]
+
+
+@pytest.mark.parametrize("user", [0, 1000])
+@pytest.mark.parametrize("named", NAMED)
+def test_each_package_comes_where_it_belongs(named, user, machine):
+    """Root gets those of this processor installed, and only the files of the others. Another user gets the files of all
+    of them, and of what those of this processor depend on. Each apt-get knows of each processor."""
+    packages = named.split()
+    own, others = ([it for it in packages if (":" in it) == is_other] for is_other in (False, True))
+    apt = STAND_INS["apt-get"].replace('echo "Inst $it (1)"', 'echo "Inst lib$it (1)"; echo "Inst $it (1)"')
+    assert apt != STAND_INS["apt-get"]
+    machine.stand_in("apt-get", apt)
+    machine.stand_in("dpkg-deb", "")
+    machine.stand_in("id", f"[ $1 != -u ] && echo somebody || echo {user}")
+    machine.lacks("cargo")
+    status, said, called = machine.run("tools/install-packages", *packages)
+    assert status == 0, said
+    asked = [it for it in called if it.startswith("apt-get ")]
+    installed = [it.partition(" install ")[2].split() for it in asked if " install " in it and "--simulate" not in it]
+    assert installed == ([own] if own and not user else [])
+    unpacked = sorted(it.split()[-2:] for it in called if it.startswith("dpkg-deb "))
+    wanted = [*others, *own, *(f"lib{it}" for it in own)] if user else others
+    into = machine.top / "out/packages" if user else "/"
+    assert unpacked == sorted([f"{machine.top}/out/apt/downloads/{it}.deb", str(into)] for it in wanted)
+    processors = ["amd64", *(it.partition(":")[2] for it in others)]
+    assert asked and {tuple(re.findall("Architectures::=(\\S+)", it)) for it in asked} == {tuple(processors)}
+    if user:
+        assert (into / "unpacked").read_text("utf-8").split() == packages
 
 
 # What of the installation fails, by whose words, for which user.

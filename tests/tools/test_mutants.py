@@ -2,13 +2,14 @@
 """tools/mutants, and survivors.txt: a mutant that may survive is one that the tool makes, with a reason, and at most
 three in a hundred of those of its part may. On a small sample the tool does what it says."""
 import json
+import os
 import sys
 from importlib.machinery import SourceFileLoader
 from importlib.util import module_from_spec, spec_from_loader
 from pathlib import Path
 
 import pytest
-from harness import ROOT, at_least
+from harness import ROOT, at_least, run
 
 
 def tool():
@@ -52,6 +53,19 @@ def test_a_line_is_turned(line, tmp_path):
     (tmp_path / "file.c").write_text(line, encoding="utf-8")
     found = [it.new for it in TOOL.mutants(tmp_path, "file.c")]
     assert set(TURNED[line]) <= set(found), found
+
+
+# Words that the tool refuses, and how it ends.
+REFUSED = {"nothing": "no part nothing", "js no none": "no part no, none", "--every 0": "from 1 on",
+           "--every -2": "from 1 on", "--jobs 0": "from 1 on", "--every few": "'few'", "--none": "--none"}
+
+
+@pytest.mark.parametrize("words", REFUSED)
+def test_wrong_words_are_refused(words):
+    """In a sentence, before anything is tried: here nothing could be."""
+    ran = run([sys.executable, ROOT / "tools" / "mutants", *words.split()], env={**os.environ, "PATH": "nowhere"})
+    last = ran.stdout.splitlines()[-1]
+    assert ran.returncode == 2 and last.startswith("mutants: error: ") and last.endswith(REFUSED[words]), ran.stdout
 
 
 # Code of which one mutant is the same, and its tests: one reads the code, and does not run it.
