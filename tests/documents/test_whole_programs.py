@@ -79,10 +79,10 @@ def test_event_loop(line, tmp_path):
     waiting the guest is held longer than the second of the page."""
     program = code("docs/C.md", "c", "int main")
     if line == "levels":
-        program, count = INTERRUPT.subn(SET_LINE + code("docs/USING.md", "c", "set_line"), program)
+        program, count = INTERRUPT.subn(SET_LINE + code("docs/C.md", "c", "set_line"), program)
         assert count == 1
     elif line == "edges that get lost":
-        program, count = WRITE.subn(code("docs/USING.md", "c", "bool wakes"), program)
+        program, count = WRITE.subn(code("docs/C.md", "c", "bool wakes"), program)
         assert count == 1
     compile_c(tmp_path, "console", program, LIBRARY, "-pthread", "-o", "console")
     check(["./console"], "HELLO\n", cwd=tmp_path, input="hello\n")
@@ -97,7 +97,7 @@ def test_event_loop(line, tmp_path):
 def test_loader_that_polls(tmp_path):
     """With the lines for a kernel that does not poll, input no longer goes in after the probe of its driver, until the
     driver is ready."""
-    program, count = WRITE.subn(rf"\g<0>{code('docs/USING.md', 'c', 'set_polled')}", code("docs/C.md", "c", "int main"))
+    program, count = WRITE.subn(rf"\g<0>{code('docs/C.md', 'c', 'set_polled')}", code("docs/C.md", "c", "int main"))
     assert count == program.count(READY) == program.count("new(&console, false)") == 1
     program = program.replace(READY, PROBE + READY).replace("new(&console, false)", "new(&console, true)")
     compile_c(tmp_path, "console", program, LIBRARY, "-pthread", "-o", "console")
@@ -248,7 +248,7 @@ def test_loader_that_polls_in_rust(built, tmp_path):
     """As in C: with the lines for a kernel that does not poll, no input goes in between its driver's probe and its being
     ready."""
     program = code("docs/RUST.md", "rust", MONITOR)
-    for old, new in [(END_OF_WRITE_IN_RUST, END_OF_WRITE_IN_RUST + code("docs/USING.md", "rust", "set_polled")),
+    for old, new in [(END_OF_WRITE_IN_RUST, END_OF_WRITE_IN_RUST + code("docs/RUST.md", "rust", "set_polled")),
                      (READY_IN_RUST, PROBE_IN_RUST + READY_IN_RUST), ("Console::new(false)", "Console::new(true)")]:
         assert program.count(old) == 1
         program = program.replace(old, new)
