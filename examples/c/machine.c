@@ -122,8 +122,8 @@ static uint64_t memory_read(struct machine *machine, uint64_t address, unsigned 
     return value >> 8 * within;
 }
 
-/* The guest writes four bytes to memory. Writes at 0x00C, RTCCR, are dropped, because drivers reset the time by one
- * when they start. */
+/* The guest writes four bytes to memory. Writes to RTCCR, at 0x00C, are dropped: some drivers make one when they start,
+ * which would reset the time. */
 static void memory_write(struct machine *machine, uint64_t address, uint32_t value) {
     if (address < CLOCK || address - CLOCK >= SUPERIO_RTC_WINDOW)
         return;

@@ -79,10 +79,10 @@ def test_event_loop(line, tmp_path):
     waiting the guest is held longer than the second of the page."""
     program = code("docs/C.md", "c", "int main")
     if line == "levels":
-        program, count = INTERRUPT.subn(SET_LINE + code("docs/USING.md", "c", "set_line"), program)
+        program, count = INTERRUPT.subn(SET_LINE + code("docs/C.md", "c", "set_line"), program)
         assert count == 1
     elif line == "edges that get lost":
-        program, count = WRITE.subn(code("docs/USING.md", "c", "bool wakes"), program)
+        program, count = WRITE.subn(code("docs/C.md", "c", "bool wakes"), program)
         assert count == 1
     compile_c(tmp_path, "console", program, LIBRARY, "-pthread", "-o", "console")
     check(["./console"], "HELLO\n", cwd=tmp_path, input="hello\n")
@@ -97,7 +97,7 @@ def test_event_loop(line, tmp_path):
 def test_loader_that_polls(tmp_path):
     """With the lines for a kernel that does not poll, input no longer goes in after the probe of its driver, until the
     driver is ready."""
-    program, count = WRITE.subn(rf"\g<0>{code('docs/USING.md', 'c', 'set_polled')}", code("docs/C.md", "c", "int main"))
+    program, count = WRITE.subn(rf"\g<0>{code('docs/C.md', 'c', 'set_polled')}", code("docs/C.md", "c", "int main"))
     assert count == program.count(READY) == program.count("new(&console, false)") == 1
     program = program.replace(READY, PROBE + READY).replace("new(&console, false)", "new(&console, true)")
     compile_c(tmp_path, "console", program, LIBRARY, "-pthread", "-o", "console")
@@ -192,44 +192,10 @@ def test_bare_port(line, tmp_path):
     check(["./port"], "all came back\n", cwd=tmp_path)
 
 
-# Around the lines of README.md with the one call: a guest that leaves a byte, and so is interrupted a second time.
-ONE_CALL = """
-struct Line(std::cell::Cell<u32>);
-impl vm_superio::Trigger for Line {{
-    type E = std::convert::Infallible;
-    fn trigger(&self) -> Result<(), Self::E> {{
-        self.0.set(self.0.get() + 1);
-        Ok(())
-    }}
-}}
-fn main() {{
-    let mut port = vm_superio::Serial::new(Line(Default::default()), std::io::sink());
-    let mut is_refused = false;
-    port.write(1, 0x01).unwrap();
-    port.enqueue_raw_bytes(b"hi").unwrap();
-    for offset in [2, 0, 2] {{
-        {}
-    }}
-    println!("{{}} interrupts, {{is_refused}}", port.interrupt_evt().0.get());
-}}
-"""
-
-
 @pytest.fixture(scope="module")
 def built(tmp_path_factory):
     """An environment in which Cargo compiles the crates once for all programs."""
     return {**os.environ, "CARGO_TARGET_DIR": str(tmp_path_factory.mktemp("target"))}
-
-
-@pytest.mark.needs("cargo")
-def test_one_call(built, tmp_path):
-    """The lines of README.md compile as they stand there, and interrupt the guest again."""
-    (tmp_path / "src").mkdir()
-    (tmp_path / "src" / "main.rs").write_text(ONE_CALL.format(code("README.md", "rust", "CharacterTimeout")), "utf-8")
-    manifest = PACKAGE + code("README.md", "toml", "patch").replace("CLONE", str(ROOT))
-    (tmp_path / "Cargo.toml").write_text(manifest, encoding="utf-8")
-    said = check(["cargo", "run", "--quiet", "--offline"], cwd=tmp_path, env=built)
-    assert said.splitlines()[-1] == "2 interrupts, false", said
 
 
 def run_rust(program, printed, typed, built, folder):
@@ -246,8 +212,8 @@ def run_rust(program, printed, typed, built, folder):
 
 @pytest.mark.needs("cargo")
 @pytest.mark.parametrize("document, of, typed, printed", [
-    ("README.md", "Console", "", HI), ("README.md", "Trigger", "", "!"), ("docs/RUST.md", "Cell", "", "h"),
-    ("docs/RUST.md", "from_snapshot", "", "h"), ("docs/RUST.md", "CONSOLE_SAVED_MAX", "", "h"),
+    ("README.md", "Console", "", HI), ("docs/RUST.md", "Cell", "", "h"), ("docs/RUST.md", "from_snapshot", "", "h"),
+    ("docs/RUST.md", "CONSOLE_SAVED_MAX", "", "h"),
     ("docs/RUST.md", "RtcState", "", "the line is up: true\n"), ("docs/RUST.md", "is_reset_command", "", BUS),
     ("docs/RUST.md", MONITOR, "hello\n", "HELLO\n"), ("docs/PORT.md", "Serial", "", "all came back\n")])
 def test_rust(document, of, typed, printed, built, tmp_path):
@@ -282,7 +248,7 @@ def test_loader_that_polls_in_rust(built, tmp_path):
     """As in C: with the lines for a kernel that does not poll, no input goes in between its driver's probe and its being
     ready."""
     program = code("docs/RUST.md", "rust", MONITOR)
-    for old, new in [(END_OF_WRITE_IN_RUST, END_OF_WRITE_IN_RUST + code("docs/USING.md", "rust", "set_polled")),
+    for old, new in [(END_OF_WRITE_IN_RUST, END_OF_WRITE_IN_RUST + code("docs/RUST.md", "rust", "set_polled")),
                      (READY_IN_RUST, PROBE_IN_RUST + READY_IN_RUST), ("Console::new(false)", "Console::new(true)")]:
         assert program.count(old) == 1
         program = program.replace(old, new)
