@@ -10,7 +10,7 @@ import pytest
 from harness import ROOT
 from support import run
 
-from superio.recording import picture, replay
+from superio.recording import entries_of, picture, replay
 from superio.script import BadLine, text_of
 from superio.view import _PLACES, Viewer, table
 
@@ -91,10 +91,17 @@ def test_short_forms():
 @pytest.mark.parametrize("trace, reason", [
     (b"sr 05\nsr 5\n", 'trace:2: "sr 5": the syntax is: sr OO'),
     (b'sent "\xc3\xa9"\n', "the text is no JSON string of ASCII"),
-    (b"sr 05\nrefuse 0000000000000001\n", "a mask comes before every other line")])
+    (b"sr 05\nrefuse 0000000000000001\n", "a mask comes before every other line"),
+    # Numbers at which a machine, a list of Python and its reader of numbers end. A wrong line, so that no call is made.
+    *((b"9" * digits + b" sr 5\n", 'trace:1: "9+.*": no line has this name') for digits in (7, 12, 20, 5000))],
+    ids=lambda it: str(it)[:30])
 def test_faults(trace, reason):
     with pytest.raises(BadLine, match=reason):
         steps_of(trace)
+
+
+def test_the_most_often_that_a_row_repeats_its_line():
+    assert entries_of("999999 sr 05  60") == [("sr 05", "60")] * 999_999
 
 
 def test_each_place_is_looked_for_in_both_directions():

@@ -1,10 +1,11 @@
 # SPDX-License-Identifier: Apache-2.0 OR BSD-3-Clause
 """Recorded traces: the calls of a script with their replies, as examples/linux-boot has them, and a picture of them.
 
-A row is a line of a script, with its reply after two spaces or more if it was recorded. A number before the line
-repeats it. `sent "TEXT"` stands for a write of each byte to THR, `polled "TEXT"` for the same after a read of LSR
-each, `received "TEXT"` for a read of LSR and one of RBR for each byte, `sq "TEXT"` for input, and `so "TEXT"` for the
-output. An empty row ends a piece, and the next begins on a fresh board. A row that begins with # is a comment.
+A row is a line of a script, with its reply after two spaces or more if it was recorded. A number before the line, of
+at most six digits, repeats it. `sent "TEXT"` stands for a write of each byte to THR, `polled "TEXT"` for the same after
+a read of LSR each, `received "TEXT"` for a read of LSR and one of RBR for each byte, `sq "TEXT"` for input, and
+`so "TEXT"` for the output. An empty row ends a piece, and the next begins on a fresh board. A row that begins with # is
+a comment.
 """
 import json
 import re
@@ -18,7 +19,8 @@ from .script import BadLine, ScriptError, parse
 from .tell import pending
 
 _TEXT = re.compile(r'(polled|sent|received|so|sq) +(".*")(?: {2,}(\S+))?')
-_ROW = re.compile(r"(?:(\d+) )?(.+?)(?: {2,}(.*))?", re.DOTALL)
+# All calls of a row are in memory at once, so that a longer number is none: no line has it as its name.
+_ROW = re.compile(r"(?:(\d{1,6}) )?(.+?)(?: {2,}(.*))?", re.DOTALL)
 
 EMPTY = "(empty)"
 """How a recording shows a reply without a character."""
@@ -84,7 +86,7 @@ def replay(name: str, rows: Iterable[bytes]) -> Iterator[Step]:
             for line, recorded in entries_of(text):
                 command = parse(line.encode("utf-8", "replace"), is_first=board.number == 0)
                 yield Step(piece, board.run(command), recorded)
-        except ValueError as error:  # also for a number of more digits than Python converts
+        except ScriptError as error:
             raise BadLine(name, number, row.rstrip(b"\r\n"), error) from error
 
 
