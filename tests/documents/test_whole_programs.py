@@ -23,6 +23,8 @@ BUS = "".join(f"{line}\n" for line in [*["clock: line false, alarm in Some(60) s
 WRITE = re.compile(r"^    if \(interrupt\(superio_console_write\(.*\n.*\n", re.M)
 # The function of a line that takes edges; and what a monitor has for one that takes levels.
 INTERRUPT = re.compile(r"(?:^/\*[^/]*\*/\n)?^static \w+ interrupt\(.*?^\}\n", re.M | re.S)
+# What a monitor adds to the functions of docs/PORT.md for a guest that begins to poll, or no longer does.
+SET_POLLED = "void set_polled(bool polls);\nvoid set_polled(bool polls) { is_polled = is_ready = polls; }\n"
 # How long the guest is held until the reader of its output takes some. Afterwards the program drops output.
 A_SECOND = "    end.tv_sec++;\n"
 # The first access of the guest. A kernel whose driver makes another before has been started by a loader that polls.
@@ -188,7 +190,7 @@ def test_bare_port(line, tmp_path):
         level = code("docs/PORT.md", "c", "set_line")
         functions, count = INTERRUPT.subn(f"void set_line(bool is_up);\n{level}", functions)
         assert count == 1
-    compile_c(tmp_path, "port", functions, ROOT / "tests/documents/bare_port.c", LIBRARY, "-o", "port")
+    compile_c(tmp_path, "port", functions + SET_POLLED, ROOT / "tests/documents/bare_port.c", LIBRARY, "-o", "port")
     check(["./port"], "all came back\n", cwd=tmp_path)
 
 
