@@ -150,8 +150,8 @@ def test_mistake(compiler, row, tmp_path):
 
 
 def callers(name, parameters):
-    """Callers of a function. In each one, an argument is not set, or is a byte too small. Ten bytes are passed where the
-    caller says how many."""
+    """Callers of a function. In each one, an argument is not set, or is a byte too small. If the caller says how many
+    bytes there are, it says ten."""
     def call(argument="", by=""):
         words = [by if it.name == argument else it.name if it.kind.endswith("*") or it.length else
                  "10" if it.kind == "size_t" else "0" for it in parameters]
@@ -166,7 +166,7 @@ def callers(name, parameters):
 
 @pytest.mark.needs("cc")
 def test_memory_of_arguments(tmp_path):
-    """Gcc warns of each argument that is not set and that the call reads, of each that is too small, and of no other."""
+    """Gcc warns of each argument that is read and not set, of each that is too small, and of no other."""
     made = at_least(50, [it for name, function in read_header().functions.items()
                          for it in callers(name, function.parameters)])
     source = "".join(OF_MEMORY.format(name=name, memory=memory, call=call) for name, memory, call in made)

@@ -74,18 +74,23 @@ def test_c(tmp_path):
     check(["./hi"], HI, cwd=tmp_path)
 
 
+def program_for(line):
+    """The program of docs/C.md, with the lines of docs/USING.md for such a line, or for a loader that polls."""
+    place, lines = {"edges": (WRITE, r"\g<0>"),
+                    "edges that get lost": (WRITE, code("docs/USING.md", "c", "bool wakes")),
+                    "levels": (INTERRUPT, SET_LINE + code("docs/USING.md", "c", "set_line")),
+                    "a loader that polls": (WRITE, rf"\g<0>{code('docs/USING.md', 'c', 'set_polled')}")}[line]
+    program, count = place.subn(lines, code("docs/C.md", "c", "int main"))
+    assert count == 1
+    return program
+
+
 @pytest.mark.needs("cc")
 @pytest.mark.parametrize("line", ["edges", "edges that get lost", "levels"])
 def test_event_loop(line, tmp_path):
     """More input comes back than all queues hold, also if its reader begins late: for a reader that a busy machine keeps
     waiting the guest is held longer than the second of the page."""
-    program = code("docs/C.md", "c", "int main")
-    if line == "levels":
-        program, count = INTERRUPT.subn(SET_LINE + code("docs/USING.md", "c", "set_line"), program)
-        assert count == 1
-    elif line == "edges that get lost":
-        program, count = WRITE.subn(code("docs/USING.md", "c", "bool wakes"), program)
-        assert count == 1
+    program = program_for(line)
     compile_c(tmp_path, "console", program, LIBRARY, "-pthread", "-o", "console")
     check(["./console"], "HELLO\n", cwd=tmp_path, input="hello\n")
     assert program.count(A_SECOND) == 1
@@ -99,8 +104,8 @@ def test_event_loop(line, tmp_path):
 def test_loader_that_polls(tmp_path):
     """With the lines for a kernel that does not poll, input no longer goes in after the probe of its driver, until the
     driver is ready."""
-    program, count = WRITE.subn(rf"\g<0>{code('docs/USING.md', 'c', 'set_polled')}", code("docs/C.md", "c", "int main"))
-    assert count == program.count(READY) == program.count("new(&console, false)") == 1
+    program = program_for("a loader that polls")
+    assert program.count(READY) == program.count("new(&console, false)") == 1
     program = program.replace(READY, PROBE + READY).replace("new(&console, false)", "new(&console, true)")
     compile_c(tmp_path, "console", program, LIBRARY, "-pthread", "-o", "console")
     check(["./console"], "HELLO\n", cwd=tmp_path, input="hello\n")
@@ -166,6 +171,49 @@ def test_an_event_loop_that_breaks_a_rule(rule, edit, tmp_path):
     program = code("docs/C.md", "c", "int main")
     assert program.count(edit[0]) == 1
     assert watched(program.replace(*edit), tmp_path) == (3, f"{rule}\n")
+
+
+# Beside the programs, how accesses.c names the lines in them.
+ACCESSES = {"edges": "", "edges that get lost": "LOSES", "levels": "LEVELS", "a loader that polls": "STOPS_POLLING"}
+WAKE = "the event loop is woken for nothing, or is not woken"
+# Edits of a program whose accesses then are others, and what accesses.c says.
+OTHER_ACCESSES = at_least(8, [
+    ("edges", "if (interrupt(done.work))", "if (done.work.wakes)", "the line gets something else"),
+    ("edges", "return done.byte;", "return (uint8_t)(done.byte & 0x7F);", "the console is another"),
+    ("edges", "if (interrupt(done.work))\n", "if (interrupt(done.work) && offset > 0)\n", WAKE),
+    ("edges that get lost", "offset == 1 &&", "offset == 2 &&", "the console is another"),
+    ("edges that get lost", "|| wakes)", "&& wakes)", WAKE),
+    ("levels", "    was_up = work.is_up;\n", "", "the line gets something else"),
+    ("levels", "set_line(work.is_up);", "set_line(was_up);", "the line gets something else"),
+    ("levels", "return work.wakes;", "return work.is_up;", WAKE),
+    ("a loader that polls", "interrupt_enable & 0x01)", "interrupt_enable & 0x02)", "the console is another"),
+    ("a loader that polls", "(&console, false))", "(&console, true))", "the console is another"),
+])
+
+
+def accesses(line, program, folder):
+    """What accesses.c says of the accesses of a program."""
+    program = program.replace("int main(", "int main_of_the_page(")
+    program = program.replace(SET_LINE, "static void set_line(bool is_up) { eventfd_write(irq, is_up ? 2 : 1); }\n")
+    program += (ROOT / "tests/documents/accesses.c").read_text(encoding="utf-8")
+    flags = [f"-D{name}={int(own == line)}" for own, name in ACCESSES.items() if name]
+    compile_c(folder, "accesses", program, *flags, LIBRARY, "-pthread", "-o", "accesses")
+    return run([folder / "accesses"]).stdout
+
+
+@pytest.mark.needs("cc")
+@pytest.mark.parametrize("line", ACCESSES)
+def test_accesses(line, tmp_path):
+    """Each reaches the console once, and its work is carried out, whatever the line refuses."""
+    assert accesses(line, program_for(line), tmp_path) == "each access is right\n"
+
+
+@pytest.mark.needs("cc")
+@pytest.mark.parametrize("line, old, new, said", OTHER_ACCESSES)
+def test_other_accesses(line, old, new, said, tmp_path):
+    program = program_for(line)
+    assert program.count(old) == 1
+    assert accesses(line, program.replace(old, new), tmp_path) == f"{said}\n"
 
 
 @pytest.mark.needs("cc")
