@@ -173,6 +173,43 @@ def test_an_event_loop_that_breaks_a_rule(rule, edit, tmp_path):
     assert watched(program.replace(*edit), tmp_path) == (3, f"{rule}\n")
 
 
+# How the input and the output fail. 0 is the end of the input.
+FAILURES = [("0", "EPIPE"), ("EIO", "ENOSPC")]
+# Rules of files, each with a failure and an edit of the program of the page that breaks it.
+FORGETFUL_OF_FILES = at_least(5, [
+    ("a file is not ready, and polled no more", FAILURES[0], "count == 0 || errno != EAGAIN", "count <= 0"),
+    ("a file is not ready, and polled no more", FAILURES[0], "count < 0 && errno != EAGAIN", "count < 0"),
+    ("output is kept that nobody can take", FAILURES[0], "count = (ssize_t)waiting;", "count = 0;"),
+    ("output is kept that nobody can take", FAILURES[1], "count < 0 && errno != EAGAIN", "count < 0 && errno == EPIPE"),
+    ("input is over, and polled again", FAILURES[0], "count == 0 || errno != EAGAIN", "count < 0 && errno != EAGAIN"),
+    ("input is over, and polled again", FAILURES[1], "input = -1;", "input = count < 0 ? input : -1;"),
+])
+
+
+def said_of_files(program, failure, folder):
+    """What failing_files.c says of a program like that of the page."""
+    flags = [f"-D{name}_ERROR={error}" for name, error in zip(("READ", "WRITE"), failure)]
+    wrapped = [f"-Wl,--wrap={name}" for name in ("poll", "read", "write")]
+    compile_c(folder, "console", program, ROOT / "tests/documents/failing_files.c", *flags, LIBRARY, *wrapped,
+              "-pthread", "-o", "console")
+    return run([folder / "console"], stdin=subprocess.DEVNULL).stdout
+
+
+@pytest.mark.needs("cc")
+@pytest.mark.parametrize("failure", FAILURES)
+def test_files_that_fail(failure, tmp_path):
+    """The event loop goes on without a file that has failed for good, and with one that is not ready."""
+    assert said_of_files(code("docs/C.md", "c", "int main"), failure, tmp_path) == "each rule is kept\n"
+
+
+@pytest.mark.needs("cc")
+@pytest.mark.parametrize("rule, failure, old, new", FORGETFUL_OF_FILES)
+def test_an_event_loop_that_breaks_a_rule_of_files(rule, failure, old, new, tmp_path):
+    program = code("docs/C.md", "c", "int main")
+    assert program.count(old) == 1
+    assert said_of_files(program.replace(old, new), failure, tmp_path) == f"{rule}\n"
+
+
 # Beside the programs, how accesses.c names the lines in them.
 ACCESSES = {"edges": "", "edges that get lost": "LOSES", "levels": "LEVELS", "a loader that polls": "STOPS_POLLING"}
 WAKE = "the event loop is woken for nothing, or is not woken"
