@@ -47,6 +47,21 @@ SET_LINE_IN_RUST = """
         }
     }
 """
+# One that tells what the line got, as accesses.rs counts it. And how accesses.rs makes a monitor, and knows its lines.
+SET_BOTH_IN_RUST = """
+    fn set_line(&self, is_up: bool) {
+        (0..1 + u8::from(is_up)).for_each(|_| self.irq.try_send(()).unwrap());
+    }
+"""
+MADE_IN_RUST = """
+const LEVELS: bool = {};
+const STOPS_POLLING: bool = {};
+
+fn made(console: Console, irq: SyncSender<()>, events: SyncSender<Event>) -> Monitor {{
+    let (console, has_room, is_stuck) = (Mutex::new(console), Condvar::new(), AtomicBool::new(true));
+    Monitor {{ console, has_room, is_stuck, irq, events }}
+}}
+"""
 # As PROBE and READY, in Rust. Before them, the end of a write there.
 END_OF_WRITE_IN_RUST = "        self.end_access(&mut console, work);\n"
 READY_IN_RUST = "    monitor.write_access(1, 0x01);"
@@ -341,36 +356,59 @@ def test_rust(document, of, typed, printed, built, tmp_path):
     run_rust(code(document, "rust", of), printed, typed, built, tmp_path)
 
 
+def rust_program_for(line):
+    """The program of docs/RUST.md, with the function for a line of levels, or the lines for a loader that polls."""
+    program, edits = code("docs/RUST.md", "rust", MONITOR), []
+    if line == "levels":
+        [carried_out] = CARRY_OUT.findall(program)
+        edits = [(carried_out, code("docs/RUST.md", "rust", "was_up.swap") + SET_LINE_IN_RUST), *LEVEL_FIELD]
+    elif line == "a loader that polls":
+        edits = [(END_OF_WRITE_IN_RUST, END_OF_WRITE_IN_RUST + code("docs/USING.md", "rust", "set_polled"))]
+    return edited(program, edits)
+
+
+def edited(program, edits):
+    for old, new in edits:
+        assert program.count(old) == 1
+        program = program.replace(old, new)
+    return program
+
+
 @pytest.mark.needs("cargo")
 def test_levels_in_rust(built, tmp_path):
-    """The program with the function for a line that takes levels. A text of several refills of the FIFO comes back."""
-    level = code("docs/RUST.md", "rust", "was_up.swap") + SET_LINE_IN_RUST
-    program, count = CARRY_OUT.subn(lambda _: level, code("docs/RUST.md", "rust", MONITOR))
-    for old, new in LEVEL_FIELD:
-        count += program.count(old)
-        program = program.replace(old, new)
-    assert count == 3
+    """A text of several refills of the FIFO comes back."""
     text = "the quick brown fox " * 100 + "\n"
-    run_rust(program, text.upper(), text, built, tmp_path)
+    run_rust(rust_program_for("levels"), text.upper(), text, built, tmp_path)
+
+
+def without_main(program):
+    return edited(program, [("\nfn main", "\n#[allow(dead_code)]\nfn main_of_the_page")])
 
 
 @pytest.mark.needs("cargo")
 def test_rules_of_the_whole_monitor(built, tmp_path):
     """The monitor of docs/RUST.md, with a guest and files at the worst moments in place of its `main`."""
-    shown = code("docs/RUST.md", "rust", MONITOR)
-    program, count = re.subn("^fn main", "#[allow(dead_code)]\nfn main_of_the_page", shown, flags=re.M)
-    assert count == 1
     rules = (ROOT / "tests/documents/monitor_rules.rs").read_text("utf-8")
-    run_rust(program + rules, "each rule is kept\n", "", built, tmp_path)
+    run_rust(without_main(rust_program_for("edges")) + rules, "each rule is kept\n", "", built, tmp_path)
+
+
+@pytest.mark.needs("cargo")
+@pytest.mark.parametrize("line", ["edges", "levels", "a loader that polls"])
+def test_accesses_in_rust(line, built, tmp_path):
+    """As in C: each reaches the console once, and its work is carried out, whatever the line refuses."""
+    program, is_level = without_main(rust_program_for(line)), line == "levels"
+    made = MADE_IN_RUST.format(*(str(it).lower() for it in (is_level, line == "a loader that polls")))
+    if is_level:
+        program = edited(program, [(SET_LINE_IN_RUST, SET_BOTH_IN_RUST)])
+        made = edited(made, LEVEL_FIELD[1:])
+    program += made + (ROOT / "tests/documents/accesses.rs").read_text("utf-8")
+    run_rust(program, "each access is right\n", "", built, tmp_path)
 
 
 @pytest.mark.needs("cargo")
 def test_loader_that_polls_in_rust(built, tmp_path):
     """As in C: with the lines for a kernel that does not poll, no input goes in between its driver's probe and its being
     ready."""
-    program = code("docs/RUST.md", "rust", MONITOR)
-    for old, new in [(END_OF_WRITE_IN_RUST, END_OF_WRITE_IN_RUST + code("docs/USING.md", "rust", "set_polled")),
-                     (READY_IN_RUST, PROBE_IN_RUST + READY_IN_RUST), ("Console::new(false)", "Console::new(true)")]:
-        assert program.count(old) == 1
-        program = program.replace(old, new)
+    program = edited(rust_program_for("a loader that polls"), [(READY_IN_RUST, PROBE_IN_RUST + READY_IN_RUST),
+                                                               ("Console::new(false)", "Console::new(true)")])
     run_rust(program, "HELLO\n", "hello\n", built, tmp_path)
