@@ -31,6 +31,18 @@ void make(superio_serial *port, superio_console *console, superio_rtc *clock) {{
     {}
 }}
 """
+# A caller with memory of its own in place of one argument.
+OF_MEMORY = """void {name}(superio_serial *port, superio_console *console, superio_rtc *clock, uint8_t *bytes);
+void {name}(superio_serial *port, superio_console *console, superio_rtc *clock, uint8_t *bytes) {{
+    (void)port, (void)console, (void)clock, (void)bytes;
+    {memory}
+    {call};
+}}
+"""
+# The arguments that need not be set, since their calls only write them.
+WRITTEN = {"superio_console_new_console", "superio_serial_load_port", "superio_console_load_console",
+           "superio_rtc_load_clock", "superio_console_output_bytes", "superio_serial_save_bytes",
+           "superio_console_save_bytes", "superio_rtc_save_bytes"}
 MISTAKES = at_least(50, [re.split("  +", row) for row in (HERE / "mistakes.txt").read_text("ascii").splitlines()
                          if row and not row.startswith("#")])
 
@@ -135,3 +147,33 @@ def test_mistake(compiler, row, tmp_path):
     source.write_text(CALLER.format(call), "ascii")
     said = run([*compiler.split(), *WARNINGS, "-c", source, "-o", "/dev/null"]).stdout
     assert said == "" if wanted == "nothing" else all(it in said for it in wanted.split(", "))
+
+
+def callers(name, parameters):
+    """Callers of a function. In each one, an argument is not set, or is a byte too small. If the caller says how many
+    bytes there are, it says ten."""
+    def call(argument="", by=""):
+        words = [by if it.name == argument else it.name if it.kind.endswith("*") or it.length else
+                 "10" if it.kind == "size_t" else "0" for it in parameters]
+        return f"{name}({', '.join(words)})"
+
+    for argument, length in [(it.name, it.length or 10) for it in parameters if it.name == "bytes"]:
+        yield f"{name}_{argument}", f"uint8_t memory[{length}];", call(argument, "memory")
+        yield f"{name}_few", f"uint8_t memory[{length} - 1]; fill(memory);", call(argument, "memory")
+    for argument, kind in [(it.name, it.kind.strip("*").split()[-1]) for it in parameters if "superio" in it.kind]:
+        yield f"{name}_{argument}", f"{kind} memory;", call(argument, "&memory")
+
+
+@pytest.mark.needs("cc")
+def test_memory_of_arguments(tmp_path):
+    """Gcc warns of each argument that is read and not set, of each that is too small, and of no other."""
+    made = at_least(50, [it for name, function in read_header().functions.items()
+                         for it in callers(name, function.parameters)])
+    source = "".join(OF_MEMORY.format(name=name, memory=memory, call=call) for name, memory, call in made)
+    (tmp_path / "memory.c").write_text(f"#include <superio.h>\nvoid fill(uint8_t *memory);\n{source}", "ascii")
+    said = run(["gcc", "-std=c99", *WARNINGS, "-Wno-unused-result", "-c", "memory.c", "-o", "/dev/null"], cwd=tmp_path)
+    parts = re.findall(r"^memory\.c: In function .(\w+).:$(.*?)(?=^memory\.c: In|\Z)", said.stdout, re.M | re.S)
+    warned = {(name, warning) for name, part in parts for warning in re.findall(r"\[-W(?:maybe-)?([a-z]+)", part)}
+    assert warned == {(name, "stringop" if name.endswith("_few") else "uninitialized")
+                      for name, *_ in made if name not in WRITTEN}
+    assert WRITTEN <= {name for name, *_ in made}

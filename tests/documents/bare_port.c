@@ -2,7 +2,8 @@
 /*
  * A guest, an event loop and an interrupt controller around the functions of docs/PORT.md. The guest sends back what it
  * receives. All of it comes back in order, whatever the controller refuses, for drivers that read IIR once or until
- * nothing is pending, and take few bytes or many, in machines that slept and were reset before.
+ * nothing is pending, and take few bytes or many, in machines that slept and were reset before. Input goes in at once
+ * while the guest polls, and otherwise once its driver is ready, also after a sleep and after a reset.
  */
 #include <stdio.h>
 #include <stdlib.h>
@@ -14,6 +15,7 @@ uint8_t read_access(uint8_t offset);
 void turn(void);
 void reset(void);
 void suspend(void);
+void set_polled(bool polls); /* the monitor's own: sets what a machine begins with */
 
 enum { INPUT = 2000, ROOM = 100 };
 static uint8_t input[ROOM];    /* what waits for the guest */
@@ -107,7 +109,44 @@ static bool exchange(unsigned most, bool is_until_none) {
     return false;
 }
 
+/* Whether a byte that is typed now goes in, by a turn. Nothing is left of it. */
+static bool goes_in(void) {
+    waiting = 1;
+    turn();
+    bool went_in = waiting == 0;
+    waiting = 0;
+    while (read_access(5) & 0x01)
+        read_access(0);
+    return went_in;
+}
+
+static bool goes_in_when_it_may(bool polls) {
+    set_polled(polls);
+    for (int start = 0; start < 3; start++) {
+        if (goes_in() != polls)
+            return false;
+        write_access(1, 0x01); /* the driver is ready */
+        if (!goes_in())
+            return false;
+        if (start == 1)
+            suspend();
+        if (start == 1 && goes_in())
+            return false;
+        waiting = 1;
+        reset();
+        if ((waiting == 0) != polls)
+            return false;
+    }
+    return true;
+}
+
 int main(void) {
+    typed = INPUT; /* no more comes from the source */
+    if (!goes_in_when_it_may(false) || !goes_in_when_it_may(true)) {
+        puts("input goes in too early, or too late");
+        return 1;
+    }
+    set_polled(false);
     static const unsigned most[] = {1, 7, 64, 256};
     for (unsigned seed = 0; seed < 400; seed++) {
         srand(seed);

@@ -1,6 +1,7 @@
 // SPDX-License-Identifier: Apache-2.0 OR BSD-3-Clause
 //! A guest and an event loop around the `Machine` of docs/PORT.md, as bare_port.c has them for its functions in C. The
-//! line refuses one interrupt in four.
+//! line refuses one interrupt in four. Input goes in at once while the guest polls, and otherwise once its driver is
+//! ready, also after a sleep and after a reset. Output waits over a reset.
 use std::cell::Cell;
 use std::rc::Rc;
 
@@ -102,7 +103,54 @@ fn exchange(seed: u32, most: usize, is_until_none: bool) {
     assert!(machine.input.len() == 100, "seed {}: a guest that sleeps gets input", seed);
 }
 
+/// Whether what is typed now goes in, by a turn. Nothing is left of it.
+fn goes_in(machine: &mut Machine<Line>) -> bool {
+    machine.input.push_back(b'x');
+    machine.turn();
+    let went_in = machine.input.is_empty();
+    machine.input.clear();
+    while machine.read_access(5) & 0x01 != 0 {
+        machine.read_access(0);
+    }
+    went_in
+}
+
+fn input_goes_in_when_it_may(is_polled: bool) {
+    let line = Line::default();
+    let mut machine = Machine::new(line.clone(), is_polled);
+    for start in ["new", "reset", "woken"] {
+        assert!(goes_in(&mut machine) == is_polled, "it is {}: polled {}", start, is_polled);
+        machine.write_access(1, 0x01);
+        assert!(goes_in(&mut machine), "its driver is ready: polled {}", is_polled);
+        if start == "reset" {
+            machine.suspend();
+            assert!(!goes_in(&mut machine), "it sleeps: polled {}", is_polled);
+        }
+        machine.input.push_back(b'x');
+        machine.is_refused = true;
+        machine.reset(line.clone());
+        assert!(machine.input.is_empty() == is_polled, "input that waits at a reset: polled {}", is_polled);
+        assert!(!machine.wants_turn() && !machine.is_refused, "a refusal is of the port before the reset");
+        machine.input.clear();
+        machine.read_access(0);
+    }
+}
+
+fn output_that_waits_stays() {
+    let line = Line::default();
+    let mut machine = Machine::new(line.clone(), false);
+    (0..5_000_u32).for_each(|number| machine.write_access(0, number as u8));
+    machine.reset(line);
+    let output = machine.port.writer();
+    assert!(output.waiting.iter().copied().eq((0..4_096_u32).map(|number| number as u8)), "other output waits");
+    assert!(output.dropped == 904, "{} bytes were dropped", output.dropped);
+}
+
 fn main() {
+    for is_polled in [false, true] {
+        input_goes_in_when_it_may(is_polled);
+    }
+    output_that_waits_stays();
     for seed in 0..400 {
         exchange(seed, [1, 7, 64, 256][seed as usize / 2 % 4], seed % 2 == 1);
     }

@@ -131,7 +131,58 @@ fn a_guest_is_held_once_by_a_reader_that_takes_nothing() {
     assert!(!trial.monitor.is_stuck.load(Relaxed), "the guest is not held again after the reader took some");
 }
 
+/// A source and a reader of output. Each of their calls ends with the next of these errors, and then all goes well.
+struct Failing(Vec<ErrorKind>);
+
+impl Failing {
+    fn end(&mut self, count: usize) -> io::Result<usize> {
+        self.0.pop().map_or(Ok(count), |kind| Err(kind.into()))
+    }
+}
+
+impl Read for Failing {
+    fn read(&mut self, bytes: &mut [u8]) -> io::Result<usize> {
+        self.end(bytes.len().min(2))
+    }
+}
+
+impl Write for Failing {
+    fn write(&mut self, bytes: &[u8]) -> io::Result<usize> {
+        self.end(bytes.len())
+    }
+
+    fn flush(&mut self) -> io::Result<()> {
+        Ok(())
+    }
+}
+
+/// Whatever becomes of a read or a write, the loop hears of its end: else it would never ask for another.
+fn files_may_fail() {
+    for (errors, count) in [(vec![], 2), (vec![ErrorKind::Interrupted; 3], 2), (vec![ErrorKind::Other], 0)] {
+        let (asking, asked) = sync_channel(1);
+        let (events, woken) = sync_channel(1);
+        let source = Failing(errors.clone());
+        spawn(move || serve_input(source, asked, events));
+        asking.send(64).unwrap();
+        match woken.recv_timeout(LONG) {
+            Ok(Event::Input(bytes)) => assert_eq!(bytes.len(), count, "input after {errors:?}"),
+            _ => panic!("no input comes after {errors:?}"),
+        }
+    }
+    for errors in [vec![], vec![ErrorKind::Interrupted; 3], vec![ErrorKind::BrokenPipe]] {
+        let (asking, asked) = sync_channel(1);
+        let (events, woken) = sync_channel(1);
+        let reader = Failing(errors.clone());
+        spawn(move || serve_output(reader, asked, events));
+        for _ in 0..2 {
+            asking.send(b"hello".to_vec()).unwrap();
+            assert!(matches!(woken.recv_timeout(LONG), Ok(Event::Written(5))), "output waits after {errors:?}");
+        }
+    }
+}
+
 fn main() {
+    files_may_fail();
     input_waits_for_the_driver_and_ends_once();
     input_that_does_not_fit_stays();
     a_refused_interrupt_comes_again();

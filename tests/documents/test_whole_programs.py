@@ -23,6 +23,8 @@ BUS = "".join(f"{line}\n" for line in [*["clock: line false, alarm in Some(60) s
 WRITE = re.compile(r"^    if \(interrupt\(superio_console_write\(.*\n.*\n", re.M)
 # The function of a line that takes edges; and what a monitor has for one that takes levels.
 INTERRUPT = re.compile(r"(?:^/\*[^/]*\*/\n)?^static \w+ interrupt\(.*?^\}\n", re.M | re.S)
+# What a monitor adds to the functions of docs/PORT.md for a guest that begins to poll, or no longer does.
+SET_POLLED = "void set_polled(bool polls);\nvoid set_polled(bool polls) { is_polled = is_ready = polls; }\n"
 # How long the guest is held until the reader of its output takes some. Afterwards the program drops output.
 A_SECOND = "    end.tv_sec++;\n"
 # The first access of the guest. A kernel whose driver makes another before has been started by a loader that polls.
@@ -44,6 +46,21 @@ SET_LINE_IN_RUST = """
             let _ = self.irq.try_send(());
         }
     }
+"""
+# One that tells what the line got, as accesses.rs counts it. And how accesses.rs makes a monitor, and knows its lines.
+SET_BOTH_IN_RUST = """
+    fn set_line(&self, is_up: bool) {
+        (0..1 + u8::from(is_up)).for_each(|_| self.irq.try_send(()).unwrap());
+    }
+"""
+MADE_IN_RUST = """
+const LEVELS: bool = {};
+const STOPS_POLLING: bool = {};
+
+fn made(console: Console, irq: SyncSender<()>, events: SyncSender<Event>) -> Monitor {{
+    let (console, has_room, is_stuck) = (Mutex::new(console), Condvar::new(), AtomicBool::new(true));
+    Monitor {{ console, has_room, is_stuck, irq, events }}
+}}
 """
 # As PROBE and READY, in Rust. Before them, the end of a write there.
 END_OF_WRITE_IN_RUST = "        self.end_access(&mut console, work);\n"
@@ -72,18 +89,23 @@ def test_c(tmp_path):
     check(["./hi"], HI, cwd=tmp_path)
 
 
+def program_for(line):
+    """The program of docs/C.md, with its lines for such an interrupt line, or for a loader that polls."""
+    place, lines = {"edges": (WRITE, r"\g<0>"),
+                    "edges that get lost": (WRITE, code("docs/C.md", "c", "bool wakes")),
+                    "levels": (INTERRUPT, SET_LINE + code("docs/C.md", "c", "set_line")),
+                    "a loader that polls": (WRITE, rf"\g<0>{code('docs/C.md', 'c', 'set_polled')}")}[line]
+    program, count = place.subn(lines, code("docs/C.md", "c", "int main"))
+    assert count == 1
+    return program
+
+
 @pytest.mark.needs("cc")
 @pytest.mark.parametrize("line", ["edges", "edges that get lost", "levels"])
 def test_event_loop(line, tmp_path):
     """More input comes back than all queues hold, also if its reader begins late: for a reader that a busy machine keeps
     waiting the guest is held longer than the second of the page."""
-    program = code("docs/C.md", "c", "int main")
-    if line == "levels":
-        program, count = INTERRUPT.subn(SET_LINE + code("docs/C.md", "c", "set_line"), program)
-        assert count == 1
-    elif line == "edges that get lost":
-        program, count = WRITE.subn(code("docs/C.md", "c", "bool wakes"), program)
-        assert count == 1
+    program = program_for(line)
     compile_c(tmp_path, "console", program, LIBRARY, "-pthread", "-o", "console")
     check(["./console"], "HELLO\n", cwd=tmp_path, input="hello\n")
     assert program.count(A_SECOND) == 1
@@ -97,8 +119,8 @@ def test_event_loop(line, tmp_path):
 def test_loader_that_polls(tmp_path):
     """With the lines for a kernel that does not poll, input no longer goes in after the probe of its driver, until the
     driver is ready."""
-    program, count = WRITE.subn(rf"\g<0>{code('docs/C.md', 'c', 'set_polled')}", code("docs/C.md", "c", "int main"))
-    assert count == program.count(READY) == program.count("new(&console, false)") == 1
+    program = program_for("a loader that polls")
+    assert program.count(READY) == program.count("new(&console, false)") == 1
     program = program.replace(READY, PROBE + READY).replace("new(&console, false)", "new(&console, true)")
     compile_c(tmp_path, "console", program, LIBRARY, "-pthread", "-o", "console")
     check(["./console"], "HELLO\n", cwd=tmp_path, input="hello\n")
@@ -166,6 +188,86 @@ def test_an_event_loop_that_breaks_a_rule(rule, edit, tmp_path):
     assert watched(program.replace(*edit), tmp_path) == (3, f"{rule}\n")
 
 
+# How the input and the output fail. 0 is the end of the input.
+FAILURES = [("0", "EPIPE"), ("EIO", "ENOSPC")]
+# Rules of files, each with a failure and an edit of the program of the page that breaks it.
+FORGETFUL_OF_FILES = at_least(5, [
+    ("a file is not ready, and polled no more", FAILURES[0], "count == 0 || errno != EAGAIN", "count <= 0"),
+    ("a file is not ready, and polled no more", FAILURES[0], "count < 0 && errno != EAGAIN", "count < 0"),
+    ("output is kept that nobody can take", FAILURES[0], "count = (ssize_t)waiting;", "count = 0;"),
+    ("output is kept that nobody can take", FAILURES[1], "count < 0 && errno != EAGAIN", "count < 0 && errno == EPIPE"),
+    ("input is over, and polled again", FAILURES[0], "count == 0 || errno != EAGAIN", "count < 0 && errno != EAGAIN"),
+    ("input is over, and polled again", FAILURES[1], "input = -1;", "input = count < 0 ? input : -1;"),
+])
+
+
+def said_of_files(program, failure, folder):
+    """What failing_files.c says of a program like that of the page."""
+    flags = [f"-D{name}_ERROR={error}" for name, error in zip(("READ", "WRITE"), failure)]
+    wrapped = [f"-Wl,--wrap={name}" for name in ("poll", "read", "write")]
+    compile_c(folder, "console", program, ROOT / "tests/documents/failing_files.c", *flags, LIBRARY, *wrapped,
+              "-pthread", "-o", "console")
+    return run([folder / "console"], stdin=subprocess.DEVNULL).stdout
+
+
+@pytest.mark.needs("cc")
+@pytest.mark.parametrize("failure", FAILURES)
+def test_files_that_fail(failure, tmp_path):
+    """The event loop goes on without a file that has failed for good, and with one that is not ready."""
+    assert said_of_files(code("docs/C.md", "c", "int main"), failure, tmp_path) == "each rule is kept\n"
+
+
+@pytest.mark.needs("cc")
+@pytest.mark.parametrize("rule, failure, old, new", FORGETFUL_OF_FILES)
+def test_an_event_loop_that_breaks_a_rule_of_files(rule, failure, old, new, tmp_path):
+    program = code("docs/C.md", "c", "int main")
+    assert program.count(old) == 1
+    assert said_of_files(program.replace(old, new), failure, tmp_path) == f"{rule}\n"
+
+
+# Beside the programs, how accesses.c names the lines in them.
+ACCESSES = {"edges": "", "edges that get lost": "LOSES", "levels": "LEVELS", "a loader that polls": "STOPS_POLLING"}
+WAKE = "the event loop is woken for nothing, or is not woken"
+# Edits of a program whose accesses then are others, and what accesses.c says.
+OTHER_ACCESSES = at_least(8, [
+    ("edges", "if (interrupt(done.work))", "if (done.work.wakes)", "the line gets something else"),
+    ("edges", "return done.byte;", "return (uint8_t)(done.byte & 0x7F);", "the console is another"),
+    ("edges", "if (interrupt(done.work))\n", "if (interrupt(done.work) && offset > 0)\n", WAKE),
+    ("edges that get lost", "offset == 1 &&", "offset == 2 &&", "the console is another"),
+    ("edges that get lost", "|| wakes)", "&& wakes)", WAKE),
+    ("levels", "    was_up = work.is_up;\n", "", "the line gets something else"),
+    ("levels", "set_line(work.is_up);", "set_line(was_up);", "the line gets something else"),
+    ("levels", "return work.wakes;", "return work.is_up;", WAKE),
+    ("a loader that polls", "interrupt_enable & 0x01)", "interrupt_enable & 0x02)", "the console is another"),
+    ("a loader that polls", "(&console, false))", "(&console, true))", "the console is another"),
+])
+
+
+def accesses(line, program, folder):
+    """What accesses.c says of the accesses of a program."""
+    program = program.replace("int main(", "int main_of_the_page(")
+    program = program.replace(SET_LINE, "static void set_line(bool is_up) { eventfd_write(irq, is_up ? 2 : 1); }\n")
+    program += (ROOT / "tests/documents/accesses.c").read_text(encoding="utf-8")
+    flags = [f"-D{name}={int(own == line)}" for own, name in ACCESSES.items() if name]
+    compile_c(folder, "accesses", program, *flags, LIBRARY, "-pthread", "-o", "accesses")
+    return run([folder / "accesses"]).stdout
+
+
+@pytest.mark.needs("cc")
+@pytest.mark.parametrize("line", ACCESSES)
+def test_accesses(line, tmp_path):
+    """Each reaches the console once, and its work is carried out, whatever the line refuses."""
+    assert accesses(line, program_for(line), tmp_path) == "each access is right\n"
+
+
+@pytest.mark.needs("cc")
+@pytest.mark.parametrize("line, old, new, said", OTHER_ACCESSES)
+def test_other_accesses(line, old, new, said, tmp_path):
+    program = program_for(line)
+    assert program.count(old) == 1
+    assert accesses(line, program.replace(old, new), tmp_path) == f"{said}\n"
+
+
 @pytest.mark.needs("cc")
 def test_commands(tmp_path):
     """As the page says, in a folder that has what the repository's top has. The page shows the program but for the line
@@ -188,7 +290,7 @@ def test_bare_port(line, tmp_path):
         level = code("docs/PORT.md", "c", "set_line")
         functions, count = INTERRUPT.subn(f"void set_line(bool is_up);\n{level}", functions)
         assert count == 1
-    compile_c(tmp_path, "port", functions, ROOT / "tests/documents/bare_port.c", LIBRARY, "-o", "port")
+    compile_c(tmp_path, "port", functions + SET_POLLED, ROOT / "tests/documents/bare_port.c", LIBRARY, "-o", "port")
     check(["./port"], "all came back\n", cwd=tmp_path)
 
 
@@ -213,43 +315,66 @@ def run_rust(program, printed, typed, built, folder):
 @pytest.mark.needs("cargo")
 @pytest.mark.parametrize("document, of, typed, printed", [
     ("README.md", "Console", "", HI), ("docs/RUST.md", "Cell", "", "h"), ("docs/RUST.md", "from_snapshot", "", "h"),
-    ("docs/RUST.md", "CONSOLE_SAVED_MAX", "", "h"),
-    ("docs/RUST.md", "RtcState", "", "the line is up: true\n"), ("docs/RUST.md", "is_reset_command", "", BUS),
+    ("docs/RUST.md", "CONSOLE_SAVED_MAX", "", "h"), ("docs/RUST.md", "is_reset_command", "", BUS),
+    ("docs/RUST.md", "RtcState", "", "the line is up: true\n"),
     ("docs/RUST.md", MONITOR, "hello\n", "HELLO\n"), ("docs/PORT.md", "Serial", "", "all came back\n")])
 def test_rust(document, of, typed, printed, built, tmp_path):
     run_rust(code(document, "rust", of), printed, typed, built, tmp_path)
 
 
+def rust_program_for(line):
+    """The program of docs/RUST.md, with the function for a line of levels, or the lines for a loader that polls."""
+    program, edits = code("docs/RUST.md", "rust", MONITOR), []
+    if line == "levels":
+        [carried_out] = CARRY_OUT.findall(program)
+        edits = [(carried_out, code("docs/RUST.md", "rust", "was_up.swap") + SET_LINE_IN_RUST), *LEVEL_FIELD]
+    elif line == "a loader that polls":
+        edits = [(END_OF_WRITE_IN_RUST, END_OF_WRITE_IN_RUST + code("docs/RUST.md", "rust", "set_polled"))]
+    return edited(program, edits)
+
+
+def edited(program, edits):
+    for old, new in edits:
+        assert program.count(old) == 1
+        program = program.replace(old, new)
+    return program
+
+
 @pytest.mark.needs("cargo")
 def test_levels_in_rust(built, tmp_path):
-    """The program with the function for a line that takes levels. A text of several refills of the FIFO comes back."""
-    level = code("docs/RUST.md", "rust", "was_up.swap") + SET_LINE_IN_RUST
-    program, count = CARRY_OUT.subn(lambda _: level, code("docs/RUST.md", "rust", MONITOR))
-    for old, new in LEVEL_FIELD:
-        count += program.count(old)
-        program = program.replace(old, new)
-    assert count == 3
+    """A text of several refills of the FIFO comes back."""
     text = "the quick brown fox " * 100 + "\n"
-    run_rust(program, text.upper(), text, built, tmp_path)
+    run_rust(rust_program_for("levels"), text.upper(), text, built, tmp_path)
+
+
+def without_main(program):
+    return edited(program, [("\nfn main", "\n#[allow(dead_code)]\nfn main_of_the_page")])
 
 
 @pytest.mark.needs("cargo")
 def test_rules_of_the_whole_monitor(built, tmp_path):
     """The monitor of docs/RUST.md, with a guest and files at the worst moments in place of its `main`."""
-    shown = code("docs/RUST.md", "rust", MONITOR)
-    program, count = re.subn("^fn main", "#[allow(dead_code)]\nfn main_of_the_page", shown, flags=re.M)
-    assert count == 1
     rules = (ROOT / "tests/documents/monitor_rules.rs").read_text("utf-8")
-    run_rust(program + rules, "each rule is kept\n", "", built, tmp_path)
+    run_rust(without_main(rust_program_for("edges")) + rules, "each rule is kept\n", "", built, tmp_path)
+
+
+@pytest.mark.needs("cargo")
+@pytest.mark.parametrize("line", ["edges", "levels", "a loader that polls"])
+def test_accesses_in_rust(line, built, tmp_path):
+    """As in C: each reaches the console once, and its work is carried out, whatever the line refuses."""
+    program, is_level = without_main(rust_program_for(line)), line == "levels"
+    made = MADE_IN_RUST.format(*(str(it).lower() for it in (is_level, line == "a loader that polls")))
+    if is_level:
+        program = edited(program, [(SET_LINE_IN_RUST, SET_BOTH_IN_RUST)])
+        made = edited(made, LEVEL_FIELD[1:])
+    program += made + (ROOT / "tests/documents/accesses.rs").read_text("utf-8")
+    run_rust(program, "each access is right\n", "", built, tmp_path)
 
 
 @pytest.mark.needs("cargo")
 def test_loader_that_polls_in_rust(built, tmp_path):
     """As in C: with the lines for a kernel that does not poll, no input goes in between its driver's probe and its being
     ready."""
-    program = code("docs/RUST.md", "rust", MONITOR)
-    for old, new in [(END_OF_WRITE_IN_RUST, END_OF_WRITE_IN_RUST + code("docs/RUST.md", "rust", "set_polled")),
-                     (READY_IN_RUST, PROBE_IN_RUST + READY_IN_RUST), ("Console::new(false)", "Console::new(true)")]:
-        assert program.count(old) == 1
-        program = program.replace(old, new)
+    program = edited(rust_program_for("a loader that polls"), [(READY_IN_RUST, PROBE_IN_RUST + READY_IN_RUST),
+                                                               ("Console::new(false)", "Console::new(true)")])
     run_rust(program, "HELLO\n", "hello\n", built, tmp_path)
