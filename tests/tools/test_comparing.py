@@ -2,13 +2,17 @@
 """What compares in tests sees what differs in the last place only: helpers, programs that replay calls, and tests of
 files that a command makes."""
 import json
+import os
 import re
 import shutil
 import subprocess
 import sys
 
 import common.seed
+import expanded
 import pytest
+import rerun
+import rust2coq
 import test_consoles
 import test_counts
 import test_files
@@ -122,6 +126,28 @@ def test_seeds_differ(monkeypatch):
         made += [*seeds("a", 3), *seeds("b", 3), random_source("a").random()]
         assert seeds("a", 4)[:3] == seeds("a", 3)
     assert len({*made}) == len(made) == 14
+
+
+# What is made of seeds, in a process of its own.
+DRAWN = """import random
+import console, made, recorded, seeds
+print(seeds.seeds("a", 2), seeds.random_source("a").random(), *made.every_load(20))
+for seed in seeds.seeds("b", 5):
+    for is_for_program in (False, True):
+        print(made.random_script(random.Random(seed), is_for_program))
+print(recorded.random_recorded(seeds.seeds("c", 5)), console.random_runs(seeds.seeds("d", 5)))
+"""
+
+
+def test_a_seed_gives_the_same_in_each_process(monkeypatch):
+    """In whatever order a set is there. Another seed gives something else."""
+    monkeypatch.setenv("PYTHONPATH", os.pathsep.join(sys.path))
+    made = []
+    for number, order in [("7", "0"), ("7", "1"), ("7", "2"), ("8", "0")]:
+        monkeypatch.setenv(VARIABLE, number)
+        monkeypatch.setenv("PYTHONHASHSEED", order)
+        made.append(check([sys.executable, "-c", DRAWN]))
+    assert made[0] == made[1] == made[2] != made[3]
 
 
 # Programs that replay calls
@@ -246,6 +272,21 @@ def test_erased(tmp_path, monkeypatch):
         path.write_bytes(before + b"// more\n")
         assert refuses(test_crates.test_erased), path
         path.write_bytes(before)
+
+
+@pytest.mark.needs("debian-rust")
+def test_what_rustc_reads(tmp_path, monkeypatch):
+    """tools/recheck --rustc sees what differs at the end of a crate only, or is more or less there."""
+    core, left = {"core": rerun.CRATES["core"]}, rerun.left_out()[0]
+    words = expanded.read(ROOT / core["core"], left["core"])
+    for it in (words, *altered(words)):
+        monkeypatch.setattr(expanded, "read", lambda *_, it=it: it)
+        compared = expanded.compare(ROOT, "/usr/bin/rustc", core, left, tmp_path)
+        if it == words:
+            assert [count > 900 for _, count in compared] == [True]
+        else:
+            with pytest.raises(rust2coq.Refused, match="^bindings/superio: rustc reads .*, and here stands "):
+                [*compared]
 
 
 # Compilers' warnings, and counts

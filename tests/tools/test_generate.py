@@ -3,32 +3,47 @@
 the repository holds is of its sources."""
 import importlib.machinery
 import importlib.util
+import re
 import sys
 
 import pytest
-from harness import ROOT, run
+import rerun
+from common.cargo import BINDINGS, DEVICES
+from common.comparison import COMPARISON
+from generators import counts, libraries, module
+from generators.page import PAGE
+from harness import ROOT, at_least, run
+
+sys.path.append(str(ROOT / "tests" / "page"))
+from test_page import PICTURES  # noqa: E402
 
 TOOL = ROOT / "tools" / "generate"
 
 
 @pytest.fixture
-def generate(tmp_path, monkeypatch):
-    """The tool, over a folder with three steps: one that always runs, one that copies, and one that counts."""
+def own():
+    """The tool, with its own steps."""
     loader = importlib.machinery.SourceFileLoader("generate", str(TOOL))
-    module = importlib.util.module_from_spec(importlib.util.spec_from_loader("generate", loader))
-    loader.exec_module(module)
-    monkeypatch.setattr(module, "ROOT", tmp_path)
-    monkeypatch.setattr(module, "RECORD", tmp_path / "record.txt")
-    monkeypatch.setattr(module, "advice", lambda tool: [f"{tool} is missing"] if tool == "missing" else [])
-    monkeypatch.setattr(module, "STEPS", {
-        "always": module.Step("touch always"),
-        "copy": module.Step("cp source/one made/one", reads="source", writes="made/*"),
-        "list": module.Step("cp made/one list", reads="made", writes="list"),
+    found = importlib.util.module_from_spec(importlib.util.spec_from_loader("generate", loader))
+    loader.exec_module(found)
+    return found
+
+
+@pytest.fixture
+def generate(own, tmp_path, monkeypatch):
+    """The tool, over a folder with three steps: one that always runs, one that copies, and one that counts."""
+    monkeypatch.setattr(own, "ROOT", tmp_path)
+    monkeypatch.setattr(own, "RECORD", tmp_path / "record.txt")
+    monkeypatch.setattr(own, "advice", lambda tool: [f"{tool} is missing"] if tool == "missing" else [])
+    monkeypatch.setattr(own, "STEPS", {
+        "always": own.Step("touch always"),
+        "copy": own.Step("cp source/one made/one", reads="source", writes="made/*"),
+        "list": own.Step("cp made/one list", reads="made", writes="list"),
     })
     for folder in ("source", "made"):
         (tmp_path / folder).mkdir()
     (tmp_path / "source" / "one").write_text("1")
-    return module
+    return own
 
 
 def made(generate, monkeypatch, capfd, *words):
@@ -91,11 +106,38 @@ def test_is_current():
     assert (ran.returncode, ran.stdout) == (0, "")
 
 
-def test_patterns(generate):
+def sources(*folders, ending=".rs"):
+    found = [at_least(1, (ROOT / it).rglob(f"*{ending}")) for it in folders]
+    return [path for paths in found for path in paths if "target" not in path.parts]
+
+
+# What the code of each step that has a digest names: what it writes, and what that depends on.
+NAMED = {
+    "libraries": [*(libraries.PREBUILT / target / name for target in libraries.TARGETS
+                    for name in (libraries.STATIC, libraries.SHARED)),
+                  *sources(*libraries.SOURCE_FOLDERS, ending=".rt")],
+    "module": [libraries.PREBUILT / module.MODULE, module.EMBEDDED, module.DECLARED, libraries.INTERFACE,
+               *sources(module.SOURCES, module.DEVICES), ROOT / "tools/generators/module.py",
+               *(ROOT / f"bindings/python/superio/{it}.py" for it in at_least(3, re.findall(
+                   r"^from superio\.(\w+)", (ROOT / "tools/generators/module.py").read_text("utf-8"), re.M)))],
+    "pictures": [PAGE, *(ROOT / "docs" / it for it in PICTURES)],
+    "statements": [*(path for ending in (".py", ".v", ".txt", ".rs") for path in sources("recheck", ending=ending)),
+                   ROOT / "docs/PROOFS.md", *sources(*rerun.CRATES.values()),
+                   *sources(*(ROOT / "crates").glob("*/specs"), ending=".antt")],
+    "counts": [*sources(DEVICES / "src", BINDINGS / "src"), *sources(COMPARISON, ending=".*"), counts.C_LIBRARY,
+               libraries.HEADER, ROOT / "tools/generators/counts.py"],
+}
+
+
+def test_each_file_of_a_step_counts(own):
+    """One that is stale or changed by hand makes its step late."""
+    assert [it for it in own.STEPS if own.STEPS[it].reads] == [*NAMED]
+    for name, files in NAMED.items():
+        assert not {it.relative_to(ROOT).as_posix() for it in {*files} - own.files_of(own.STEPS[name])}, name
+
+
+def test_patterns(own):
     """Each pattern of the tool's own steps finds a file."""
-    loader = importlib.machinery.SourceFileLoader("own", str(TOOL))
-    own = importlib.util.module_from_spec(importlib.util.spec_from_loader("own", loader))
-    loader.exec_module(own)
     for name, step in own.STEPS.items():
         for pattern in (step.reads + " " + step.writes).split():
             assert [*ROOT.glob(pattern)], f"{name}: {pattern}"
