@@ -12,7 +12,7 @@ from pathlib import Path
 import pytest
 from common.cargo import BINDINGS, DEVICES, Cargo, add_crate, copied_crate
 from common.comparison import ORIGINAL, Comparison
-from harness import ROOT, check
+from harness import ROOT, at_least, check
 from places import PLACES
 from recorded import difference, random_recorded, recordings, rows_of
 from sums import number_of_tests
@@ -104,6 +104,27 @@ def test_drop_in(tmp_path):
     """The program that makes calls compiles over the crate with the names of vm-superio 0.8.2 alone."""
     built = Comparison(tmp_path, BINDINGS).build()
     assert built.returncode == 0, built.stdout
+
+
+def public_paths(file, before=""):
+    """Each path of what a file of a crate makes public, and of what its public modules do."""
+    folder = file.parent if file.stem in ("lib", "mod") else file.with_suffix("")
+    public = r"^pub (?:(mod)|const(?: fn)?|enum|fn|struct|trait|type|use [\w:]+::\{?) ?([\w, ]+)"
+    for module, names in re.findall(public, file.read_text(encoding="utf-8"), re.M):
+        for path in (before + name for name in names.strip().split(", ")):
+            yield path
+            if module:
+                inner = next(it for it in (folder / f"{names}.rs", folder / names / "mod.rs") if it.exists())
+                yield from public_paths(inner, f"{path}::")
+
+
+def test_sansio_is_superio(tmp_path):
+    """Whoever takes vm-superio has all of superio in its module `sansio`, by the same paths."""
+    sources = DEVICES / "src"
+    paths = at_least(55, [*public_paths(sources / "lib.rs"), *public_paths(sources / "devices" / "mod.rs")])
+    code = "".join(f"pub use vm_superio::sansio::{path} as public_{at};\n" for at, path in enumerate(paths))
+    add_crate(tmp_path, code, f'[dependencies]\nvm-superio = {{ path = "{BINDINGS}" }}\n')
+    Cargo(tmp_path).check("check")
 
 
 def test_a_dropped_result_warns(tmp_path):
