@@ -6,6 +6,7 @@ import io
 import os
 import re
 import unittest
+from itertools import product
 from unittest import mock
 
 from support import PACKAGE, ROOT, FolderTest, run
@@ -444,6 +445,18 @@ class Words(FolderTest):
                 for start in (self.folder, "~"):
                     self.assertEqual([f"{self.folder}/{name}" for name in names],
                                      Session(None).completions("save ", f"{start}/{text}"))
+
+    def test_completions_of_bits(self):
+        """After a register, whose name may be in any case, come its bits, also after others of them."""
+        for registers, lines in ((SERIAL, ("write", "sw")), (CLOCK, ("cw now",))):
+            for register in registers.values():
+                names = [name for _, name in register.bits] if "w" in register.access else []
+                for line, change in product(lines if names else (), (str.upper, str.lower, str.capitalize)):
+                    before = f"{line} {change(register.name)} "
+                    self.assertEqual(names, Session(None).completions(before, ""), before)
+                    for begun, name in product(("", f"{names[-1]}|"), names):
+                        found = Session(None).completions(before, begun + change(name))
+                        self.assertEqual([begun + one for one in names if one.startswith(name)], found, before + begun)
 
 
 class WordsAfterReset(Words):
