@@ -34,9 +34,10 @@ OTHERS = ["s390x", "arm"]   # for which there is only the library from source
 
 
 def loads():
-    """Loads into new devices, as lines of scripts."""
+    """Loads into new devices, as lines of scripts. At the end the devices are new again: what comes next may begin with a
+    load that is refused."""
     fresh = [("load", bytes.fromhex(Board().save())), ("clock_load", bytes.fromhex(Board().clock_save()))]
-    calls = [*fresh, *every_load()][:LOADED_CALLS]
+    calls = [*fresh, *[*every_load()][:LOADED_CALLS], *fresh]
     return "".join(f"{line_of(*call)} = {reply}\n" for call, reply in zip(calls, replies_of(Board(), calls)))
 
 
