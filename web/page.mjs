@@ -46,9 +46,10 @@ function begin() {
 
 /**
  * Makes a call, which ends the list: what came after the present call is dropped. A line that ends in ` f` has a writer
- * that fails. Returns the call, or null if it is no line of a script.
+ * that fails. Returns the call, or null if it is no line of a script. The interrupt line refuses as the user says, unless
+ * the caller says otherwise.
  */
-function make(line) {
+function make(line, refuses = id("refuses").checked) {
   if (state.boot) takeOver();
   const { list } = state;
   const plain = line.replace(/ f$/, "");
@@ -61,7 +62,7 @@ function make(line) {
   }
   const before = list.board;
   const after = before.clone();
-  Object.assign(after, { refuses: id("refuses").checked, fails: plain !== line || id("fails").checked });
+  Object.assign(after, { refuses, fails: plain !== line || id("fails").checked });
   const reply = after.reply(command);
   const isLost = after.isLost && after.fails;
   const call = { line: isLost ? `${plain} f` : plain, command, reply, before, after, queue: state.queue };
@@ -344,7 +345,7 @@ id("clock-registers").append(...clockRows.map(({ row }) => row));
 function showClock(board, before) {
   const now = state.boot?.moment ?? hostTime();
   const clock = board.clock.clone();
-  const valuesOf = ({ ris, imsc, ...others }) => ({ ris, imsc, mis: ris & imsc, ...others });
+  const valuesOf = ({ ris, imsc, ...others }) => ({ ris, imsc, mis: (ris & imsc) >>> 0, ...others });
   const [values, old] = [board, before].map((one) => valuesOf(one.clock.state));
   const due = clock.alarmDue(now);
   const set = due === null ? `set for ${dateOf(values.mr)}, never due` : `in ${plural(due, "second")}`;
@@ -408,7 +409,7 @@ function takeOver() {
   const { boot } = state;
   begin();
   state.log = boot.text;
-  for (const line of boot.saved()) make(line);
+  for (const line of boot.saved()) make(line, false); // a port whose load is refused would stay new
   say("caption", `You have the devices as they were after call ${boot.at.toLocaleString("en")} of the boot. The ` +
     "kernel has stopped: you, or a driver that you let serve, act for it.");
 }

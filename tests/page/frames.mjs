@@ -84,8 +84,11 @@ const STEPS = {
   },
   /** Waits until the page has told the time again, as it does each second. */
   second: () => new Promise((done) => page.setTimeout(done, 1100)),
+  /** A key goes to what has the focus, which the list takes. */
   key: (key) => {
-    if (!by("list").dispatchEvent(new KeyboardEvent("keydown", { key, cancelable: true }))) taken += `${key} `;
+    by("list").focus();
+    const pressed = new KeyboardEvent("keydown", { key, cancelable: true, bubbles: true });
+    if (!page.document.activeElement.dispatchEvent(pressed)) taken += `${key} `;
   },
   /** Runs a pasted script: lines, then others so many times, with a semicolon after each. */
   script: (...words) => {
@@ -163,7 +166,10 @@ const SEEN = {
   stories: () => texts("#stories li").join(" "),
 };
 
-/** Tries a feature, of a name, steps and what is seen. */
+/** The start of an element as a text. */
+const start = (one) => one.outerHTML.slice(0, 90);
+
+/** Tries a feature, of a name, steps and what is seen. What is hidden may not be seen. */
 async function tryFeature(feature) {
   const [name, ...lines] = feature.split("\n");
   const wrong = [];
@@ -180,6 +186,7 @@ async function tryFeature(feature) {
       await STEPS[step](...words);
     }
   }
+  wrong.push(...all("[hidden]").filter((one) => one.checkVisibility()).map((one) => `this is seen: ${start(one)}`));
   tell("feature", name, wrong);
 }
 
@@ -209,10 +216,12 @@ async function tryLooks(width, scheme) {
     "is cut": visible.filter((one) => one.matches("button, label, .bit, .register b") && one.clientWidth &&
       one.scrollWidth > one.clientWidth + 1),
     "has no name": controls.filter((one) => !one.computedName),
+    "is not reached by Tab": visible.filter((one) => one.tabIndex < 0 && !one.disabled && (controls.includes(one) ||
+      /auto|scroll/.test(page.getComputedStyle(one).overflowY) && one.scrollHeight > one.clientHeight + 1)),
     "is too wide": [page.document.scrollingElement].filter((one) => one.scrollWidth > width),
   };
   tell("looks", `${width} ${scheme}`, Object.entries(faults).flatMap(([what, elements]) =>
-    elements.map((one) => `this ${what}: ${one.outerHTML.slice(0, 90)}`)), controls.length);
+    elements.map((one) => `this ${what}: ${start(one)}`)), controls.length);
 }
 
 /**

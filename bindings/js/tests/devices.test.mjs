@@ -232,7 +232,11 @@ test("each number is taken at its edges, and refused beyond them by its name, it
       refused(() => call(beyond), "RangeError", `${name} is ${beyond}${sign}, and ${wanted}`);
     }
     for (const part of [0.5, NaN]) refused(() => call(part), "RangeError", `${name} is ${part}, and ${wanted}`);
-    if (isBig) refused(() => call(2 ** 60), "RangeError", `${wanted}, above 2 ** 53 as a BigInt`);
+    // A Number beyond 2 ** 53 of which nobody knows whether it was rounded: within the range too, on each side of 0.
+    for (const unsafe of isBig ? [2 ** 53, 2 ** 60, -(2 ** 53), -(2 ** 60)] : []) {
+      refused(() => call(unsafe), "RangeError", `${wanted}, above 2 ** 53 as a BigInt`);
+    }
+    if (isBig) call(BigInt(Number.MAX_SAFE_INTEGER) + 1n);
     else refused(() => call(65n), "TypeError", `${name} is 65n, and ${wanted}`);
     for (const other of OF_OTHER_KINDS) refused(() => call(other), "TypeError", `, and ${wanted}`);
     refused(() => call(true), "TypeError", `${name} is true`);
