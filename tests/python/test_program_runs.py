@@ -6,7 +6,7 @@ import os
 from unittest import mock
 
 import pytest
-from harness import at_least
+from harness import ROOT, at_least, check
 from script_tests import FURTHER_TESTS, TESTS, Script, of_documents, scripts_of
 
 from superio import board, program
@@ -99,3 +99,10 @@ def test_refused_memory(runs, name, replies):
     refused = {name: board.LINES[name]._replace(reply=mock.Mock(side_effect=MemoryError))}
     with mock.patch.dict(board.LINES, refused):
         assert runs.ended(f"kr 04\n{name}\nkr 04\n".encode()) == (3, replies, b"out of memory\n")
+
+
+def test_the_launcher_runs_the_package_beside_it(tmp_path):
+    """Whatever other one a user has installed, or names in PYTHONPATH."""
+    (tmp_path / "superio").mkdir()
+    (tmp_path / "superio" / "__init__.py").write_text("raise SystemExit('another package')\n", "utf-8")
+    check([ROOT / "superio"], "00\n", input="kr 04\n", env={**os.environ, "PYTHONPATH": str(tmp_path)}, cwd=tmp_path)

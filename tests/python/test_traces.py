@@ -137,6 +137,25 @@ def test_a_reply_that_differs():
     assert said(Viewer(steps, "trace", None), "last").endswith("\n  recorded: ok\n")
 
 
+# Lines with what a fresh board replies, of each length, and with other replies that may be recorded: none, less, more,
+# another one.
+REPLIES = {"so": ("(empty)", ["48", "00", "ok"]), "kr 04": ("00", ["(empty)", "0", "000", "01"]),
+           "sw 07 05": ("ok", ["(empty)", "o", "okk", "io"]), "refuse 0000000000000001": ("(empty)", ["ok", "00"])}
+
+
+@pytest.mark.parametrize("line", REPLIES)
+def test_each_reply_that_differs(line):
+    """One without a recorded reply does not."""
+    same, others = REPLIES[line]
+    for row in (line, f"{line}  {same}"):
+        assert [step.differs for step in steps_of(row.encode())] == [False]
+    for recorded in others:
+        steps = steps_of(f"{line}  {recorded}\n".encode())
+        assert [step.differs for step in steps] == [True], recorded
+        shown = "" if recorded == "(empty)" else recorded
+        assert f"recorded: {shown}" in table(steps) and f"recorded: {shown}" in said(Viewer(steps, "trace", None), "last")
+
+
 @pytest.mark.parametrize("trace, parts", PICTURES, ids=lambda it: str(it)[:30])
 def test_bars(trace, parts):
     drawn = picture(steps_of(trace), "a <title> & more")

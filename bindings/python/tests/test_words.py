@@ -332,6 +332,23 @@ class Words(FolderTest):
                 self.assertIn(reason, reason_of(caught.exception))
                 self.assertEqual(calls, self.session.commands)
 
+    def test_a_fault_leaves_the_session(self):
+        """However often it comes, the session then says of itself what it says without it, and does the same."""
+        chain = [self.folder / str(number) for number in range(10)]   # as many files as may follow each other
+        for path, line in zip(chain, ["write SCR 7", *(f"source {path}" for path in chain)]):
+            path.write_text(f"{line}\n")
+        faults = {line for lines in FAULTS.values() for line in lines if len(line) < 1000} | {"source ~/none"}
+        for line in sorted({*faults, f"source {chain[0]}0", "load"}):
+            *before, last = line.split("\n")
+            told = []
+            for times in (0, 11):
+                self.afresh(*before)
+                for _ in range(times):
+                    self.assertRaises(Exception, self.said, last)
+                told.append([self.said("regs"), self.said("why"), self.said("trace"), self.said(f"source {chain[-1]}"),
+                             self.said("diff"), self.said("script"), self.said("trace")])
+            self.assertEqual(*told, line)
+
     def test_a_reply_that_is_not_written_is_no_fault_of_its_line(self):
         out = mock.Mock(**{"write.side_effect": OSError(errno.ENOSPC, "No space left on device")})
         self.assertRaises(OSError, Session(out).run_lines, "it", [b"kr 04\n"])
