@@ -140,6 +140,7 @@ fn output_that_waits_stays() {
     let line = Line::default();
     let mut machine = Machine::new(line.clone(), false);
     (0..5_000_u32).for_each(|number| machine.write_access(0, number as u8));
+    assert!(!machine.is_refused && !machine.wants_turn(), "a full output is no interrupt that was refused");
     machine.reset(line);
     let output = machine.port.writer();
     assert!(output.waiting.iter().copied().eq((0..4_096_u32).map(|number| number as u8)), "other output waits");

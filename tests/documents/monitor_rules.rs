@@ -131,12 +131,21 @@ fn a_guest_is_held_once_by_a_reader_that_takes_nothing() {
     assert!(!trial.monitor.is_stuck.load(Relaxed), "the guest is not held again after the reader took some");
 }
 
-/// A source and a reader of output. Each of their calls ends with the next of these errors, and then all goes well.
-struct Failing(Vec<ErrorKind>);
+/// A source and a reader of output. Each of their calls ends with the next of these errors, and then all goes well. The
+/// reader keeps what is written, and shows it at a flush, as a terminal's standard output does with a part of a line.
+struct Failing {
+    errors: Vec<ErrorKind>,
+    kept: usize,
+    shown: Arc<AtomicUsize>,
+}
 
 impl Failing {
+    fn new(errors: &[ErrorKind]) -> Failing {
+        Failing { errors: errors.to_vec(), kept: 0, shown: Arc::default() }
+    }
+
     fn end(&mut self, count: usize) -> io::Result<usize> {
-        self.0.pop().map_or(Ok(count), |kind| Err(kind.into()))
+        self.errors.pop().map_or(Ok(count), |kind| Err(kind.into()))
     }
 }
 
@@ -148,20 +157,24 @@ impl Read for Failing {
 
 impl Write for Failing {
     fn write(&mut self, bytes: &[u8]) -> io::Result<usize> {
-        self.end(bytes.len())
+        let count = self.end(bytes.len())?;
+        self.kept += count;
+        Ok(count)
     }
 
     fn flush(&mut self) -> io::Result<()> {
+        self.shown.fetch_add(std::mem::take(&mut self.kept), Relaxed);
         Ok(())
     }
 }
 
-/// Whatever becomes of a read or a write, the loop hears of its end: else it would never ask for another.
+/// Whatever becomes of a read or a write, the loop hears of its end: else it would never ask for another. Output of which
+/// it hears is shown, unless its reader is gone.
 fn files_may_fail() {
     for (errors, count) in [(vec![], 2), (vec![ErrorKind::Interrupted; 3], 2), (vec![ErrorKind::Other], 0)] {
         let (asking, asked) = sync_channel(1);
         let (events, woken) = sync_channel(1);
-        let source = Failing(errors.clone());
+        let source = Failing::new(&errors);
         spawn(move || serve_input(source, asked, events));
         asking.send(64).unwrap();
         match woken.recv_timeout(LONG) {
@@ -172,11 +185,14 @@ fn files_may_fail() {
     for errors in [vec![], vec![ErrorKind::Interrupted; 3], vec![ErrorKind::BrokenPipe]] {
         let (asking, asked) = sync_channel(1);
         let (events, woken) = sync_channel(1);
-        let reader = Failing(errors.clone());
+        let reader = Failing::new(&errors);
+        let shown = Arc::clone(&reader.shown);
         spawn(move || serve_output(reader, asked, events));
-        for _ in 0..2 {
+        let lost = if errors.contains(&ErrorKind::BrokenPipe) { 5 } else { 0 };
+        for sent in [5, 10] {
             asking.send(b"hello".to_vec()).unwrap();
             assert!(matches!(woken.recv_timeout(LONG), Ok(Event::Written(5))), "output waits after {errors:?}");
+            assert_eq!(shown.load(Relaxed), sent - lost, "output is written, and not shown, after {errors:?}");
         }
     }
 }

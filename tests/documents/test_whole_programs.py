@@ -359,6 +359,15 @@ def test_rules_of_the_whole_monitor(built, tmp_path):
 
 
 @pytest.mark.needs("cargo")
+def test_rules_of_a_turn(built, tmp_path):
+    """The turn in the README of bindings/superio, around a guest and files that take and give something else each time."""
+    functions, _ = code("bindings/superio/README.md", "rust", "fn make_turn").split("\nlet mut console")
+    program = edited(functions, [('println!("{work:?}");', "let _ = work;")])
+    rules = (ROOT / "tests/documents/turn_rules.rs").read_text("utf-8")
+    run_rust(program + rules, "each rule is kept\n", "", built, tmp_path)
+
+
+@pytest.mark.needs("cargo")
 @pytest.mark.parametrize("line", ["edges", "levels", "a loader that polls"])
 def test_accesses_in_rust(line, built, tmp_path):
     """As in C: each reaches the console once, and its work is carried out, whatever the line refuses."""

@@ -61,7 +61,11 @@ pub use serial::{Serial, SerialState};
 ///         (&self.0).write_all(&1u64.to_ne_bytes())
 ///     }
 /// }
-/// # EventFd(File::options().write(true).open("/dev/null").unwrap()).trigger().unwrap();
+/// # let (mut end, other) = std::os::unix::net::UnixStream::pair().unwrap();
+/// # EventFd(File::from(std::os::unix::io::OwnedFd::from(other))).trigger().unwrap();
+/// # let mut bytes = Vec::new();
+/// # io::Read::read_to_end(&mut end, &mut bytes).unwrap();
+/// # assert_eq!(bytes, 1u64.to_ne_bytes()); // which an eventfd takes, and nothing else
 /// ```
 pub trait Trigger {
     /// Why a call was refused.
