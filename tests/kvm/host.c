@@ -365,6 +365,20 @@ int __wrap_pthread_create(pthread_t *thread, const pthread_attr_t *attributes, v
     return attributes || work != machine_run || argument ? EINVAL : fails("thread") ? EAGAIN : 0;
 }
 
+/* A guest that starts again has to find the memory that it found first: what another guest left there is seen. */
+static void compare_memory(void) {
+    enum { PART = 1 << 20 };
+    static uint8_t found[2][PART];
+    static bool is_again;
+    for (int part = 0; part < 2; part++) {
+        const uint8_t *begin = memory + (part == 0 ? 0 : MEMORY_SIZE - PART);
+        if (is_again && memcmp(found[part], begin, PART) != 0)
+            SEE("  %s memory has changed", part == 0 ? "low" : "high");
+        memcpy(found[part], begin, PART);
+    }
+    is_again = true;
+}
+
 /* Writes the guest's first state, with which test_images.py compares: the registers, and 2 MB of memory. */
 static void write_state(const struct kvm_regs *registers) {
     FILE *file = fopen("state", "wb");
@@ -432,6 +446,7 @@ int __wrap_ioctl(int fd, unsigned long request, void *argument) {
     case KVM_SET_SREGS: system_after = *(struct kvm_sregs *)argument; break;
     case KVM_SET_REGS:
         SEE("  at %llx", ((struct kvm_regs *)argument)->rip);
+        compare_memory();
         write_state(argument);
         break;
     case KVM_IRQFD: take_interrupt(argument); break;

@@ -18,7 +18,7 @@ import time
 from contextlib import suppress
 
 import pytest
-from harness import LIMIT, at_least, check, run
+from harness import LIMIT, ROOT, at_least, check, run
 from monitors import HERE, WRAPPED, build_monitor, rust_port
 from places import is_place
 
@@ -119,6 +119,38 @@ def test_resets_leave_nothing(over_host):
     resets = "out 64 1 fe\n" * 16
     ran = run(["sh", "-c", "ulimit -n 20; exec ./monitor -r image"], cwd=over_host, input=resets)
     assert ran.returncode == 0 and ran.stdout.count("edges of irq 4  at 7c00") == 17, ran.stdout[-300:]
+
+
+# Over main.c alone: whether a guest is held, by whether its reader is stuck and the monitor is to end.
+HOLDS = """#define main main_of_the_monitor
+#include "main.c"
+#undef main
+int main(void) {
+    for (int number = 1; number < 4; number++) {
+        is_stuck = number & 1;
+        end_reason = number & 2 ? "it is to end" : NULL;
+        if (monitor_hold() || is_stuck != (number & 1))
+            return number;
+    }
+    is_stuck = false;
+    end_reason = NULL;
+    pthread_condattr_t attributes;
+    pthread_condattr_init(&attributes);
+    pthread_cond_init(&has_room, &attributes);
+    return !monitor_hold() && is_stuck ? 0 : 4; /* nobody takes anything for a second */
+}
+"""
+
+
+def test_who_is_held(tmp_path):
+    """A guest that is held would keep a monitor that is to end, and one whose reader is stuck is held once."""
+    build_monitor("kvm", tmp_path)
+    (tmp_path / "holds.c").write_text(HOLDS, "ascii")
+    others = [path for path in tmp_path.glob("*.c") if path.name not in ("main.c", "holds.c")]
+    library = ROOT / "prebuilt" / "x86_64-linux" / "libsuperio_c.a"
+    check(["cc", "-std=c11", "-D_GNU_SOURCE", "-I", ROOT / "bindings/c", "holds.c", *others, library, "-pthread", "-o",
+           "holds"], "", cwd=tmp_path)
+    check([tmp_path / "holds"], "")
 
 
 def test_builds(monitor, guest):
