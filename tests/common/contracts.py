@@ -2,6 +2,7 @@
 """The functions of Rattle's and Rust's sources, with their clauses."""
 import re
 from dataclasses import dataclass
+from functools import lru_cache
 
 # What is no code: comments, strings, characters.
 NO_CODE = re.compile(r'//[^\n]*|/\*.*?\*/|r(#*)".*?"\1|"(?:\\.|[^"\\])*"|\'(?:\\.|[^\'\\\n])\'', re.S)
@@ -72,8 +73,13 @@ def owner_of(header):
     return re.sub(r"\W.*", "", words[words.index("for") + 1] if "for" in words else words[0])
 
 
+@lru_cache(maxsize=None)   # several tests ask for the same while they are collected, in each process of a run
 def functions_of(text):
     """The functions of a source, in the order of their heads."""
+    return tuple(found_functions(text))
+
+
+def found_functions(text):
     code = code_of(text)
     blocks = [(found.start(), end_of_braces(code, found.end() - 1), *found.groups()) for found in BLOCK.finditer(code)]
     for head in HEAD.finditer(code):

@@ -4,8 +4,8 @@
 Each fenced `sh` block is run by bash with an empty environment and a new home, with the programs of /usr/bin alone, and
 with those beside `rt` if a command is of KIT. It has to succeed, and to print what a `text` block after it shows, if
 there is one before a heading; what follows a prompt there, such as `superio> `, is its input. What takes long is
-shortened: `tools/check` and `tools/recheck` print their help, and pytest only collects. tests/recheck runs the second as
-a new user does.
+shortened: `tools/check` and `tools/recheck` print their help, `tools/generate` takes its steps of a second, and pytest
+only collects. tests/recheck runs the second as a new user does.
 
 The steps of RATTLE.md are carried out beside a link to this repository, with the file that CLAIMS.md shows, up to a
 proved claim. This proves the libraries first, in minutes, unless `rt` proved them here.
@@ -30,6 +30,7 @@ PROGRAMS = {"cc": "cc", "cargo": "debian-rust", "git": "git", "make": "make", "n
 PROMPT = re.compile(r"\w+> ")
 # At a terminal `./superio` is the shell. Here what is typed comes from a pipe.
 SHORTER = [(r"^\./superio$", "./superio --shell"), (r"^tools/((?:re)?check\b[^#\n]*)", r"tools/\1 --help "),
+           (r"^tools/generate$", "tools/generate rust errors interface page"),
            (r"^(python3 -m pytest)\b", r"\1 --collect-only -q --assert=plain")]
 BUILT = "crates/superio/out/superio"
 

@@ -65,11 +65,13 @@ def test_sums(releases):
 
 @pytest.mark.parametrize("name", at_least(4, ARCHIVES))
 def test_archive(releases, name):
-    """It has one folder, of its own name. All in it is of root and of one moment, and may be read by everybody."""
+    """It has one folder, of its own name, in the order of names and not of a disk. All in it is of root and of one moment,
+    and may be read by everybody."""
     with tarfile.open(releases / "two" / f"{name}.tar.gz") as archive:
         members = archive.getmembers()
     assert {(it.uid, it.gid, it.uname, it.gname, it.mtime) for it in members} == {(0, 0, "root", "root", MOMENT)}
     assert {it.name.partition("/")[0] for it in members} == {name}
+    assert members == sorted(members, key=lambda it: it.name.split("/"))
     modes = {0o755: {"d", "x"}, 0o644: {"f"}, 0o777: {"l"}}
     kinds = {(it.mode, "d" if it.isdir() else "l" if it.issym() else "x" if it.mode & 0o100 else "f") for it in members}
     assert all(kind in modes.get(mode, ()) for mode, kind in kinds), kinds
@@ -170,7 +172,13 @@ def debian(releases):
 
 
 @pytest.fixture(scope="module")
-def builds(debian):
+def before(debian):
+    """What the source package has, before anything is built of it."""
+    return found_in(debian)
+
+
+@pytest.fixture(scope="module")
+def builds(debian, before):
     """Two builds of the packages, the second in another folder, for another user, without tests. Gives what each said,
     by its folder."""
     other, folder = debian.parent / "a" / "longer" / "path", debian.parent
@@ -211,6 +219,15 @@ def test_a_build_tests_the_library(builds):
     """Unless it is told not to."""
     said = [re.findall(r"^\d+ calls did the same, 0 did not$", it, re.M) for it in builds.values()]
     assert [*map(len, said)] == [1, 0]
+
+
+@needs_debian
+def test_clean_sources(builds, before):
+    """What a build made goes, and nothing else: Debian builds again in the same folder."""
+    tree = [*builds][1] / "path"
+    assert found_in(tree) != before
+    check(["debian/rules", "clean"], cwd=tree, env=OF_DEBIAN)
+    assert_same(found_in(tree), before)
 
 
 def of_debian():

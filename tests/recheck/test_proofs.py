@@ -44,6 +44,8 @@ GAPS = {
                  r"^theorems rest on something:\n(?s:.*)^Claims\.all : forall T : Type, T$"),
     "a proof that is left out": (r"(?<=Theorem retries : RetryLaw\. ).*", "Admitted.",
                                  r"^theorems rest on something:\n(?s:.*)^Claims\.retries : Definitions\.RetryLaw$"),
+    "a function without a theorem whose name begins another one's": (
+        r"Theorem rtc_read (?s:.*?)Qed\.\n", "", r"^no theorem names vm_Rtc_read$"),
     "a function of the shell without a theorem": (
         r"(?<=Theorem serial_objects port : )gives \(vm_Serial_writer port\)[^\n]*\n  /\\ ", "",
         r"^no theorem names vm_Serial_writer$"),

@@ -87,6 +87,18 @@ def test_no_option(recheck):
     assert jobs == len(os.sched_getaffinity(0)) and called["compare"] == (folder, False) and not Path(folder).exists()
 
 
+@pytest.mark.parametrize("folder", ["recheck", "recheck/proofs"])
+@pytest.mark.parametrize("name", ["Code", "Audit", "Statements"])
+def test_no_proof_takes_the_place_of_what_is_made(name, folder, recheck, monkeypatch, tmp_path):
+    """Neither of a translation nor of what asks for the theorems."""
+    (tmp_path / "recheck/proofs").mkdir(parents=True)
+    (tmp_path / folder / f"{name}.v").write_text("(* by hand *)\n", "ascii")
+    monkeypatch.setattr(rerun, "HERE", tmp_path)
+    monkeypatch.setattr(rerun, "left_out", lambda: ({}, None))
+    end, called = recheck()
+    assert end.endswith(f"{name}.v would be in the place of what is made") and [*called] == ["translated"]
+
+
 def test_there_is_no_coq(recheck, monkeypatch):
     monkeypatch.setattr(rerun.shutil, "which", lambda _: None)
     end, called = recheck()

@@ -37,7 +37,7 @@ esac""",
 PYTEST = """import sys
 if __name__ == "__main__":
     open("{log}", "a").write(" ".join(["pytest", *sys.argv[1:]]) + "\\n")
-    print("{said}")
+    print("{said}", flush=True)
     sys.exit({status})
 """
 RERUN = """import shutil, sys
@@ -138,7 +138,8 @@ def test_all_pass(tool, machine):
 
 
 FAILING = {
-    "rt ci ends badly": lambda it: it.stand_in("rt", STAND_INS["rt"] + "; exit 1"),
+    **{f"{part} ends by `{end}`, and says that all passed": lambda it, part=part, end=end: it.stand_in(
+        part, f"{STAND_INS[part]}; {end}") for part in ("rt", "cargo") for end in ("exit 1", "exit 255", "kill -9 $$")},
     "rt ci says so": lambda it: it.stand_in("rt", STAND_INS["rt"] + ", 1 failed"),
     "rt ci tries no edit": lambda it: it.stand_in("rt", "echo 'test result: ok. 1 passed'; echo 2 passed"),
     **{f"the tests of bindings/{crate} fail": lambda it, crate=crate: it.stand_in(
@@ -158,7 +159,7 @@ def test_a_part_fails(tool, failing, machine):
     status, said, called = machine.run(tool)
     assert status == 1 and re.fullmatch(r"\d+ passed, [1-9] failed, 0 skipped", said.splitlines()[-1]), said
     assert len(called) == 4, "the others are run"
-    assert machine.handed_over.exists() != failing.startswith(("rt ci", "nothing")), "what failed is not handed over"
+    assert machine.handed_over.exists() != failing.startswith(("rt ", "nothing")), "what failed is not handed over"
 
 
 LACKING = {

@@ -5,6 +5,7 @@ import json
 import os
 import re
 import shutil
+import signal
 import subprocess
 import sys
 
@@ -181,6 +182,58 @@ def test_replay(program, calls, request):
     for wrong in zip(*map(altered, rows)):
         status, said = replayed(wrong)
         assert status == 1 and said.endswith(f"\n0 calls did the same, {len(rows)} did not\n"), said
+
+
+# In place of functions of the library: some that first read a byte before or behind what a pointer leads to, if TOUCH says
+# so.
+TOUCHING = """#include <superio.h>
+#include <stdlib.h>
+#include <string.h>
+static void touch(const void *start, size_t size, const char *name) {
+    const char *told = getenv("TOUCH");
+    if (told && strncmp(told, name, strlen(name)) == 0)
+        (void)*((volatile const uint8_t *)start + (strstr(told, "before") ? -1 : (ptrdiff_t)size));
+}
+superio_serial_write_effects __real_superio_serial_write(superio_serial *port, uint8_t offset, uint8_t value);
+superio_serial_write_effects __wrap_superio_serial_write(superio_serial *port, uint8_t offset, uint8_t value) {
+    touch(port, sizeof *port, "port");
+    return __real_superio_serial_write(port, offset, value);
+}
+superio_serial_enqueue_effects __real_superio_serial_enqueue(superio_serial *port, const uint8_t *bytes, size_t count);
+superio_serial_enqueue_effects __wrap_superio_serial_enqueue(superio_serial *port, const uint8_t *bytes, size_t count) {
+    touch(bytes, count, "bytes");
+    return __real_superio_serial_enqueue(port, bytes, count);
+}
+superio_rtc_read_effects __real_superio_rtc_read(superio_rtc *clock, uint16_t offset, uint64_t now);
+superio_rtc_read_effects __wrap_superio_rtc_read(superio_rtc *clock, uint16_t offset, uint64_t now) {
+    touch(clock, sizeof *clock, "clock");
+    return __real_superio_rtc_read(clock, offset, now);
+}
+superio_console_read_effects __real_superio_console_read(superio_console *console, uint8_t offset);
+superio_console_read_effects __wrap_superio_console_read(superio_console *console, uint8_t offset) {
+    touch(console, sizeof *console, "console");
+    return __real_superio_console_read(console, offset);
+}
+"""
+TOUCHED = ["sw 00 41", "sq 6869", "cr 3e8 0000", "lr 05"]
+
+
+@pytest.mark.needs("cc")
+def test_guards_of_replay(tmp_path):
+    """An access to a byte beside each struct, and beside the bytes of an enqueue, ends the program, on either side."""
+    (tmp_path / "touching.c").write_text(TOUCHING, "ascii")
+    wrapped = sorted({f"-Wl,--wrap={name}" for name in re.findall(r"__wrap_(\w+)", TOUCHING)})
+    check(["cc", "-I", ROOT / "bindings/c", ROOT / "tests/c/replay.c", tmp_path / "touching.c", *wrapped, prebuilt(HOST),
+           "-o", tmp_path / "replay"], "")
+
+    def ended(told):
+        rows = "".join(f"{call} = ?\n{call} = ?\n" for call in TOUCHED)
+        ran = subprocess.run([tmp_path / "replay"], input=rows, text=True, stdout=subprocess.DEVNULL,
+                             env={**os.environ, "TOUCH": told})
+        return ran.returncode
+    assert ended("nothing") == 1
+    for name in at_least(4, re.findall(r', "(\w+)"\);', TOUCHING)):
+        assert [ended(f"{name} {side}") for side in ("before", "behind")] == [-signal.SIGSEGV] * 2, name
 
 
 @pytest.mark.needs("node")

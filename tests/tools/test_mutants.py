@@ -128,8 +128,9 @@ def test_listed_survivors_are_none(sample, capsys):
 
 @pytest.mark.needs("mutants", "pytest")
 def test_an_entry_lists_one_mutant(sample):
-    """Not those of another file, or of another line, that become the same."""
-    others = [SAME.replace("sample.py", "other.py"), SAME.replace("- return a if a >", "- return a if a <")]
+    """Not those of another file, or of another line, that become the same, and none that the same line becomes besides."""
+    others = [SAME.replace("sample.py", "other.py"), SAME.replace("- return a if a >", "- return a if a <"),
+              SAME.replace("+ return a if a >= b else b", "+ return b if a > b else a")]
     assert sample(*others, every=4) == "1 survivors are not in survivors.txt"
 
 
