@@ -17,7 +17,7 @@
 static superio_console console;
 static pthread_mutex_t lock = PTHREAD_MUTEX_INITIALIZER; /* of the console and its interrupt */
 static pthread_cond_t has_room; /* for output */
-static int irq;       /* an eventfd that interrupts the guest, as KVM_IRQFD makes one */
+static int irq;       /* an eventfd. KVM_IRQFD connects it to the guest's interrupt controller */
 static int wake_up;   /* an eventfd that wakes the event loop */
 static bool is_stuck; /* the reader of the output has taken nothing for a second */
 static bool is_off;   /* the guest has switched its machine off */
