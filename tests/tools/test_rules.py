@@ -215,6 +215,9 @@ def test_a_program_is_that_of_its_sources(tmp_path, monkeypatch):
 
 GATE = ["test result: ok. 3 passed; 0 failed", "rt: it ran, and wrote what its file stdout has",
         "rt: ok; must-fail edits: 5 refused; all", "7 passed, 0 failed"]
+# The same of a kit that prints a line for each edit.
+EDITS = [f"rt: must-fail crate/{name}.edit: refused, as it must be: note: src/lib.rt:1:1: {name}" for name in "abcde"]
+EACH = [*GATE[:2], *EDITS, GATE[3]]
 CARGO = "test result: ok. 3 passed; 0 failed; {} ignored; 0 measured; 0 filtered out"
 
 
@@ -224,6 +227,13 @@ CARGO = "test result: ok. 3 passed; 0 failed; {} ignored; 0 measured; 0 filtered
     (1, [*GATE[:3], "6 passed, 1 failed"], (9, 1, 0)),
     (0, [*GATE[:2], "rt: ok; must-fail edits: 4 refused; all", GATE[3]], (10, 1, 0)),
     (0, [*GATE[:2], "rt: ok; must-fail edits: 5 refused, 2 of them only by a limit, 1 bad; all", GATE[3]], (10, 1, 0)),
+    (0, EACH, (10, 0, 0)),
+    (1, EACH, (10, 1, 0)),
+    (0, [it for it in EACH if it != EDITS[4]], (10, 1, 0)),
+    (0, [EDITS[0] if it == EDITS[4] else it for it in EACH], (10, 1, 0)),
+    (0, [it.replace("e.edit: refused, as it must be", "e.edit: NOT REFUSED") for it in EACH], (10, 1, 0)),
+    (0, [it.replace("e.edit: refused, as it must be", "e.edit: BAD EDIT") for it in EACH], (10, 1, 0)),
+    (0, [EDITS[0].replace("/a.", "/f."), *EACH], (10, 1, 0)),
     (0, GATE[1:], (7, 1, 0)),
     (0, GATE[:3], (3, 1, 0)),
     (127, [], (0, 1, 0)),

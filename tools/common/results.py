@@ -36,9 +36,11 @@ def counted(status, printed, sums=r".*\Z"):
 
 
 def of_gate(status, printed, edits, tests):
-    """The same of `rt ci`, which has also failed if it tried other must-fail edits or tests than there are."""
+    """The same of `rt ci`, which has also failed if it tried other must-fail edits or tests than there are. Some kits print
+    a line for each edit that was refused, and others their number."""
     passed, failed, _ = counted(status, printed)
-    refused = sum(map(int, re.findall(r"must-fail edits: (\d+) refused(?!.*[1-9]\d* bad)", printed)))
+    refused = len({*re.findall(r"^rt: must-fail (\S+): refused, as it must be\b", printed, re.M)})
+    refused = refused or sum(map(int, re.findall(r"must-fail edits: (\d+) refused(?!.*[1-9]\d* bad)", printed)))
     tested = counted(0, printed, r"^test result: ok\..*")[0]
     if (refused, tested) != (edits, tests):
         print(f"rt ci tried {refused} of {edits} must-fail edits, and {tested} of {tests} tests")
