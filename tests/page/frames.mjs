@@ -8,18 +8,30 @@ const [HEIGHT, WIDTH, SCHEME] = [860, 1280, "light"];
 
 const tell = (kind, name, wrong, number = 1) =>
   console.log(JSON.stringify({ kind, name, number, wrong: wrong.join("\n  ") }));
-const until = async (test) => { while (!test()) await new Promise((done) => setTimeout(done)); };
+/** Waits for a test. The page runs between the turns of this loop, so on a busy machine each takes longer, too. */
+async function until(test, turns = 5_000) {
+  for (; !test(); turns--) {
+    if (turns === 0) throw new Error(`waits in vain until ${test}`);
+    await new Promise((done) => setTimeout(done, 4)); // milliseconds
+  }
+}
 
 /** The window of the page. */
 let page = null;
 
+/** Whether the page has opened each time. One that has not is not waited for again. */
+let opens = true;
+
 /** Opens the page anew, with a fragment of its address. */
 async function open(fragment, width = WIDTH, scheme = SCHEME) {
+  if (!opens) throw new Error("the page has not opened before");
   const frame = document.createElement("iframe");
   Object.assign(frame, { src: address + fragment, width, height: HEIGHT });
   frame.style.colorScheme = scheme;
   document.body.replaceChildren(frame);
-  await until(() => frame.contentWindow.superio);
+  opens = false;
+  await until(() => frame.contentWindow.superio, 20_000);
+  opens = true;
   page = frame.contentWindow;
 }
 
