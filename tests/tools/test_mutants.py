@@ -128,10 +128,13 @@ def test_listed_survivors_are_none(sample, capsys):
 
 @pytest.mark.needs("mutants", "pytest")
 def test_an_entry_lists_one_mutant(sample):
-    """Not those of another file, or of another line, that become the same, and none that the same line becomes besides."""
-    others = [SAME.replace("sample.py", "other.py"), SAME.replace("- return a if a >", "- return a if a <"),
-              SAME.replace("+ return a if a >= b else b", "+ return b if a > b else a")]
-    assert sample(*others, every=4) == "1 survivors are not in survivors.txt"
+    """Not those of another file, or of another line, that become the same, and none that the same line becomes besides. An
+    entry of which the mutant is only a part is another, too."""
+    name, old, new = SAME.splitlines()
+    others = ["other.py", f"a/{name}", name[1:]], ["- return a if a < b else b", old[:-1], f"{old} "], [
+        "+ return b if a > b else a", new[:-1], f"{new} + 1", f"{new}  a"]
+    entries = [[*[name, old, new][:place], it, *[name, old, new][place + 1:]] for place in range(3) for it in others[place]]
+    assert sample(*("\n".join([*entry, ""]) for entry in entries), every=4) == "1 survivors are not in survivors.txt"
 
 
 @pytest.mark.needs("mutants", "pytest")
