@@ -368,6 +368,17 @@ def test_rules_of_a_turn(built, tmp_path):
 
 
 @pytest.mark.needs("cargo")
+def test_rules_of_a_bus(built, tmp_path):
+    """The bus of docs/RUST.md, with each access at each place in place of its `main`."""
+    program = edited(without_main(code("docs/RUST.md", "rust", "is_reset_command")), [
+        ('println!("{work:?}");', "DONE.lock().unwrap().push(work);"),
+        ('println!("clock: line {}, alarm in {:?} s", self.clock.interrupt_line(), self.clock.alarm_due(self.now));',
+         "FOLLOWED.fetch_add(1, Relaxed);")])
+    rules = (ROOT / "tests/documents/bus_rules.rs").read_text("utf-8")
+    run_rust(program + rules, "each rule is kept\n", "", built, tmp_path)
+
+
+@pytest.mark.needs("cargo")
 @pytest.mark.parametrize("line", ["edges", "levels", "a loader that polls"])
 def test_accesses_in_rust(line, built, tmp_path):
     """As in C: each reaches the console once, and its work is carried out, whatever the line refuses."""

@@ -2,6 +2,7 @@
 """The JavaScript package: recorded calls and scripts over it, its own tests, the programs of its documents, and the
 package that `npm pack` makes."""
 import json
+import os
 import re
 import shutil
 import tarfile
@@ -137,11 +138,17 @@ OWN_TESTS = at_least(4, sorted((PACKAGE / "tests").glob("*.test.mjs")))
 @pytest.mark.parametrize("path", OWN_TESTS, ids=lambda it: it.name)
 def test_own_tests(path):
     """Of the package, which compare it with superio.d.ts and package.json. All that are written pass, and no other
-    ends."""
-    said = check(["node", "--test", "--test-reporter=tap", path])
+    ends. No text depends on the language of a user: here it writes other digits."""
+    said = check(["node", "--test", "--test-reporter=tap", path], env={**os.environ, "LC_ALL": "fa_IR.UTF-8"})
     counts = {kind: int(count) for kind, count in re.findall(r"^# (\w+) (\d+)$", said, re.M)}
     assert counts["pass"] >= len(re.findall(r"^ *test\(", path.read_text("utf-8"), re.M)) > 0, said
     assert [counts[kind] for kind in ("fail", "cancelled", "skipped", "todo")] == [0] * 4, said
+
+
+@pytest.mark.needs("node")
+def test_language():
+    """The language of a user, as above, changes what depends on it."""
+    check(["node", "--print", "(12).toLocaleString()"], "\u06f1\u06f2\n", env={**os.environ, "LC_ALL": "fa_IR.UTF-8"})
 
 
 def programs_of(place):

@@ -46,13 +46,29 @@ def test_plain_make_installs_nothing(words, tmp_path):
     assert "install -" not in said and not tree.exists()
 
 
-@pytest.mark.parametrize("where", ["TARGET=nowhere-linux", "LIBRARIES={}"])
+# What a folder has that is no folder of libraries: nothing, one of the two, a second shared one, or a folder in the
+# place of one.
+REFUSED = {"nothing": [], "no shared one": [STATIC], "no static one": [SHARED],
+           "an older one": [STATIC, "libsuperio.so.1", SHARED], "a newer one": [STATIC, SHARED, "libsuperio.so.999"],
+           "another version's": [STATIC, SHARED, f"{SHARED}.0"], "a folder for the static one": [f"{STATIC}/", SHARED],
+           "a folder for the shared one": [STATIC, f"{SHARED}/"]}
+
+
+@pytest.mark.parametrize("names", [pytest.param(None, id="no folder"), *(
+    pytest.param(names, id=which) for which, names in REFUSED.items())])
 @pytest.mark.parametrize("goal", ["all", "check-library", "install"])
-def test_missing_libraries_are_refused(goal, where, tmp_path):
-    tree = tmp_path / "a tree"
-    ran = run(["make", "-s", goal, f"DESTDIR={tree}", where.format(tmp_path)], cwd=ROOT)
+def test_other_libraries_are_refused(goal, names, tmp_path):
+    for name in names or []:
+        path = tmp_path / "libraries" / name
+        path.parent.mkdir(exist_ok=True)
+        if name.endswith("/"):
+            path.mkdir()
+        else:
+            path.write_bytes((LIBRARIES / (STATIC if name == STATIC else SHARED)).read_bytes())
+    where = "TARGET=nowhere-linux" if names is None else f"LIBRARIES={tmp_path / 'libraries'}"
+    ran = run(["make", "-s", goal, f"DESTDIR={tmp_path / 'a tree'}", where], cwd=ROOT)
     assert ran.returncode and "does not have one static and one shared library" in ran.stdout
-    assert not tree.exists()
+    assert not (tmp_path / "a tree").exists()
 
 
 @pytest.mark.parametrize("target", sorted(TARGETS))

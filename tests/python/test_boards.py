@@ -8,7 +8,7 @@ import re
 import pytest
 from harness import at_least
 from made import random_script
-from script import FURTHER_LINES, PROGRAM_LINES
+from script import BYTES, FORMS, FURTHER_LINES, LINES, PROGRAM_LINES
 from script_tests import FURTHER_TESTS, TESTS, kept_scripts, load_scripts, made_scripts, scripts_of
 from seeds import seeds
 
@@ -67,6 +67,27 @@ def test_lines():
         assert parse(line.encode()).name == name
         with pytest.raises(ScriptError, match="^the program superio has no such line$"):
             parse(line.encode(), is_for_program=True)
+
+
+def is_parsed(line):
+    try:
+        return bool(parse(line, is_first=True))
+    except ScriptError:
+        return False
+
+
+@pytest.mark.parametrize("name", [*PROGRAM_LINES, *FURTHER_LINES])
+def test_near_lines(name):
+    """With a byte more, less or other, a text is a line if the model takes it for one. A LF behind it is a byte more."""
+    fields = ("6869" if digits == BYTES else "0123456789abcdef"[-digits:] for digits in LINES[name][1:])
+    line = " ".join([name, *fields]).encode()
+    places = range(len(line) + 1)
+    near = [line, *(line[:it] + line[it + 1:] for it in places)]
+    near += [line[:it] + bytes([byte]) + line[it + less:] for it in places for less in (0, 1)
+             for byte in (range(256) if it in (0, len(line)) else b"\0\t\n\r +-/09:@AFGafgx\xff")]
+    assert is_parsed(line)
+    for text in near:
+        assert is_parsed(text) == bool(FORMS[False].fullmatch(text.decode("latin-1"))), text
 
 
 @pytest.mark.parametrize("test", KEPT, ids=lambda it: it.place)

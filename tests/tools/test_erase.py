@@ -13,6 +13,7 @@ CASES = (Path(__file__).parent / "erased.txt").read_text(encoding="utf-8").split
 REFUSED = ["ensures", "requires", "ghost", "async", "await", "crate::a", "extern", "macro_rules", "union", "unsafe",
            "Model", "Drop", "a as usize", "a as isize", "a!()", "matches!(a) && b!()", "\u00e9", "/* a */", "#[cfg(a)]",
            "#![no_std]", "a#", '"']
+LICENSE = "// SPDX-License-Identifier: Apache-2.0 OR BSD-3-Clause\n"   # with which each source begins
 
 
 def erase(*words):
@@ -51,9 +52,11 @@ def test_refused(word, tmp_path):
     for it in folders:
         it.mkdir()
     source = folders[0] / "lib.rt"
-    source.write_text(f"fn f() {{\n    {word};\n}}\n", encoding="utf-8")
-    status, said = erase(*folders)
-    assert (status, [*folders[1].iterdir()]) == (1, []) and said.startswith("tools/erase: lib.rt:2: "), said
+    for head in "", LICENSE, f"{LICENSE}//! A crate.\n\n":   # what stands before a fault changes no more than its line
+        source.write_text(f"{head}fn f() {{\n    {word};\n}}\n", encoding="utf-8")
+        status, said = erase(*folders)
+        place = f"lib.rt:{2 + head.count(chr(10))}: "
+        assert (status, [*folders[1].iterdir()]) == (1, []) and said.startswith(f"tools/erase: {place}"), said
     source.write_text(f"// {word}\n", encoding="utf-8")
     assert erase(*folders) == (0, "")
     assert (folders[1] / "mod.rs").read_text(encoding="utf-8").endswith(f"// {word}\n")

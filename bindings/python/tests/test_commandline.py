@@ -201,13 +201,24 @@ class Runs(FolderTest):
             self.assertEqual((128 + signal.SIGINT, "", ""), ended([sys.executable, "-c", program], env=ENVIRONMENT))
 
     def test_a_file_keeps_its_mode_and_a_link_its_target(self):
-        self.path.touch()
-        self.path.chmod(0o640)
-        link = self.folder / "link"
+        """Of the file before, nothing else is kept: what goes by the time of its change sees that it has changed."""
+        link, recording = self.folder / "link", self.folder / "recording"
         link.symlink_to(self.path)
-        self.assertEqual(0, run("--shell", script=f"save {link}\n".encode())[0])
-        self.assertEqual((0o640, True), (self.path.stat().st_mode & 0o777, link.is_symlink()))
-        self.assertTrue(self.path.read_text().startswith("sl "))
+        recording.write_text("sr 05\n")
+        for words, script, begin in ((SHELL, "save {}\n", "sl "), (SHELL, "sr 05\ntrace {}\n", "sr 05"),
+                                     (SHELL, "sr 05\nscript {}\n", "sr 05"), (["view", "--table", "{}"], "", "piece 1"),
+                                     (["view", "--svg", "{}"], "", "<svg")):
+            with self.subTest([*words, script]):
+                self.path.write_text("before")
+                self.path.chmod(0o640)
+                os.utime(self.path, (10 ** 9, 10 ** 9))
+                arguments = [it.format(link) for it in words] + ([] if words == SHELL else [str(recording)])
+                self.assertEqual(0, run(*arguments, script=script.format(link).encode())[0])
+                found = self.path.stat()
+                self.assertEqual((0o640, True, True), (found.st_mode & 0o777, link.is_symlink(),
+                                                       found.st_mtime >= recording.stat().st_mtime))
+                self.assertTrue(self.path.read_text().startswith(begin), self.path.read_text()[:80])
+                self.assertEqual({link, recording, self.path}, {*self.folder.iterdir()})
 
     def test_a_path_may_begin_with_the_home(self):
         home = {"env": {**ENVIRONMENT, "HOME": str(self.folder)}, "cwd": "/"}

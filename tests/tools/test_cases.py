@@ -1,0 +1,89 @@
+# SPDX-License-Identifier: Apache-2.0 OR BSD-3-Clause
+"""What makes the cases of several tests loses none of them, at either end."""
+import lzma
+import re
+from itertools import product
+
+import pytest
+import script_tests
+from harness import at_least
+from made import broken_lines, every_load
+from recorded import every_answer, random_recorded
+from script import BYTES, FURTHER_LINES, LINES, call_of
+from script_tests import (FURTHER_TESTS, TESTS, Script, board_scripts, kept_scripts, load_scripts, made_scripts,
+                          scripts_of)
+from seeds import seeds
+
+FILES = at_least(7, sorted([*TESTS.glob("*.txt"), *TESTS.glob("*.xz"), *FURTHER_TESTS.glob("*.txt")]))
+
+
+def test_loads():
+    """Each state is loaded as a port and as a clock, and saved after it. Each call is in a script, in order."""
+    calls = [*every_load()]
+    kinds = "load", "save", "clock_load", "clock_save"
+    assert [call[0] for call in calls] == [*kinds] * (len(calls) // 4) and len(calls) > 60_000
+    assert all(load[1] == clock[1] for load, clock in zip(calls[::4], calls[2::4]))
+    assert [call_of(line) for test in load_scripts() for line in test.script.splitlines()] == calls
+
+
+@pytest.mark.parametrize("count", [0, 1, 5, 11])
+def test_made_scripts(count):
+    """A fifth more are for a board that refuses the further lines."""
+    made = [*made_scripts("cases", count)]
+    assert [test.is_for_program for test in made] == [False] * count + [True] * (count // 5)
+    assert [test.place for test in made] == [*seeds("cases", count), *seeds("cases as the program", count // 5)]
+    assert len({test.script for test in made}) == len(made)
+    assert len(random_recorded(seeds("cases", count))) == len(seeds("cases", count)) == count
+
+
+def test_kinds_of_made_scripts():
+    """Half of those for a board that refuses the further lines have one."""
+    made = [test.script for test in made_scripts("cases", 1_000) if test.is_for_program]
+    further = sum(any(line[:2] in FURTHER_LINES for line in script.splitlines()) for script in made)
+    assert 50 < further < 150
+
+
+def test_board_scripts():
+    parts = [*kept_scripts(), *load_scripts(), *made_scripts("cases", 10)]
+    assert board_scripts("cases", 10) == parts
+
+
+@pytest.mark.parametrize("path", FILES, ids=lambda it: it.name)
+def test_scripts_of_a_file(path):
+    """Rows without an empty line between them are one script, or as many as have `script` before them."""
+    text = (lzma.open(path, "rt", encoding="utf-8") if path.suffix == ".xz" else path.open(encoding="utf-8")).read()
+    blocks = [re.sub(r"^#.*$", "", block, flags=re.M) for block in re.split(r"\n\n+", f"{text.strip()}\n")]
+    counts = [len(re.findall('^script "', block, re.M)) or 1 for block in blocks if block.strip()]
+    assert len([*scripts_of(path)]) == sum(counts) > 0
+
+
+def test_kept_scripts(monkeypatch):
+    """All of the files, and those of documents. Where neither input nor memory fails, each is tried; with further lines
+    on both kinds of board."""
+    shown = Script("shown", b"sr 05\n", b"60\n")
+    monkeypatch.setattr(script_tests, "of_documents", lambda: [shown])
+    shared, further = ([test for path in sorted(folder.glob("*.txt")) for test in scripts_of(path)]
+                       for folder in (TESTS, FURTHER_TESTS))
+    tried = [test.place for test in shared if test.end.partition(" ")[0] not in ("input", "out")]
+    places = [test.place for test in further]
+    assert [(test.place, test.is_for_program) for test in kept_scripts()] == [
+        *((place, True) for place in tried), *((place, False) for place in [*places, "shown"]),
+        *((place, True) for place in places)]
+
+
+def test_broken_lines():
+    """Of each line: what comes before each of its characters, and its end, with each of nine others there."""
+    sizes = [len(name) + sum(1 + (4 if digits == BYTES else digits) for digits in LINES[name][1:]) for name in LINES]
+    assert len([*broken_lines()]) == sum((size + 1) * 10 for size in sizes)
+
+
+def test_every_answer():
+    """Each state has each call, between a line that makes the state and one that shows it."""
+    lines, states = [*every_answer()], 4 * 4 * 2 * 2 * 3
+    answers = lines[:-6 * 256]
+    starts = list(dict.fromkeys(answers[::3]))
+    assert len(starts) == states and {*answers[2::3]} == {"ss"}
+    of_first = answers[1:len(answers) // states:3]
+    assert answers == [line for start, call in product(starts, of_first) for line in (start, call, "ss")]
+    assert [re.sub(" .*", "", line) for line in lines[-6 * 256:]] == ["kr", "kw", "kw"] * 512
+    assert len({*lines[-6 * 256:]}) == 6 * 256 - 2   # kw 04 fe comes by offset and by value, with each answer
