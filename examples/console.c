@@ -117,7 +117,7 @@ static void *guest(void *unused) {
     return unused;
 }
 
-/* Makes the files of a terminal block again at the end, because the shell uses them too. */
+/* Lets standard input and output block, or not. At the end they block again, because the shell uses them too. */
 static void let_block(bool blocks) {
     for (int file = STDIN_FILENO; file <= STDOUT_FILENO; file++) {
         int flags = fcntl(file, F_GETFL);
@@ -133,7 +133,7 @@ int main(void) {
     pthread_condattr_init(&attributes);
     pthread_condattr_setclock(&attributes, CLOCK_MONOTONIC); /* so nobody can set the clock back during a wait */
     pthread_cond_init(&has_room, &attributes);
-    signal(SIGPIPE, SIG_IGN); /* a write without a reader fails, and ends nothing */
+    signal(SIGPIPE, SIG_IGN); /* a write without a reader then fails, and does not end the program */
     superio_console_new(&console, false); /* true for a guest that polls */
     irq = eventfd(0, EFD_NONBLOCK);
     wake_up = eventfd(0, EFD_NONBLOCK);

@@ -83,7 +83,7 @@
  *
  * With such a loop no byte waits for ever, neither one that the console has
  * accepted nor one that the guest has to send. We conclude this from the law
- * each_byte_is_through in docs/THEOREM.md, for each driver that meets its
+ * each_byte_is_through in docs/DRIVERS.md, for each driver that meets its
  * conditions. By our reading, the drivers of Linux and Xen do. A whole program
  * is examples/c/monitor.c.
  *
