@@ -43,9 +43,12 @@ def test_kinds_of_made_scripts():
     assert 50 < further < 150
 
 
-def test_board_scripts():
-    parts = [*kept_scripts(), *load_scripts(), *made_scripts("cases", 10)]
-    assert board_scripts("cases", 10) == parts
+def test_board_scripts(monkeypatch):
+    kinds = "kept", "load", "made"
+    for kind in kinds:
+        monkeypatch.setattr(script_tests, f"{kind}_scripts", lambda *given, kind=kind: [(kind, *given, it) for it in range(2)])
+    assert board_scripts("cases", 10) == [(kind, *(("cases", 10) if kind == "made" else ()), it)
+                                          for kind in kinds for it in range(2)]
 
 
 @pytest.mark.parametrize("path", FILES, ids=lambda it: it.name)

@@ -186,7 +186,8 @@ def test_words(tool, machine):
     machine.lacks("coqc")
     status, said, called = machine.run(tool, "--no-install", "--without", "cargo,coq")
     assert (status, said.splitlines()[-1]) == (0, "7 passed, 0 failed, 1 skipped"), said
-    assert called == ["rt ci", "pytest -q -n auto --dist loadfile --sums --without=cargo,coq"]
+    workers = len(os.sched_getaffinity(0)) + 1
+    assert called == ["rt ci", f"pytest -q -n {workers} --dist loadfile --sums --without=cargo,coq"]
     for words in (["--without", "cargos"], ["--without=cargo,Coq"], ["--without"], ["--install"], ["cargo"]):
         status, said, called = machine.run(tool, *words)
         assert (status, called) == (2, []) and said.splitlines()[-1].startswith("check: error: "), said
