@@ -140,9 +140,31 @@ static bool goes_in_when_it_may(bool polls) {
     return true;
 }
 
+/* The same, whatever the guest writes to IER, in any order with sleeps and resets: once ready it stays so. */
+static bool goes_in_by_rule(bool polls) {
+    bool is_ready = polls;
+    set_polled(polls);
+    for (unsigned step = 0; step < 2000; step++) {
+        uint8_t value = rand() % 16;
+        if (step % 11 == 7) {
+            reset();
+            is_ready = polls;
+        } else if (step % 13 == 9) {
+            suspend();
+            is_ready = false;
+        } else {
+            write_access(1, value);
+            is_ready = is_ready || (value & 0x03) == 0x01;
+        }
+        if (goes_in() != is_ready)
+            return false;
+    }
+    return true;
+}
+
 int main(void) {
     typed = INPUT; /* no more comes from the source */
-    if (!goes_in_when_it_may(false) || !goes_in_when_it_may(true)) {
+    if (!goes_in_when_it_may(false) || !goes_in_when_it_may(true) || !goes_in_by_rule(false) || !goes_in_by_rule(true)) {
         puts("input goes in too early, or too late");
         return 1;
     }

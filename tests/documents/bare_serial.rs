@@ -136,6 +136,26 @@ fn input_goes_in_when_it_may(is_polled: bool) {
     }
 }
 
+/// The same, whatever the guest writes to IER, in any order with sleeps and resets: once ready it stays so.
+fn input_goes_in_by_rule(is_polled: bool) {
+    let line = Line::default();
+    let (mut machine, mut is_ready) = (Machine::new(line.clone(), is_polled), is_polled);
+    for step in 0..2_000 {
+        let value = line.next() as u8 % 16;
+        if step % 11 == 7 {
+            machine.reset(line.clone());
+            is_ready = is_polled;
+        } else if step % 13 == 9 {
+            machine.suspend();
+            is_ready = false;
+        } else {
+            machine.write_access(1, value);
+            is_ready |= value & 0x03 == 0x01;
+        }
+        assert!(goes_in(&mut machine) == is_ready, "step {}, IER {:x}: polled {}", step, value, is_polled);
+    }
+}
+
 fn output_that_waits_stays() {
     let line = Line::default();
     let mut machine = Machine::new(line.clone(), false);
@@ -150,6 +170,7 @@ fn output_that_waits_stays() {
 fn main() {
     for is_polled in [false, true] {
         input_goes_in_when_it_may(is_polled);
+        input_goes_in_by_rule(is_polled);
     }
     output_that_waits_stays();
     for seed in 0..400 {
