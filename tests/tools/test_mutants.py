@@ -120,6 +120,18 @@ def test_an_unlisted_survivor_is_an_error(sample, capsys):
     assert "\nsample: 2 killed, 2 survive, 0 do not compile; 0 did not end in time; " in said
 
 
+@pytest.mark.parametrize("counts", [(0, 0), (1, 0), (0, 2), (2, 1)])
+def test_each_part_counts(counts, monkeypatch):
+    """Also one before the last that survives, whether the parts are named or all are tried."""
+    parts = {f"part {place}": count for place, count in enumerate(counts)}
+    monkeypatch.setattr(TOOL, "PARTS", parts)
+    monkeypatch.setattr(TOOL, "Copies", lambda *given: given)
+    monkeypatch.setattr(TOOL, "unlisted", lambda name, every, copies: parts[name])
+    for names, total in ([], sum(counts)), ([*parts], sum(counts)), (["part 0"], counts[0]):
+        monkeypatch.setattr(sys, "argv", ["mutants", *names])
+        assert TOOL.main() == (f"{total} survivors are not in tests/tools/survivors.txt" if total else 0)
+
+
 @pytest.mark.needs("mutants", "pytest")
 def test_listed_survivors_are_none(sample, capsys):
     assert sample(SAME, every=4) == 0
@@ -128,12 +140,13 @@ def test_listed_survivors_are_none(sample, capsys):
 
 @pytest.mark.needs("mutants", "pytest")
 def test_an_entry_lists_one_mutant(sample):
-    """Not those of another file, or of another line, that become the same, and none that the same line becomes besides. An
-    entry of which the mutant is only a part is another, too."""
+    """Not those of another file, or of another line, that become the same, and none that the same line becomes besides.
+    An entry of which the mutant is only a part is another, too."""
     name, old, new = SAME.splitlines()
     others = ["other.py", f"a/{name}", name[1:]], ["- return a if a < b else b", old[:-1], f"{old} "], [
         "+ return b if a > b else a", new[:-1], f"{new} + 1", f"{new}  a"]
-    entries = [[*[name, old, new][:place], it, *[name, old, new][place + 1:]] for place in range(3) for it in others[place]]
+    rows = [name, old, new]
+    entries = [[*rows[:place], it, *rows[place + 1:]] for place in range(3) for it in others[place]]
     assert sample(*("\n".join([*entry, ""]) for entry in entries), every=4) == "1 survivors are not in survivors.txt"
 
 

@@ -281,6 +281,11 @@ test("a state is refused if it is none, or if one of its fields is", () => {
   }
 });
 
+/** A name in upper and lower case, with a capital, and with a capital at its end. */
+const spellings = (name) => [name, name.toLowerCase(), ...[1, name.length - 1].map((place) =>
+  name.slice(0, place)[place > 1 ? "toLowerCase" : "toUpperCase"]() +
+  name.slice(place)[place > 1 ? "toUpperCase" : "toLowerCase"]())];
+
 test("a name in any case is the register that is there", () => {
   for (const [name, { offset, access, latched }] of Object.entries(registers.SERIAL)) {
     for (const isWrite of [false, true]) {
@@ -291,15 +296,17 @@ test("a name in any case is the register that is there", () => {
       assert.equal(registers.serialRegister(offset, lineControl, isWrite)?.name === name, isReached);
       const inConsole = { ...CONSOLE, port: { ...PORT, lineControl } };
       const [namedOne, numberedOne] = [1, 2].map(() => Console.fromState(inConsole));
-      if (isReached) assert.deepEqual(made(namedOne, name.toLowerCase()), made(numberedOne, offset));
-      else refused(() => made(namedOne, name), "RegisterError", name);
-      assert.deepEqual(namedOne.state, numberedOne.state);
-      if (!isReached) refused(() => made(named, name), "RegisterError", name);
-      else assert.deepEqual([made(named, name.toLowerCase()), named.state], [made(numbered, offset), numbered.state]);
+      for (const written of spellings(name)) {
+        if (isReached) assert.deepEqual(made(namedOne, written), made(numberedOne, offset));
+        else refused(() => made(namedOne, written), "RegisterError", name);
+        assert.deepEqual(namedOne.state, numberedOne.state);
+        if (!isReached) refused(() => made(named, written), "RegisterError", name);
+        else assert.deepEqual([made(named, written), named.state], [made(numbered, offset), numbered.state]);
+      }
     }
   }
   for (const [name, { offset }] of Object.entries(registers.CLOCK)) {
-    for (const written of [name, name.toLowerCase(), `RTC${name}`]) {
+    for (const written of [...spellings(name), ...spellings(`RTC${name}`)]) {
       assert.deepEqual(Rtc.fromState(CLOCK).read(written, 9), Rtc.fromState(CLOCK).read(offset, 9));
       assert.deepEqual(Rtc.fromState(CLOCK).write(written, 9, 9), Rtc.fromState(CLOCK).write(offset, 9, 9));
     }

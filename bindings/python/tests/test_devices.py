@@ -11,6 +11,7 @@ import shutil
 import tempfile
 import typing
 import unittest
+from itertools import product
 from pathlib import Path
 from unittest import mock
 
@@ -87,6 +88,11 @@ REFUSED = [
 ]
 
 
+
+def spellings(name):
+    """A name in upper and lower case, with a capital, and with a capital at its end."""
+    return name, name.lower(), name.capitalize(), name.capitalize().swapcase()
+
 class Arguments(unittest.TestCase):
     def test_what_is_refused(self):
         for call, kind, *message in [*REFUSED, *((call, RegisterError, said, "") for call, said in OUT_OF_REACH)]:
@@ -119,12 +125,25 @@ class Arguments(unittest.TestCase):
             self.assertRaises(AttributeError, setattr, device, "stat", None)
 
     def test_names_of_registers(self):
-        port = Serial()
-        self.assertEqual(0x60, port.read("lsr").byte)
-        for name, value in (("LCR", 0x83), ("DLL", 0x34), ("DLM", 0x12)):
-            port.write(name, value)
-        self.assertEqual((0x34, 0x12), (port.state.baud_divisor_low, port.state.baud_divisor_high))
+        """In any case, each is the register that is there, or is refused. The clock's may begin with RTC."""
+        def done(kind, state, call, *arguments):
+            device = kind.from_state(state)
+            return getattr(device, call)(*arguments), device.state
 
+        for name, register in registers.SERIAL.items():
+            for spelt, (call, *value), latch in product(spellings(name), (["read"], ["write", 0x9A]), (False, True)):
+                state = SerialState(line_control=0x83 if latch else 0x03, in_buffer=b"ab")
+                with self.subTest(spelt, call=call, latch=latch):
+                    if call[0] in register.access and register.latched in (None, latch):
+                        self.assertEqual(*(done(Serial, state, call, at, *value) for at in (spelt, register.offset)))
+                        continue
+                    self.assertRaises(registers.RegisterError, done, Serial, state, call, spelt, *value)
+        for name, register in registers.CLOCK.items():
+            names = *spellings(name), *spellings(f"RTC{name}")
+            for spelt, (call, *rest) in product(names, (["read", 9], ["write", 9, 9])):
+                with self.subTest(spelt, call=call):
+                    state = RtcState(lr=1, mr=2, imsc=1, ris=1)
+                    self.assertEqual(*(done(Rtc, state, call, at, *rest) for at in (spelt, register.offset)))
 
     def test_each_device_says_that_there_is_no_library(self):
         with mock.patch.object(devices, "load", side_effect=LibraryError), \
