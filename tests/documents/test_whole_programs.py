@@ -14,7 +14,8 @@ from harness import LIMIT, ROOT, at_least, check, run
 PACKAGE = '[package]\nname = "hi"\nversion = "0.1.0"\nedition = "2021"\n\n'
 LIBRARY = ROOT / "prebuilt" / f"{platform.machine()}-linux" / "libsuperio_c.a"
 # What the programs of README.md print.
-HI = "the event loop wakes, and reads input\n2 bytes accepted, 1 interrupt to raise\nthe guest reads h\n"
+HI = ("the event loop wakes, and reads input\n2 bytes accepted, 1 interrupt to raise\nthe guest reads h\n"
+      "for what is left, turn asks for 1 interrupt\n")
 MONITOR = "fn event_loop"   # which the whole monitor of docs/RUST.md has
 # What the program of docs/RUST.md with a bus prints: the clock twice, a read of the port, and the reset.
 BUS = "".join(f"{line}\n" for line in [*["clock: line false, alarm in Some(60) s"] * 2, *[
