@@ -455,6 +455,8 @@ int __wrap_ioctl(int fd, unsigned long request, void *argument) {
         break;
     case KVM_RUN:
         need_lock(false);
+        if (runs > 0 && monitor_is_ending())
+            SEE("  the guest runs on, though the monitor is to end");
         if (runs == 2)
             longjmp(end_of_exit, 1);
         errno = runs++ == 0 ? EINTR : EFAULT;

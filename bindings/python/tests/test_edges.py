@@ -84,6 +84,23 @@ class Alarms(unittest.TestCase):
             self.assertIn("  alarm due now", said(session, "regs clock"))
 
 
+class Bytes(unittest.TestCase):
+    def test_each_place_that_shows_them(self):
+        """All of them are shown, up to as many as there can be: 64 in the FIFO, and 256 in the output."""
+        letters = "abcdefghijklmnopqrstuvwxyz" * 10
+        for count in (0, 1, 2, 63, 64, 65, 128, 255, 256):
+            held, sent = letters[:min(count, 64)], letters[:count]
+            typed = [f"sq {letters[begin:min(begin + 16, count)].encode().hex()}" for begin in range(0, count, 16)]
+            session = session_at(0, *typed)
+            with self.subTest(count=count):
+                self.assertIn(f"FIFO {len(held)} of 64", " ".join(said(session, "regs serial")))
+                self.assertEqual([f'  "{held}"'] * bool(held), [row for row in said(session, "regs serial") if '"' in row])
+                self.assertEqual([f'"{held}"'], said(session, "drain"))
+                session = session_at(0, *(f"sw 00 {ord(one):02x}" for one in sent))
+                self.assertEqual([f'"{sent}"'], said(session, "output"))
+                self.assertIn(f"{count} byte{'' if count == 1 else 's'} out", " ".join(said(session, "regs serial")))
+
+
 class Dates(unittest.TestCase):
     def test_dates(self):
         for seconds, date in DATES.items():
