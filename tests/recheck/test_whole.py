@@ -164,6 +164,17 @@ CHANGES |= {
     "an item behind another": ([(C_FUNCTIONS, "        Err(error) => load_status(error),\n    }\n}\n", "        Err(error) => load_status(error),\n    }\n} const QUICK: u8 = 0;\n")],
                                "two items in a line"),
     "two files of a module": ([(DEVICES + "fifo/mod.rs", None, "")], "devices/fifo.rs: a file without its `mod`"),
+    # What is lacking.
+    **{f"{folder} without an edition": ([(f"{folder}/Cargo.toml", 'edition = "2021"\n', "")], f"{folder}/Cargo.toml: package: no edition")
+       for folder in ("bindings/superio", "bindings/rust", "bindings/c/from-source")},
+    **{f"the C crate without {line}": ([("bindings/c/from-source/Cargo.toml", f"{line}\n", "")], f"bindings/c/from-source/Cargo.toml: {why}")
+       for line, why in {'crate-type = ["staticlib", "cdylib"]': "lib: no crate-type", "lto = true": "profile: release: no lto",
+                         "opt-level = 2": "profile: release: no opt-level", "[workspace]": "no workspace"}.items()},
+    "a function that the header lacks": (
+        in_header("bool superio_serial_is_coherent(const superio_serial *port)\n"
+                  "    SUPERIO_MUST_USE SUPERIO_NONNULL SUPERIO_ACCESS(read_only, 1);\n", ""), "superio.h: superio_serial_is_coherent: None"),
+    "an error that the header lacks": (in_header("    SUPERIO_LOAD_INVALID_FLAGS = 8 ", "    "), "superio.h: invalidflags: None"),
+    "a field that the header lacks": (in_header("    uint8_t scratch; ", "    "), "superio.h: superio_serial: "),
 }
 
 
