@@ -24,7 +24,7 @@ static uint64_t moment(void) {
 }
 
 /* After each access: the line is a level, which changes or stays, and the timer goes off when the alarm is due. */
-static void follow(uint64_t now) {
+static void follow_clock(uint64_t now) {
     uint64_t due = superio_rtc_alarm_due(&rtc, now);
     struct itimerspec goes_off = {0}; /* which is never */
     if (due != SUPERIO_RTC_NEVER)
@@ -53,7 +53,7 @@ void clock_access(uint64_t address, bool is_write, uint8_t *bytes, unsigned coun
     } else if (!is_write) {
         memset(bytes, 0xFF, count);
     }
-    follow(now);
+    follow_clock(now);
 }
 
 /* In each turn of the event loop: a guest that sleeps until the alarm makes no access, so the monitor makes one. */
@@ -67,7 +67,7 @@ void clock_turn(void) {
 /* The machine is reset, and the input of its interrupt controller is down. The clock itself goes on. */
 void clock_reset(void) {
     was_up = false;
-    follow(moment());
+    follow_clock(moment());
 }
 
 /* Returns a file descriptor that is readable when the alarm is due. */
