@@ -37,12 +37,6 @@ class Typed(NamedTuple):
 Variables = Mapping[str, Typed]
 
 
-def is_positive(term: Term) -> bool:
-    if isinstance(term, tree.Operation) and term.operator == "^":
-        return is_positive(term.left)
-    return isinstance(term, tree.Number) and term.value > 0
-
-
 def part(pair: Typed, type_: Type, field: str) -> Typed:
     """`.0` or `.1` of a pair. The parts of three or more are not the parts of nested pairs"""
     if not isinstance(type_, Pair) or isinstance(type_.second, Pair) or field not in ("0", "1"):
@@ -142,8 +136,21 @@ class Scope:
                     for _ in binder.names if not binder.is_hidden], None
         return [], None
 
+    def is_positive(self, term: Term) -> bool:
+        """Whether it is a number above 0, a power of one, or a definition that is one."""
+        match term:
+            case tree.Number(value):
+                return value > 0
+            case tree.Operation("^", left, _):
+                return self.is_positive(left)
+            case Name(name) if name not in self.variables:
+                entity = self.modules.found(self.module, name)
+                return isinstance(entity, Definition) and [patterns for patterns, _ in entity.clauses] == [[]] and \
+                    replace(self, module=entity.module, variables={}).is_positive(entity.clauses[0][1])
+        return False
+
     def operation(self, operator: str, left: Term, right: Term) -> Typed:
-        if operator in ("/", "%") and not is_positive(right):
+        if operator in ("/", "%") and not self.is_positive(right):
             raise Refused(f"{operator} by what may be 0")
         one, other = self.term(left), self.term(right)
         return Typed(OPERATOR[operator].format(one.atom, other.atom),

@@ -102,6 +102,8 @@ RIGHT = {
         "fun A B C => prod (iff_type A B -> C) (prod B (prod (sum A (sum B C)) ((A -> B) -> C -> A)))"),
     "an operator in a type": ("value : (a b : ℕ) → Type 0\nvalue a b = a + 1 ≡ b × a == b ≡ true → a ∷ [] ≡ b ∷ []",
         "value 1 2", "prod (1 + 1 = 2) ((1 =? 2) = true) -> [1] = [2]"),
+    "division by a definition of a number": (
+        "size : ℕ\nsize = 4\nvalue : (n : ℕ) → List ℕ\nvalue n = n / size ∷ n % size ^ 2 ∷ []", "value 35", "[8; 3]"),
     "quantifiers": (
         "value : (l : List ℕ) → Type 0\nvalue l = (n m : ℕ) → ((k : ℕ) × (o p : ℕ) × k + n ≡ o - p - m) → take n l ≡ drop m l",
         "value [1]", "forall n m : N, {k : N & {o : N & {p : N & k + n = o - p - m}}} -> take n [1] = drop m [1]"),
@@ -158,6 +160,11 @@ REFUSED = {
     "the second part of a triple": ("value : (p : ℕ × ℕ × ℕ) → ℕ × ℕ\nvalue p = p.1", ".1 of p"),
     "division by what may be 0": ("value : (n : ℕ) → ℕ\nvalue n = 7 / n", "/ by what may be 0"),
     "remainder by 0": ("value : ℕ\nvalue = 7 % 0", "% by what may be 0"),
+    "remainder by a definition of 0": ("size : ℕ\nsize = 0\nvalue : ℕ\nvalue = 7 % size", "% by what may be 0"),
+    "remainder by a definition with clauses": (
+        "size : (b : Bool) → ℕ\nsize true = 4\nsize b = 0\nvalue : ℕ\nvalue = 7 % size true", "% by what may be 0"),
+    "division by a variable with the name of a definition": (
+        "size : ℕ\nsize = 4\nvalue : (size : ℕ) → ℕ\nvalue size = 7 / size", "/ by what may be 0"),
     "the pattern suc": ("value : (n : ℕ) → ℕ\nvalue zero = 0\nvalue (suc n) = n", "the pattern zero"),
     "a word that is not in the library": (
         "use Rattle.std.specs.Prelude.{sum}\nvalue : ℕ\nvalue = sum []", "the word sum of Prelude"),

@@ -2,8 +2,8 @@
 -- A serial port with the monitor's end of its line: what a call does to it, what it leaves to do, and what the event
 -- loop polls for.
 use Rattle.std.specs.Prelude.{ℕ, ◌+◌, ◌-◌, ◌^◌, Bool, true, false, ◌==◌, ◌&&◌, ◌||◌, not, nat_lt, min, if◌then◌else◌, List, [], ◌∷◌, ◌++◌, length, take, drop}
-use Rattle.superio_laws.specs.Serial.{has_bits, State, fresh_state, not_empty, register_read, irq_level, conditions_due, state_of_uart, register_at, is_dlab, is_loopback, ier_bit, Rda, Thre, Op, Read, Write, Enqueue, CharacterTimeout, sent_by, Asked, iir_none_bit, step, step_calls, decode_in}
-use Rattle.superio_console.specs.OutputRing.{waiting_in}
+use Rattle.superio_laws.specs.Serial.{has_bits, State, fifo_size, fresh_state, not_empty, register_read, irq_level, conditions_due, state_of_uart, register_at, is_dlab, is_loopback, ier_bit, Rda, Thre, Op, Read, Write, Enqueue, CharacterTimeout, sent_by, Asked, iir_none_bit, step, step_calls, decode_in}
+use Rattle.superio_console.specs.OutputRing.{output_size, waiting_in}
 pub use Rattle.superio_console.specs.declared.Console.{Console}
 pub use Rattle.superio_console.specs.declared.Wants.{Wants}
 pub use Rattle.superio_console.specs.declared.Work.{Work}
@@ -61,7 +61,7 @@ is_open c = (c.is_ready || c.is_polled) && not c.is_asleep
 -- how many bytes of input may go in now: none while input has to wait, none in loopback, and otherwise all that fit in
 -- the FIFO
 abbrev pub input_room : (c : ConsoleState) → ℕ
-input_room c = if is_open c && not (is_loopback c.port.modem_control) then 64 - length c.port.in_buffer else 0
+input_room c = if is_open c && not (is_loopback c.port.modem_control) then fifo_size - length c.port.in_buffer else 0
 
 -- bytes are held, and IER enables RDA
 abbrev pub has_waiting_input : (s : State) → Bool
@@ -139,10 +139,11 @@ sent_at call c = []
 
 -- bytes that are sent wait, or are dropped if there is no room
 abbrev pub output_after_byte : (byte : ℕ) (output : List ℕ) → List ℕ
-output_after_byte byte output = if nat_lt (length output) 4096 then output ++ byte ∷ [] else output
+output_after_byte byte output = if nat_lt (length output) output_size then output ++ byte ∷ [] else output
 
 abbrev pub dropped_after_byte : (output : List ℕ) (dropped : ℕ) → ℕ
-dropped_after_byte output dropped = if nat_lt (length output) 4096 then dropped else min (dropped + 1) (2 ^ 64 - 1)
+dropped_after_byte output dropped =
+    if nat_lt (length output) output_size then dropped else min (dropped + 1) (2 ^ 64 - 1)
 
 abbrev pub output_with : (bytes output : List ℕ) → List ℕ
 output_with [] output = output

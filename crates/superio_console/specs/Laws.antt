@@ -1,10 +1,11 @@
 -- SPDX-License-Identifier: Apache-2.0 OR BSD-3-Clause
 -- The laws of a console, over any list of calls, in any order, from any state.
 use Rattle.std.specs.Prelude.{⊤, ℕ, ◌+◌, ◌-◌, ◌==◌, ◌<◌, ◌^◌, ◌≡◌, ◌⊎◌, Bool, true, false, not, ◌&&◌, ◌||◌, min, nat_lt, List, [], ◌∷◌, ◌++◌, length, take, IsTrue}
-use Rattle.superio_laws.specs.Serial.{has_bits, not_empty, irq_level, conditions_due, ier_bit, iir_bit, Condition, Rda, Thre, is_iir_read, iir_none_bit, is_loopback, RdaCoversHeldBytes, Read, Write, ByteRead, decode_in, Trace}
+use Rattle.superio_laws.specs.Serial.{has_bits, fifo_size, not_empty, irq_level, conditions_due, ier_bit, iir_bit, Condition, Rda, Thre, is_iir_read, iir_none_bit, is_loopback, RdaCoversHeldBytes, Read, Write, ByteRead, decode_in, Trace}
 use Rattle.superio_laws.specs.Serial.History.{byte_read, accepted_by, raises_thre}
 use Rattle.superio_laws.specs.Serial.Laws.{state_after}
 use Rattle.superio_laws.specs.Serial.Laws.UartRun.{trace_with}
+use Rattle.superio_console.specs.OutputRing.{output_size}
 use Rattle.superio_console.specs.Console.{ConsoleState, Call, Reads, Writes, Receives, Consumes, Turns, Refuses, Resets, Suspends, SetsPolled, Wants, new_console, wants_of, shown_at, retries, port_calls, sent_at, after, interrupts_of, wakes}
 
 -- ---- several calls, oldest first
@@ -250,7 +251,7 @@ SleepLaw = (calls : List Call) (c : ConsoleState)
 
 -- the wants name all the room of the FIFO, outside loopback
 abbrev pub NamesRoom : (c : ConsoleState) → Type 0
-NamesRoom c = is_loopback c.port.modem_control ≡ false → (wants_of c).input ≡ 64 - length c.port.in_buffer
+NamesRoom c = is_loopback c.port.modem_control ≡ false → (wants_of c).input ≡ fifo_size - length c.port.in_buffer
 
 abbrev pub closes_gate : (call : Call) (c : ConsoleState) → Bool
 closes_gate Resets c = true
@@ -303,7 +304,7 @@ pub record KeepsOutput (taken sent : List ℕ) (old new : ConsoleState) : Type 0
 
 -- a byte is sent while 4,096 wait
 abbrev pub finds_no_room : (call : Call) (c : ConsoleState) → Bool
-finds_no_room call c = not_empty (sent_at call c) && not (nat_lt (length c.output) 4096)
+finds_no_room call c = not_empty (sent_at call c) && not (nat_lt (length c.output) output_size)
 
 -- if no byte is sent while 4,096 wait, none is dropped
 abbrev pub RoomLaw : Type 0

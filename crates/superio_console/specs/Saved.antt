@@ -6,7 +6,18 @@ use Rattle.std.specs.Option.{option_or}
 use Rattle.superio_core.specs.declared.saved.SavedStateError.{SavedStateError}
 use Rattle.superio_core.specs.declared.saved.SavedStateError.TheVariants.{WrongLength, InvalidFlags}
 use Rattle.superio_core.specs.Saved.{header, encoding, header_fault, console_kind, serial_encoding, serial_fault}
+use Rattle.superio_core.specs.Sizes.{fifo_size, header_size}
+use Rattle.superio_console.specs.OutputRing.{output_size}
 use Rattle.superio_console.specs.Console.{ConsoleState}
+
+-- the flags and the two counts
+abbrev pub prefix_size : ℕ
+prefix_size = 11
+
+-- the longest encoding of a console: the header, the flags and the counts, the most output that waits, and the longest
+-- encoding of a port
+abbrev pub console_saved_max : ℕ
+console_saved_max = 4196
 
 -- a bit of this value if it is set
 abbrev pub bit_if : (set : Bool) (bit : ℕ) → ℕ
@@ -24,7 +35,8 @@ console_contents c =
 -- the bytes of an encoding before the output, if `waiting` bytes of output wait and the port has `port` bytes
 abbrev pub console_prefix : (c : ConsoleState) (waiting port : ℕ) → List ℕ
 console_prefix c waiting port =
-    header console_kind (11 + waiting + port) ++ flags_of c ∷ to_le_bytes w64 c.dropped ++ to_le_bytes w16 waiting
+    header console_kind (prefix_size + waiting + port) ++ flags_of c ∷ to_le_bytes w64 c.dropped
+    ++ to_le_bytes w16 waiting
 
 abbrev pub console_encoding : (c : ConsoleState) → List ℕ
 console_encoding c = encoding console_kind (console_contents c)
@@ -38,25 +50,25 @@ output_count contents = from_le_bytes w16 (slice_index contents 9 ∷ slice_inde
 -- there are flags and two counts, and then at most 4,096 bytes of output, as many as their count says
 abbrev pub is_cut : (contents : List ℕ) → Bool
 is_cut contents =
-    nat_lt (length contents) 11 || nat_lt 4096 (output_count contents)
-    || nat_lt (length contents) (11 + output_count contents)
+    nat_lt (length contents) prefix_size || nat_lt output_size (output_count contents)
+    || nat_lt (length contents) (prefix_size + output_count contents)
 
 -- the port's bytes come after the output
 abbrev pub console_contents_fault : (contents : List ℕ) → Option SavedStateError
 console_contents_fault contents =
     if is_cut contents then Some WrongLength
     else (if nat_lt 15 (slice_index contents 0) then Some InvalidFlags
-    else serial_fault (drop (11 + output_count contents) contents))
+    else serial_fault (drop (prefix_size + output_count contents) contents))
 
 abbrev pub console_fault : (bytes : List ℕ) → Option SavedStateError
-console_fault bytes = option_or (header_fault console_kind bytes) (console_contents_fault (drop 8 bytes))
+console_fault bytes = option_or (header_fault console_kind bytes) (console_contents_fault (drop header_size bytes))
 
 -- ---- the laws of the encoding: an encoding passes each check, and no two states share one
 
 -- the numbers that a console can have
 pub record IsConsole (c : ConsoleState) : Type 0 where
-  pub held : length c.port.in_buffer ≤ 64
-  pub waiting : length c.output ≤ 4096
+  pub held : length c.port.in_buffer ≤ fifo_size
+  pub waiting : length c.output ≤ output_size
   pub dropped : c.dropped < 2 ^ 64
 
 abbrev pub ConsoleEncodingLaw : Type 0

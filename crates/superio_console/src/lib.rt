@@ -9,10 +9,11 @@
 
 ghost use Rattle.std.specs.Prelude.{◌≡◌, ◌≤◌, ◌-◌, ◌==◌, ◌||◌, min, not, length, take, drop, false, IfOk, IfErr};
 ghost use Rattle.std.specs.Result.{result_err, IsOkAnd};
-ghost use Rattle.superio_core.specs.Serial.{state_of_uart, CoherentUart, not_empty};
+ghost use Rattle.superio_core.specs.Serial.{fifo_size, state_of_uart, CoherentUart, not_empty};
 ghost use Rattle.superio_console.specs.Console.{state_of, ConsoleState, new_console, wants_of, shown_at, after, work_of};
 ghost use Rattle.superio_console.specs.Console.{Reads, Writes, Receives, Consumes, Turns, Refuses, Resets, Suspends, SetsPolled};
-ghost use Rattle.superio_console.specs.Saved.{console_encoding, console_fault, IsConsole};
+ghost use Rattle.superio_console.specs.OutputRing.{output_size};
+ghost use Rattle.superio_console.specs.Saved.{console_encoding, console_fault, console_saved_max, IsConsole};
 
 pub mod laws;
 pub mod output_ring;
@@ -182,7 +183,7 @@ impl Console {
     #[inline(always)]
     pub fn wants(&self) -> Wants
         ensures value { result ≡ wants_of (state_of self.now) }
-        ensures at_most_64 { result.input ≤ 64 }
+        ensures at_most_64 { result.input ≤ fifo_size }
     {
         Wants {
             input: self.input_room(),
@@ -234,7 +235,7 @@ impl Console {
     /// guest now, after its access and without your lock, until the reader has taken some.
     #[inline(always)]
     pub fn is_full(&self) -> bool
-        ensures { result ≡ (length (state_of self.now).output == 4096) }
+        ensures { result ≡ (length (state_of self.now).output == output_size) }
     {
         self.output.count() == OUTPUT_SIZE
     }
@@ -318,7 +319,7 @@ impl Console {
     /// reader has taken.
     pub fn save(&self, bytes: &mut [u8; CONSOLE_SAVED_MAX]) -> usize
         ensures count { result ≡ length (console_encoding (state_of self.now)) }
-        ensures at_most_4196 { result ≤ 4196 }
+        ensures at_most_4196 { result ≤ console_saved_max }
         ensures encoding { take result bytes.new ≡ console_encoding (state_of self.now) }
         ensures rest_unchanged { drop result bytes.new ≡ drop result bytes.old }
     {
@@ -346,7 +347,7 @@ impl Console {
     /// the order of [`SavedStateError`]. A console never fails with [`SavedStateError::InvalidArmed`].
     pub fn from_bytes(bytes: &[u8]) -> Result<Console, SavedStateError>
         ensures encoding { IfOk result (λ console. bytes.now ≡ console_encoding (state_of console)) }
-        ensures at_most_64 { IfOk result (λ console. console.port.in_buffer.len ≤ 64) }
+        ensures at_most_64 { IfOk result (λ console. console.port.in_buffer.len ≤ fifo_size) }
         ensures read { (state : ConsoleState) → IsConsole state → bytes.now ≡ console_encoding state →
             IsOkAnd result (λ console. state_of console ≡ state) }
         ensures fault { result_err result ≡ console_fault bytes.now }
@@ -373,7 +374,7 @@ impl Console {
         ensures loaded { IfOk result (λ _. bytes.now ≡ console_encoding (state_of self.new)) }
         ensures read { (state : ConsoleState) → IsConsole state → bytes.now ≡ console_encoding state →
             IsOkAnd result (λ _. state_of self.new ≡ state) }
-        ensures at_most_64 { IfOk result (λ _. self.new.port.in_buffer.len ≤ 64) }
+        ensures at_most_64 { IfOk result (λ _. self.new.port.in_buffer.len ≤ fifo_size) }
         ensures refused { IfErr result (λ _. self.new ≡ self.old) }
     {
         *self = Console::from_bytes(bytes)?;
@@ -392,7 +393,7 @@ impl Console {
     #[inline(always)]
     fn input_room(&self) -> usize
         ensures value { result ≡ input_room (state_of self.now) }
-        ensures at_most_64 { result ≤ 64 }
+        ensures at_most_64 { result ≤ fifo_size }
     {
         let is_open = (self.is_ready != 0 || self.is_polled != 0) && self.is_asleep == 0;
         if is_open && !self.port.registers.is_loopback() {
@@ -421,14 +422,14 @@ impl Console {
     /// Whether the FIFO is full, and a read at this offset may make room. No other read changes the wants.
     #[inline(always)]
     fn may_end_full(&self, offset: u8) -> bool
-        ensures { result ≡ ((offset == 0) && (64 - length (state_of self.now).port.in_buffer == 0)) }
+        ensures { result ≡ ((offset == 0) && (fifo_size - length (state_of self.now).port.in_buffer == 0)) }
     {
         offset == DATA_OFFSET && self.port.fifo_capacity() == 0
     }
 
     /// Reads the port when its FIFO is full and the read may make room, so that the event loop has to learn of it.
     fn read_full(&mut self, offset: u8) -> ConsoleRead
-        requires full { IsTrue ((offset == 0) && (64 - length (state_of self.old).port.in_buffer == 0)) }
+        requires full { IsTrue ((offset == 0) && (fifo_size - length (state_of self.old).port.in_buffer == 0)) }
         ensures byte { result.byte ≡ shown_at offset (state_of self.old).port }
         ensures work { result.work ≡ work_of (Reads offset) (state_of self.old) }
         ensures at_most_1 { result.work.interrupts ≤ 1 }

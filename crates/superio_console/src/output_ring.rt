@@ -2,7 +2,7 @@
 //! The guest's output that waits for its reader: at most 4,096 bytes, in a ring.
 ghost use Rattle.std.specs.Prelude.{◌≡◌, ◌<◌, ◌≤◌, ◌+◌, ◌-◌, ◌%◌, ◌==◌, min, not, nat_lt, if◌then◌else◌, List, [], ◌∷◌, ◌++◌, length, take, drop};
 ghost use Rattle.superio_core.specs.Serial.{not_empty};
-ghost use Rattle.superio_console.specs.OutputRing.{waiting_in, ring_from};
+ghost use Rattle.superio_console.specs.OutputRing.{output_size, waiting_in, ring_from};
 
 mod printed;
 
@@ -37,7 +37,7 @@ impl OutputRing {
 
     /// A ring in which these bytes wait.
     pub(crate) fn from_slice(bytes: &[u8]) -> OutputRing
-        requires { length bytes.now ≤ 4096 }
+        requires { length bytes.now ≤ output_size }
         ensures { waiting_in result ≡ bytes.now }
     {
         let mut places = [0; OUTPUT_SIZE];
@@ -52,7 +52,7 @@ impl OutputRing {
     /// How many bytes wait, at most 4,096.
     #[inline(always)]
     pub(crate) fn count(&self) -> usize
-        ensures value { result ≡ min self.now.len 4096 }
+        ensures value { result ≡ min self.now.len output_size }
         ensures length { result ≡ length (waiting_in self.now) }
     {
         usize::from(self.len).min(OUTPUT_SIZE)
@@ -69,9 +69,9 @@ impl OutputRing {
     /// The place at this distance from the oldest byte.
     #[inline(always)]
     fn place(&self, distance: usize) -> usize
-        requires { distance ≤ 4096 }
-        ensures value { result ≡ (self.now.head + distance) % 4096 }
-        ensures bound { result < 4096 }
+        requires { distance ≤ output_size }
+        ensures value { result ≡ (self.now.head + distance) % output_size }
+        ensures bound { result < output_size }
     {
         (usize::from(self.head) + distance) % OUTPUT_SIZE
     }
@@ -79,9 +79,9 @@ impl OutputRing {
     /// Adds a byte if there is room, and returns whether there was.
     #[inline(always)]
     pub(crate) fn push(&mut self, byte: u8) -> bool
-        ensures room { result ≡ nat_lt (length (waiting_in self.old)) 4096 }
+        ensures room { result ≡ nat_lt (length (waiting_in self.old)) output_size }
         ensures added { waiting_in self.new
-            ≡ (if nat_lt (length (waiting_in self.old)) 4096
+            ≡ (if nat_lt (length (waiting_in self.old)) output_size
             then waiting_in self.old ++ byte ∷ [] else waiting_in self.old) }
     {
         let waiting = self.count();
@@ -97,7 +97,7 @@ impl OutputRing {
     /// The bytes that wait, oldest first, in two slices: up to the last place, and from the first place on.
     pub(crate) fn as_slices(&self) -> (&[u8], &[u8])
         ensures bytes { result.0.now ++ result.1.now ≡ waiting_in self.now }
-        ensures bound { length result.0.now + length result.1.now ≤ 4096 }
+        ensures bound { length result.0.now + length result.1.now ≤ output_size }
         ensures some { not_empty result.0.now ≡ not_empty (waiting_in self.now) }
     {
         let waiting = self.count();

@@ -16,6 +16,8 @@ ghost use Rattle.std.specs.Cmp.{on_equiv, on_per, partial_equiv_from_equiv};
 ghost use Rattle.std.specs.Cmp.Lexicographic.{pointwise, nat_list_eq_equiv};
 ghost use Rattle.std.specs.Int.{w16, w64, to_le_bytes};
 ghost use Rattle.superio_core.specs.Saved.{encoding, console_kind, serial_fault};
+ghost use Rattle.superio_core.specs.Sizes.{serial_saved_max};
+ghost use Rattle.superio_console.specs.OutputRing.{output_size};
 ghost use Rattle.superio_console.specs.Console.{state_of};
 ghost use Rattle.superio_console.specs.Saved.{console_encoding, console_fault, bit_if, flags_of, console_prefix};
 
@@ -67,8 +69,8 @@ impl Console {
         waiting: usize,
         port: usize,
     ) -> [u8; HEADER_SIZE + PREFIX_SIZE]
-        requires waiting { waiting ≤ 4096 }
-        requires port { port ≤ 81 }
+        requires waiting { waiting ≤ output_size }
+        requires port { port ≤ serial_saved_max }
         ensures { result ≡ console_prefix (state_of self.now) waiting port }
     {
         let [m0, m1, m2, m3, kind, version, low, high] = header(
@@ -129,7 +131,7 @@ pub(super) fn decode_console(bytes: &[u8]) -> Result<(u8, u64, &[u8], &[u8]), Sa
         (found.0 ∷ to_le_bytes w64 found.1 ++ to_le_bytes w16 (length found.2.now) ++ found.2.now ++ found.3.now)) }
     ensures flags { IfOk result (λ found. found.0 ≤ 15) }
     ensures dropped { IfOk result (λ found. found.1 < 2 ^ 64) }
-    ensures at_most_4096 { IfOk result (λ found. length found.2.now ≤ 4096) }
+    ensures at_most_4096 { IfOk result (λ found. length found.2.now ≤ output_size) }
     ensures port { IfOk result (λ found. console_fault bytes.now ≡ serial_fault found.3.now) }
     ensures fault { IfErr result (λ error. console_fault bytes.now ≡ Some error) }
 {

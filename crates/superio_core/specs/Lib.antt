@@ -4,3 +4,4 @@ pub mod I8042
 pub mod Rtc
 pub mod Saved
 pub mod Serial
+pub mod Sizes

@@ -6,6 +6,7 @@ pub mod Step
 use Rattle.std.specs.Prelude.{ℕ, Bool, true, false, List, [], ◌∷◌, ◌++◌, take, drop, length, slice_index, ◌≡◌, ◌≤◌, ◌%◌, min, ◌&&◌, ◌||◌, IsTrue}
 use Rattle.superio_core.specs.Bits.{has_bits, with_bits}
 use Rattle.superio_core.specs.Serial.RegisterMap.{Register, Dll, Dlm, Data, Ier, Iir, Lcr, Mcr, Lsr, Msr, Scr, Unassigned, Condition, Rda, Thre, lsr_dr_bit, iir_fifo_bits, msr_read, ier_bit, iir_bit, identification_of, pending_in_order}
+pub use Rattle.superio_core.specs.Sizes.{fifo_size}
 pub use Rattle.superio_core.specs.declared.serial.registers.Registers.{Registers}
 pub use Rattle.superio_core.specs.declared.fifo.ArrayFifo.{ArrayFifo}
 pub use Rattle.superio_core.specs.declared.serial.Uart.{Uart}
@@ -129,11 +130,11 @@ state_of_bytes bytes = record {
 
 -- the places of the ring, from the oldest byte on: `head` counts modulo 64
 abbrev pub ring_from : (head : ℕ) (bytes : List ℕ) → List ℕ
-ring_from head bytes = drop (head % 64) bytes ++ take (head % 64) bytes
+ring_from head bytes = drop (head % fifo_size) bytes ++ take (head % fifo_size) bytes
 
 -- the bytes that are held, oldest first: the first `len` of these places, at most 64
 abbrev pub ring_contents : (fifo : ArrayFifo) → List ℕ
-ring_contents fifo = take (min fifo.len 64) (ring_from fifo.head fifo.bytes)
+ring_contents fifo = take (min fifo.len fifo_size) (ring_from fifo.head fifo.bytes)
 
 -- ---- the state of a port
 
@@ -151,7 +152,7 @@ pub record Coherent (s : State) : Type 0 where
   pub identification : s.interrupt_identification ≡ identification_of thre rda
   pub received : IsTrue rda → IsTrue (not_empty s.in_buffer)
   pub data_ready : has_bits s.line_status lsr_dr_bit ≡ not_empty s.in_buffer
-  pub at_most_64 : length s.in_buffer ≤ 64
+  pub at_most_64 : length s.in_buffer ≤ fifo_size
 
 -- IIR shows RDA if bytes are held and IER enables it: no byte waits without an interrupt
 abbrev pub RdaCoversHeldBytes : (s : State) → Type 0
@@ -161,4 +162,4 @@ RdaCoversHeldBytes s =
 
 -- the state is coherent, and `len` is at most 64
 abbrev pub CoherentUart : (port : Uart) → Type 0
-CoherentUart port = (port.in_buffer.len ≤ 64) × Coherent (state_of_uart port)
+CoherentUart port = (port.in_buffer.len ≤ fifo_size) × Coherent (state_of_uart port)

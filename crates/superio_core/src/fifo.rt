@@ -1,7 +1,7 @@
 // SPDX-License-Identifier: Apache-2.0 OR BSD-3-Clause
 //! What a port needs of its receive FIFO, and a FIFO in the 64 places of an array.
 ghost use Rattle.std.specs.Prelude.{◌≡◌, ◌<◌, ◌≤◌, ◌+◌, ◌-◌, ◌%◌, ℕ, min, not, List, [], ◌∷◌, ◌++◌, length, take, drop, slice_get};
-ghost use Rattle.superio_core.specs.Serial.{not_empty, ring_contents, ring_from};
+ghost use Rattle.superio_core.specs.Serial.{fifo_size, not_empty, ring_contents, ring_from};
 
 /// The capacity of the FIFO, as in a 16750.
 pub const FIFO_SIZE: usize = 64;
@@ -20,7 +20,7 @@ pub trait RxFifo {
     /// How many bytes are held.
     fn len(&self) -> usize
         ensures value { result ≡ length (held self.now) }
-        ensures bound { length (held self.now) ≤ 64 };
+        ensures bound { length (held self.now) ≤ fifo_size };
 
     /// Whether no byte is held.
     fn is_empty(&self) -> bool
@@ -34,14 +34,14 @@ pub trait RxFifo {
 
     /// Adds a byte if there is room, and returns whether there was.
     fn push(&mut self, byte: u8) -> bool
-        ensures room { result ≡ not_empty (take (64 - length (held self.old)) (byte ∷ [])) }
-        ensures added { held self.new ≡ held self.old ++ take (64 - length (held self.old)) (byte ∷ []) }
+        ensures room { result ≡ not_empty (take (fifo_size - length (held self.old)) (byte ∷ [])) }
+        ensures added { held self.new ≡ held self.old ++ take (fifo_size - length (held self.old)) (byte ∷ []) }
         ensures len_in_range { len_in_range self.old → len_in_range self.new };
 
     /// Adds the first of these bytes, as many as fit, and returns how many it added.
     fn fill(&mut self, bytes: &[u8]) -> usize
-        ensures count { result ≡ length (take (64 - length (held self.old)) bytes.now) }
-        ensures added { held self.new ≡ held self.old ++ take (64 - length (held self.old)) bytes.now }
+        ensures count { result ≡ length (take (fifo_size - length (held self.old)) bytes.now) }
+        ensures added { held self.new ≡ held self.old ++ take (fifo_size - length (held self.old)) bytes.now }
         ensures len_in_range { len_in_range self.old → len_in_range self.new };
 }
 
@@ -63,7 +63,7 @@ impl ArrayFifo {
     /// An empty FIFO.
     pub(crate) fn new() -> ArrayFifo
         ensures bytes { ring_contents result ≡ [] }
-        ensures at_most_64 { result.len ≤ 64 }
+        ensures at_most_64 { result.len ≤ fifo_size }
     {
         ArrayFifo {
             head: 0,
@@ -75,7 +75,7 @@ impl ArrayFifo {
     /// How many bytes are held, at most 64.
     #[inline(always)]
     fn count(&self) -> usize
-        ensures { result ≡ min self.now.len 64 }
+        ensures { result ≡ min self.now.len fifo_size }
     {
         usize::from(self.len).min(FIFO_SIZE)
     }
@@ -83,9 +83,9 @@ impl ArrayFifo {
     /// The place at this distance from the oldest byte.
     #[inline(always)]
     fn place(&self, distance: usize) -> usize
-        requires { distance ≤ 64 }
-        ensures value { result ≡ (self.now.head + distance) % 64 }
-        ensures bound { result < 64 }
+        requires { distance ≤ fifo_size }
+        ensures value { result ≡ (self.now.head + distance) % fifo_size }
+        ensures bound { result < fifo_size }
     {
         (usize::from(self.head) + distance) % FIFO_SIZE
     }
@@ -93,7 +93,7 @@ impl ArrayFifo {
     /// The held bytes, oldest first, in two slices: up to the last place, and from the first place on.
     pub(crate) fn as_slices(&self) -> (&[u8], &[u8])
         ensures bytes { result.0.now ++ result.1.now ≡ ring_contents self.now }
-        ensures at_most_64 { length result.0.now + length result.1.now ≤ 64 }
+        ensures at_most_64 { length result.0.now + length result.1.now ≤ fifo_size }
     {
         let held = self.count();
         let (from_start, to_end) = self.bytes.split_at(self.place(0));
@@ -104,7 +104,7 @@ impl ArrayFifo {
     /// Puts these bytes into the places after the first `held`, one at a time.
     #[inline(always)]
     fn put_each(&mut self, held: usize, bytes: &[u8])
-        requires { held + length bytes.now ≤ 64 }
+        requires { held + length bytes.now ≤ fifo_size }
         ensures head { self.new.head ≡ self.old.head }
         ensures len { self.new.len ≡ self.old.len }
         ensures added { take (held + length bytes.now) (ring_from self.new.head self.new.bytes)
@@ -120,7 +120,7 @@ impl ArrayFifo {
     /// place on.
     #[inline(never)]
     fn put_all(&mut self, held: usize, bytes: &[u8])
-        requires { held + length bytes.now ≤ 64 }
+        requires { held + length bytes.now ≤ fifo_size }
         ensures head { self.new.head ≡ self.old.head }
         ensures len { self.new.len ≡ self.old.len }
         ensures added { take (held + length bytes.now) (ring_from self.new.head self.new.bytes)
@@ -135,8 +135,8 @@ impl ArrayFifo {
     /// Copies these bytes into the places after the first `held`, none of them past the last place.
     #[inline(always)]
     fn copy_in(&mut self, held: usize, bytes: &[u8])
-        requires room { held + length bytes.now ≤ 64 }
-        requires to_end { (self.old.head + held) % 64 + length bytes.now ≤ 64 }
+        requires room { held + length bytes.now ≤ fifo_size }
+        requires to_end { (self.old.head + held) % fifo_size + length bytes.now ≤ fifo_size }
         ensures head { self.new.head ≡ self.old.head }
         ensures len { self.new.len ≡ self.old.len }
         ensures added { take (held + length bytes.now) (ring_from self.new.head self.new.bytes)
@@ -150,7 +150,7 @@ impl ArrayFifo {
 impl RxFifo for ArrayFifo {
     ghost held = { ring_contents };
 
-    ghost len_in_range = { λ fifo. fifo.len ≤ 64 };
+    ghost len_in_range = { λ fifo. fifo.len ≤ fifo_size };
 
     #[inline(always)]
     fn len(&self) -> usize {

@@ -8,12 +8,13 @@
 //! bytes takes the FIFO as an argument, so the same code serves every receive FIFO.
 ghost use Rattle.std.specs.Prelude.{◌≡◌, ◌↔◌, ◌≤◌, ◌-◌, ◌==◌, ℕ, not, length, IsTrue, if◌then◌else◌, [], ◌∷◌, slice_index, IfOk};
 ghost use Rattle.std.specs.Result.{result_err, IsOkAnd};
-ghost use Rattle.superio_core.specs.Serial.{fresh_state, State, state_of_uart, CoherentUart, RdaCoversHeldBytes, irq_level, conditions_due, not_empty, state_with, register_read, is_asserted};
+ghost use Rattle.superio_core.specs.Serial.{fifo_size, fresh_state, State, state_of_uart, CoherentUart, RdaCoversHeldBytes, irq_level, conditions_due, not_empty, state_with, register_read, is_asserted};
 ghost use Rattle.superio_core.specs.Serial.Step.{IsUartRead, IsUartWrite, IsUartEnqueue, IsUartTimeout, iir_none_bit, becomes_pending, iir_after_raise, iir_after_lower, bytes_that_fit, receive_bytes, rbr_read, ier_write, read_step, write_step, character_timeout, read_events, ier_write_calls, arrival_calls, timeout_calls, decoded_calls, decode_in};
 ghost use Rattle.superio_core.specs.Serial.RegisterMap.{lsr_dr_bit, ier_bits, iir_bit, Rda, Thre, Data, is_loopback};
 ghost use Rattle.superio_core.specs.Bits.{only_bits, with_bits, without_bits};
 ghost use Rattle.superio_core.specs.Serial.Operations.{Write, count_if, is_first_of_two_refused, decode_write, sent_by, events_of_read};
 ghost use Rattle.superio_core.specs.Saved.{serial_encoding, serial_fault};
+ghost use Rattle.superio_core.specs.Sizes.{serial_saved_max};
 
 pub mod encoding;
 pub mod registers;
@@ -106,8 +107,8 @@ impl Uart {
     /// How many bytes may still be enqueued: 64 minus the number of held bytes.
     #[inline(always)]
     pub fn fifo_capacity(&self) -> usize
-        ensures value { result ≡ 64 - length (state_of_uart self.now).in_buffer }
-        ensures bound { length (state_of_uart self.now).in_buffer ≤ 64 }
+        ensures value { result ≡ fifo_size - length (state_of_uart self.now).in_buffer }
+        ensures bound { length (state_of_uart self.now).in_buffer ≤ fifo_size }
     {
         FIFO_SIZE - self.in_buffer.len()
     }
@@ -181,7 +182,7 @@ impl Uart {
     /// oldest first.
     pub fn to_bytes(&self) -> SerialEncoding
         ensures encoding { result ≡ serial_encoding (state_of_uart self.now) }
-        ensures at_most_81 { length result ≤ 81 }
+        ensures at_most_81 { length result ≤ serial_saved_max }
     {
         let (older, newer) = self.in_buffer.as_slices();
         let mut bytes = [0; SAVED_MAX];
@@ -198,8 +199,8 @@ impl Uart {
     /// [`SavedStateError::InvalidArmed`] or [`SavedStateError::InvalidFlags`].
     pub fn from_bytes(bytes: &[u8]) -> Result<Uart, SavedStateError>
         ensures encoding { IfOk result (λ port. bytes.now ≡ serial_encoding (state_of_uart port)) }
-        ensures at_most_64 { IfOk result (λ port. port.in_buffer.len ≤ 64) }
-        ensures read { (state : State) → length state.in_buffer ≤ 64 → bytes.now ≡ serial_encoding state →
+        ensures at_most_64 { IfOk result (λ port. port.in_buffer.len ≤ fifo_size) }
+        ensures read { (state : State) → length state.in_buffer ≤ fifo_size → bytes.now ≡ serial_encoding state →
             IsOkAnd result (λ port. state_of_uart port ≡ state) }
         ensures fault { result_err result ≡ serial_fault bytes.now }
     {

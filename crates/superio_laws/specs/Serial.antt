@@ -7,6 +7,7 @@ pub use Rattle.superio_core.specs.Bits.{without_bits}
 pub use Rattle.superio_core.specs.Serial.{
   SameSettings,
   State,
+  fifo_size,
   fresh_state,
   not_empty,
   state_with,

@@ -7,7 +7,7 @@ use Rattle.std.specs.Prelude.{ℕ, ◌+◌, ◌-◌, Bool, not, ◌==◌, ◌&&�
 use Rattle.std.specs.Bool.{beq}
 use Rattle.superio_core.specs.Serial.Operations.{Asked, Sent, Op, Read, Write, Enqueue, CharacterTimeout, Restore, Response, ByteRead, EnqueueOk, TimeoutOk, TriggerRefused, FifoFull, NoResponse, Event, buffer_read, out_byte, tx_lost_byte, in_buffer_empty, is_refused_at_once, recorded_write_response, count_if, is_sent, DecodedOp, IerWrite, ThrWrite, RxInput, Timeout, decode, sent_by, events_of_read}
 use Rattle.superio_core.specs.Bits.{has_bits, only_bits, with_bits, without_bits}
-use Rattle.superio_core.specs.Serial.{State, not_empty, register_read}
+use Rattle.superio_core.specs.Serial.{State, fifo_size, not_empty, register_read}
 use Rattle.superio_core.specs.Serial.RegisterMap.{Register, Dll, Dlm, Data, Ier, Iir, Lcr, Mcr, Scr, register_at, is_dlab, is_loopback, Condition, Rda, Thre, ier_bit, iir_bit, lsr_dr_bit, ier_bits}
 use Rattle.superio_core.specs.declared.serial.ReadEffects.{ReadEffects}
 use Rattle.superio_core.specs.declared.serial.WriteEffects.{WriteEffects}
@@ -51,7 +51,7 @@ raise_rda_while_held held enable identification =
 
 -- the first bytes, as many as fit beside the held ones: the FIFO holds at most 64
 abbrev pub bytes_that_fit : (held bytes : List ℕ) → List ℕ
-bytes_that_fit held bytes = take (64 - length held) bytes
+bytes_that_fit held bytes = take (fifo_size - length held) bytes
 
 -- an enqueue accepts the bytes that fit, and in loopback none; DLAB plays no part
 abbrev pub enqueued_bytes : (s : State) (bytes : List ℕ) → List ℕ
@@ -73,7 +73,7 @@ receive_bytes (byte ∷ bytes) s = record s {
 abbrev pub enqueue_step_response : (s : State) (bytes : List ℕ) (asked : Asked) → Response
 enqueue_step_response s bytes asked =
     if is_loopback s.modem_control || (length bytes == 0) then EnqueueOk 0
-    else (if nat_le 64 (length s.in_buffer) then FifoFull
+    else (if nat_le fifo_size (length s.in_buffer) then FifoFull
     else (if is_refused_at_once asked then TriggerRefused
     else EnqueueOk (length (enqueued_bytes s bytes))))
 
@@ -242,7 +242,7 @@ pub record IsUartEnqueue (bytes : List ℕ) (effects : EnqueueEffects) (old new 
   pub accepted : effects.accepted ≡ length (enqueued_bytes old bytes)
   pub fifo_full :
       effects.fifo_full
-      ≡ (not (is_loopback old.modem_control || (length bytes == 0)) && nat_le 64 (length old.in_buffer))
+      ≡ (not (is_loopback old.modem_control || (length bytes == 0)) && nat_le fifo_size (length old.in_buffer))
   pub interrupts : effects.interrupts ≡ step_calls old (Enqueue bytes)
   pub state : new ≡ step old (Enqueue bytes) Asked.Nothing
 

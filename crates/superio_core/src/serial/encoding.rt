@@ -4,8 +4,9 @@ ghost use Rattle.std.specs.Prelude.{◌≡◌, ◌≤◌, ◌+◌, length, List,
 ghost use Rattle.std.specs.Cmp.{on_equiv, on_per, partial_equiv_from_equiv};
 ghost use Rattle.std.specs.Cmp.Lexicographic.{pointwise, nat_list_eq_equiv};
 ghost use Rattle.std.specs.Result.{result_err};
-ghost use Rattle.superio_core.specs.Serial.{state_with, state_of_uart};
+ghost use Rattle.superio_core.specs.Serial.{fifo_size, state_with, state_of_uart};
 ghost use Rattle.superio_core.specs.Saved.{serial_encoding, serial_fault};
+ghost use Rattle.superio_core.specs.Sizes.{serial_saved_max};
 
 use super::super::fifo::FIFO_SIZE;
 use super::super::saved::{HEADER_SIZE, SERIAL_KIND, SavedStateError, decode_header, header};
@@ -32,7 +33,7 @@ impl Model for SerialEncoding {
 
     ghost view = { λ encoding. take encoding.count encoding.bytes };
 
-    ghost invariant = { λ encoding. encoding.count ≤ 81 };
+    ghost invariant = { λ encoding. encoding.count ≤ serial_saved_max };
 }
 
 impl SerialEncoding {
@@ -95,7 +96,7 @@ impl Registers {
         newer: &[u8],
         encoding: &mut [u8; SAVED_MAX],
     ) -> usize
-        requires { length older.now + length newer.now ≤ 64 }
+        requires { length older.now + length newer.now ≤ fifo_size }
         ensures count { result ≡ length (serial_encoding (state_with self.now (older.now ++ newer.now))) }
         ensures encoding { encoding.new
             ≡ serial_encoding (state_with self.now (older.now ++ newer.now)) ++ drop result encoding.old }
@@ -109,7 +110,7 @@ impl Registers {
 
     /// The start of the encoding of a port with these registers and `held` received bytes.
     fn encode_prefix(&self, held: usize) -> [u8; SAVED_MIN]
-        requires { held ≤ 64 }
+        requires { held ≤ fifo_size }
         ensures { (in_buffer : List ℕ) → length in_buffer ≡ held →
             result ++ in_buffer ≡ serial_encoding (state_with self.now in_buffer) }
     {
@@ -146,7 +147,7 @@ impl Registers {
 /// Returns the errors of [`Uart::from_bytes`].
 pub(super) fn decode_serial(bytes: &[u8]) -> Result<(Registers, &[u8]), SavedStateError>
     ensures encoding { IfOk result (λ found. bytes.now ≡ serial_encoding (state_with found.0 found.1.now)) }
-    ensures at_most_64 { IfOk result (λ found. length found.1.now ≤ 64) }
+    ensures at_most_64 { IfOk result (λ found. length found.1.now ≤ fifo_size) }
     ensures fault { result_err result ≡ serial_fault bytes.now }
 {
     match decode_header(SERIAL_KIND, bytes)? {

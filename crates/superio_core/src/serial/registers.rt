@@ -3,7 +3,7 @@
 //! that they hold.
 ghost use Rattle.std.specs.Prelude.{◌≡◌, ◌↔◌, ◌≤◌, if◌then◌else◌, ℕ, Bool, List, [], length, IsTrue};
 ghost use Rattle.superio_core.specs.Bits.{has_bits, only_bits, with_bits, without_bits};
-ghost use Rattle.superio_core.specs.Serial.{fresh_state, state_with, register_bytes, not_empty, Coherent};
+ghost use Rattle.superio_core.specs.Serial.{fifo_size, fresh_state, state_with, register_bytes, not_empty, Coherent};
 ghost use Rattle.superio_core.specs.Serial.RegisterMap.{identification_of};
 
 // Offsets. DLL and DLM replace RBR, THR and IER while DLAB is set.
@@ -241,7 +241,7 @@ impl Registers {
     /// and otherwise none: LSR shows data ready exactly if it holds some, IIR is 1, 2, 4 or 6, and RDA is pending only
     /// if it holds some.
     pub fn is_coherent(&self, holds_bytes: bool) -> bool
-        ensures { (bytes : List ℕ) → not_empty bytes ≡ holds_bytes → length bytes ≤ 64 →
+        ensures { (bytes : List ℕ) → not_empty bytes ≡ holds_bytes → length bytes ≤ fifo_size →
             IsTrue result ↔ Coherent (state_with self.now bytes) }
     {
         has_bits(self.line_status, LSR_DATA_READY_BIT) == holds_bytes

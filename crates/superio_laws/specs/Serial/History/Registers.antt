@@ -3,7 +3,7 @@
 -- is kept along a trace: each definition searches the start and the trace. Restores change nothing.
 use Rattle.std.specs.Prelude.{◌≡◌, ℕ, ◌-◌, Bool, ◌==◌, if◌then◌else◌, List, [], ◌∷◌, ◌++◌, length, take, drop, Option, Some, None, unwrap_or}
 use Rattle.std.specs.Option.{option_or, option_map_or}
-use Rattle.superio_laws.specs.Serial.{only_bits, ier_bits, State, is_dlab, is_loopback, Op, Write, Trace, DecodedOp, RbrRead, RxInput, decode}
+use Rattle.superio_laws.specs.Serial.{only_bits, ier_bits, State, fifo_size, is_dlab, is_loopback, Op, Write, Trace, DecodedOp, RbrRead, RxInput, decode}
 
 -- ---- the last effective write to a register
 
@@ -80,7 +80,7 @@ decode_at start trace op = decode (dlab_after start trace) (loopback_after start
 
 -- of the bytes that come in, the first are accepted, as many as fit beside the held ones in a FIFO of 64
 abbrev pub accepted_by : (kind : DecodedOp) (held : List ℕ) → List ℕ
-accepted_by (RxInput bytes) held = take (64 - length held) bytes
+accepted_by (RxInput bytes) held = take (fifo_size - length held) bytes
 accepted_by _ held = []
 
 -- an RBR read takes the first held byte, if there is one

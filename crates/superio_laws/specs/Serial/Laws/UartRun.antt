@@ -2,7 +2,7 @@
 -- The laws by which a port without objects and the history agree. What the caller finds when it carries out the effects
 -- changes nothing, so the start and the operations alone determine every read, interrupt, event and byte sent.
 use Rattle.std.specs.Prelude.{◌≡◌, ⊤, ℕ, ◌+◌, ◌*◌, ◌≤◌, not, ◌==◌, ◌&&◌, ◌||◌, nat_le, if◌then◌else◌, List, [], ◌∷◌, ◌++◌, length, take, drop, count_by, Bool, false}
-use Rattle.superio_laws.specs.Serial.{turned_on_count, enqueued_bytes, RdaCoversHeldBytes, Rda, decode_in, Asked, Sent, events_of_read, Read, Write, Enqueue, CharacterTimeout, Restore, TraceEntry, Trace, Op, sent_by, is_iir_read, is_rbr_read, ReadEffects, WriteEffects, EnqueueEffects, State, not_empty, Coherent, conditions_due, IsUartRead, IsUartWrite, IsUartEnqueue, IsUartTimeout}
+use Rattle.superio_laws.specs.Serial.{turned_on_count, enqueued_bytes, RdaCoversHeldBytes, Rda, decode_in, Asked, Sent, events_of_read, Read, Write, Enqueue, CharacterTimeout, Restore, TraceEntry, Trace, Op, sent_by, is_iir_read, is_rbr_read, ReadEffects, WriteEffects, EnqueueEffects, State, fifo_size, not_empty, Coherent, conditions_due, IsUartRead, IsUartWrite, IsUartEnqueue, IsUartTimeout}
 use Rattle.superio_laws.specs.Serial.History.{calls_due, history_events, guest_read, output, state_of_history, decode_at, loopback_after, accepted_by, held_bytes, conditions_due_after, decoded_ops, acknowledges}
 
 -- a call with its effects
@@ -65,7 +65,7 @@ EffectsAre start trace (UartWrite offset value effects) =
 EffectsAre start trace (UartEnqueue bytes effects) =
     (effects.accepted ≡ length (accepted_by (decode_at start trace (Enqueue bytes)) (held_bytes start trace)))
     × (effects.fifo_full
-    ≡ (not (loopback_after start trace || (length bytes == 0)) && nat_le 64 (length (held_bytes start trace))))
+    ≡ (not (loopback_after start trace || (length bytes == 0)) && nat_le fifo_size (length (held_bytes start trace))))
     × (effects.interrupts ≡ calls_due start trace (Enqueue bytes))
 EffectsAre start trace (UartTimeout interrupts) = interrupts ≡ calls_due start trace CharacterTimeout
 EffectsAre start trace (UartRestore interrupts) = interrupts ≡ length (conditions_due_after start trace)
