@@ -45,6 +45,7 @@ pub use Rattle.superio_laws.specs.Serial.{
   EnqueueOk,
   Event,
   events_of_read,
+  fifo_size,
   FifoFull,
   fresh_state,
   identification_of,

@@ -1,6 +1,7 @@
 // SPDX-License-Identifier: Apache-2.0 OR BSD-3-Clause
 //! The receive FIFO of a port with objects: a ring on the heap.
 ghost use Rattle.std.specs.Prelude.{◌≡◌, ◌≤◌, List, ℕ, [], length, IfOk};
+ghost use Rattle.superio_core.specs.Sizes.{fifo_size};
 
 use circular_buffer::HeapCircularBuffer;
 use std::alloc::{AllocError, Global};
@@ -18,7 +19,7 @@ impl Model for Fifo {
 
     ghost view = { λ fifo. fifo.bytes.items };
 
-    ghost invariant = { λ fifo. (fifo.bytes.capacity ≡ 64) × (length fifo.bytes.items ≤ 64) };
+    ghost invariant = { λ fifo. (fifo.bytes.capacity ≡ fifo_size) × (length fifo.bytes.items ≤ fifo_size) };
 }
 
 impl Fifo {
@@ -40,7 +41,7 @@ impl Fifo {
     ///
     /// Returns `AllocError` if allocation fails.
     pub(crate) fn from_slice(alloc: Global, bytes: &[u8]) -> Result<Self, AllocError>
-        requires { length bytes.now ≤ 64 }
+        requires { length bytes.now ≤ fifo_size }
         ensures { IfOk result (λ fifo. fifo ≡ bytes.now) }
     {
         let mut fifo = Self::new(alloc)?;
@@ -51,7 +52,7 @@ impl Fifo {
     /// A copy of the bytes.
     pub(crate) fn to_vec(&self, alloc: Global) -> Result<Vec<u8>, AllocError>
         ensures bytes { IfOk result (λ bytes. bytes.items ≡ self.now) }
-        ensures bound { length self.now ≤ 64 }
+        ensures bound { length self.now ≤ fifo_size }
     {
         self.bytes.to_vec(alloc)
     }

@@ -3,7 +3,7 @@
 ghost use Rattle.vm_superio.specs.Links.{all_ok, RefusesOwnState};
 ghost use Rattle.std.specs.Prelude.{◌≡◌, ◌<◌, ◌≤◌, ◌+◌, ◌-◌, ◌==◌, not, ℕ, [], ◌∷◌, ◌++◌, if◌then◌else◌, false, length, vec_len, IsErr, IfOk, OnOk, OnErr, IfErr};
 ghost use Rattle.vm_superio.specs.Saved.{state_of};
-ghost use Rattle.vm_superio.specs.Serial.{Coherent, fresh_state, irq_level, conditions_due};
+ghost use Rattle.vm_superio.specs.Serial.{Coherent, fifo_size, fresh_state, irq_level, conditions_due};
 ghost use Rattle.vm_superio.specs.Serial.Step.{RefusesRestore};
 
 mod bounded;
@@ -116,7 +116,7 @@ impl<T: Trigger, EV: SerialEvents, W: Write> Serial<T, EV, W> {
         ensures coherent { IfOk result (λ serial. Coherent (state_of state.now) → Coherent serial.state) }
 
         // Why it is refused, and the objects then.
-        ensures too_many { 64 < vec_len state.now.in_buffer → IsErr result }
+        ensures too_many { fifo_size < vec_len state.now.in_buffer → IsErr result }
         ensures refused { IfErr result (λ refused.
             RefusesRestore T.link (state_of state.now) refused.error trigger refused.trigger) }
         ensures events_back { IfErr result (λ refused. refused.events ≡ serial_evts) }
@@ -188,7 +188,7 @@ impl<T: Trigger, EV: SerialEvents, W: Write> Serial<T, EV, W> {
     /// Returns `AllocError` if allocating the received bytes fails.
     pub fn state(&self, alloc: Global) -> Result<SerialState, AllocError>
         ensures saved { IfOk result (λ saved. state_of saved ≡ self.now.state) }
-        ensures at_most_64 { length self.now.state.in_buffer ≤ 64 }
+        ensures at_most_64 { length self.now.state.in_buffer ≤ fifo_size }
         ensures coherent { IfOk result (λ saved. Coherent self.now.state → Coherent (state_of saved)) }
     {
         let in_buffer = self.in_buffer.to_vec(alloc)?;
@@ -337,7 +337,7 @@ impl<T: Trigger, EV: SerialEvents, W: Write> Serial<T, EV, W> {
             ≤ pending_count self.new.state + acknowledged_at offset }
         // A read of any register except RBR and IIR changes nothing.
         ensures rest_unchanged { decode_in self.old.state (Read offset) ≡ Other → self.new ≡ self.old }
-        ensures at_most_64 { length self.new.state.in_buffer ≤ 64 }
+        ensures at_most_64 { length self.new.state.in_buffer ≤ fifo_size }
         ensures trigger { self.new.trigger ≡ self.old.trigger }
         ensures out { self.new.out ≡ self.old.out }
         ensures coherent { Coherent self.old.state → Coherent self.new.state }
@@ -401,9 +401,9 @@ impl<T: Trigger, EV: SerialEvents, W: Write> Serial<T, EV, W> {
 
     /// How many bytes may still be enqueued: 64 minus the number of held bytes.
     pub fn fifo_capacity(&self) -> usize
-        ensures value { result ≡ 64 - length self.now.state.in_buffer }
-        ensures bound { length self.now.state.in_buffer ≤ 64 }
-        ensures room_plus_held { result + length self.now.state.in_buffer ≡ 64 }
+        ensures value { result ≡ fifo_size - length self.now.state.in_buffer }
+        ensures bound { length self.now.state.in_buffer ≤ fifo_size }
+        ensures room_plus_held { result + length self.now.state.in_buffer ≡ fifo_size }
     {
         FIFO_SIZE - self.in_buffer.len()
     }

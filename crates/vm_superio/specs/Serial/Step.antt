@@ -3,7 +3,7 @@
 -- refused; and what stands after a call that failed.
 use Rattle.std.specs.Prelude.{◌≡◌, ℕ, ◌+◌, ◌==◌, length, List, IsTrue, Option, None, Result, is_some, ◌<◌, ◌≤◌, ◌-◌, ◌++◌, take}
 use Rattle.std.specs.Bool.{OnFalse}
-use Rattle.vm_superio.specs.Serial.{Error, SerialView, bytes_sent, outcome_of, turned_on_count, write_response, enqueue_response, timeout_response, refusal_in_result, FullFifo, Trigger, IOError, Asked, Sent, Op, Read, Write, Enqueue, CharacterTimeout, Restore, Response, ByteRead, NoResponse, Event, ends_in_refusal, count_if, has_bits, only_bits, State, Rda, Thre, iir_bit, step, step_response, step_events, answers_fit, sends_byte, conditions_due}
+use Rattle.vm_superio.specs.Serial.{Error, SerialView, bytes_sent, outcome_of, turned_on_count, write_response, enqueue_response, timeout_response, refusal_in_result, FullFifo, Trigger, IOError, Asked, Sent, Op, Read, Write, Enqueue, CharacterTimeout, Restore, Response, ByteRead, NoResponse, Event, ends_in_refusal, count_if, has_bits, only_bits, State, fifo_size, Rda, Thre, iir_bit, step, step_response, step_events, answers_fit, sends_byte, conditions_due}
 use Rattle.vm_superio.specs.Links.{Link, TriggerAnswer, Contents, answers_of, RefusesOwnState}
 use Rattle.vm_superio.specs.Links.Writer.{SerialLinks, serial_links, WriterLink}
 
@@ -107,9 +107,9 @@ module _ {T E EV W : Type 0} (trigger : Link T (TriggerAnswer E)) (events : Link
 -- not called, or it holds at most 64, and the reason is one for which a port's own state is refused
 abbrev pub RefusesRestore :
     {T E : Type 0} → (link : Link T (TriggerAnswer E)) (s : State) (error : Error E) (old new : T) → Type 0
-RefusesRestore link s FullFifo old new = (64 < length s.in_buffer) × (new ≡ old)
+RefusesRestore link s FullFifo old new = (fifo_size < length s.in_buffer) × (new ≡ old)
 RefusesRestore link s error old new =
-    (length s.in_buffer ≤ 64) × RefusesOwnState link (conditions_due s) error old new
+    (length s.in_buffer ≤ fifo_size) × RefusesOwnState link (conditions_due s) error old new
 
 -- ---- what stands after a call that failed
 
@@ -131,8 +131,9 @@ module _ {E : Type 0} where
   abbrev pub EnqueueFate : (input : List ℕ) (error : Error E) (old new : State) → Type 0
   EnqueueFate input (Trigger refusal) old new =
       ShowsMore old new
-      × (new.in_buffer ≡ old.in_buffer ++ take ((64 - length old.in_buffer) - (64 - length new.in_buffer)) input)
-  EnqueueFate input FullFifo old new = 64 ≤ length old.in_buffer
+      × (new.in_buffer
+      ≡ old.in_buffer ++ take ((fifo_size - length old.in_buffer) - (fifo_size - length new.in_buffer)) input)
+  EnqueueFate input FullFifo old new = fifo_size ≤ length old.in_buffer
   EnqueueFate input _ old new = ⊥
 
   -- a character timeout. If the trigger refused a call, IIR shows RDA nonetheless. It fails for no other reason

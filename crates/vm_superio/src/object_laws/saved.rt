@@ -2,7 +2,7 @@
 //! The laws of saved states. The round trips are calls whose contracts are the laws.
 ghost use Rattle.std.specs.Prelude.{◌≡◌, ◌≤◌, length, IfOk, MatchResult};
 ghost use Rattle.vm_superio.specs.Saved.{state_of, SerialVersionLaw, ClockVersionLaw, OtherSerialVersionLaw, OtherClockVersionLaw};
-ghost use Rattle.superio_core.specs.Serial.{state_of_uart};
+ghost use Rattle.superio_core.specs.Serial.{fifo_size, state_of_uart};
 ghost use Rattle.superio_core.specs.Saved.{SerialEncodingLaw, OneSerialStateLaw, ClockEncodingLaw, OneClockStateLaw};
 
 use crate::saved::{LoadError, SavedStateError};
@@ -44,7 +44,7 @@ pub fn serial_written_then_read(
     alloc: Global,
     state: &SerialState,
 ) -> Result<SerialState, LoadError>
-    ensures read { length state.now.in_buffer.items ≤ 64 →
+    ensures read { length state.now.in_buffer.items ≤ fifo_size →
         MatchResult result (λ read. state_of read ≡ state_of state.now) (λ error. error ≡ LoadError.Memory) }
     ensures same { IfOk result (λ read. state_of read ≡ state_of state.now) }
 {
@@ -75,7 +75,7 @@ pub fn clock_read_then_written(bytes: &[u8]) -> Result<[u8; SAVED_SIZE], SavedSt
 /// A state that is made a port and then a state again is the same state, unless memory is refused. A state with more
 /// than 64 received bytes has no port.
 pub fn state_to_uart_and_back(alloc: Global, state: &SerialState) -> Result<SerialState, LoadError>
-    ensures back { length state.now.in_buffer.items ≤ 64 →
+    ensures back { length state.now.in_buffer.items ≤ fifo_size →
         MatchResult result (λ back. state_of back ≡ state_of state.now) (λ error. error ≡ LoadError.Memory) }
     ensures same { IfOk result (λ back. state_of back ≡ state_of state.now) }
 {

@@ -2,7 +2,7 @@
 //! The state of a serial port, and its encoding.
 ghost use Rattle.std.specs.Prelude.{◌≡◌, ◌↔◌, ◌≤◌, ℕ, length, IfOk, IfErr, IsOk, IfSome, IsTrue, MatchResult};
 ghost use Rattle.vm_superio.specs.Saved.{state_of};
-ghost use Rattle.superio_core.specs.Serial.{State, fresh_state, Coherent};
+ghost use Rattle.superio_core.specs.Serial.{State, fifo_size, fresh_state, Coherent};
 ghost use Rattle.superio_core.specs.Saved.{serial_encoding, serial_fault};
 
 use crate::saved::{LoadError, SavedStateError};
@@ -72,7 +72,7 @@ impl SerialState {
     /// Returns `AllocError` if allocating the received bytes fails.
     pub fn from_uart(alloc: Global, port: &Uart) -> Result<SerialState, AllocError>
         ensures state { IfOk result (λ state. state_of state ≡ state_of_uart port.now) }
-        ensures at_most_64 { IfOk result (λ state. length state.in_buffer.items ≤ 64) }
+        ensures at_most_64 { IfOk result (λ state. length state.in_buffer.items ≤ fifo_size) }
     {
         let mut held = port.in_buffer.clone()?;
         let mut in_buffer = Vec::with_capacity(alloc, held.len())?;
@@ -90,7 +90,7 @@ impl SerialState {
     /// Returns [`SavedStateError::TooManyBytes`] if the state has more than 64 received bytes.
     pub fn to_uart(&self) -> Result<Uart, SavedStateError>
         ensures port { IfOk result (λ port. state_of_uart port ≡ state_of self.now) }
-        ensures at_most_64 { IsOk result ↔ (length self.now.in_buffer.items ≤ 64) }
+        ensures at_most_64 { IsOk result ↔ (length self.now.in_buffer.items ≤ fifo_size) }
         ensures too_many { IfErr result (λ error. error ≡ SavedStateError.TooManyBytes) }
     {
         if self.in_buffer.len() > FIFO_SIZE {
@@ -162,7 +162,7 @@ impl SerialState {
     /// Returns [`SavedStateError::TooManyBytes`] if the state has more than 64 received bytes, and so no encoding.
     pub fn to_bytes(&self) -> Result<SerialEncoding, SavedStateError>
         ensures encoding { IfOk result (λ encoding. encoding ≡ serial_encoding (state_of self.now)) }
-        ensures at_most_64 { IsOk result ↔ (length self.now.in_buffer.items ≤ 64) }
+        ensures at_most_64 { IsOk result ↔ (length self.now.in_buffer.items ≤ fifo_size) }
         ensures too_many { IfErr result (λ error. error ≡ SavedStateError.TooManyBytes) }
     {
         Ok(self.to_uart()?.to_bytes())
@@ -178,9 +178,9 @@ impl SerialState {
     /// [`LoadError::Memory`] if allocating the received bytes fails.
     pub fn from_bytes(alloc: Global, bytes: &[u8]) -> Result<SerialState, LoadError>
         ensures encoding { IfOk result (λ state. bytes.now ≡ serial_encoding (state_of state)) }
-        ensures read { (state : State) → length state.in_buffer ≤ 64 → bytes.now ≡ serial_encoding state →
+        ensures read { (state : State) → length state.in_buffer ≤ fifo_size → bytes.now ≡ serial_encoding state →
             MatchResult result (λ saved. state_of saved ≡ state) (λ error. error ≡ LoadError.Memory) }
-        ensures at_most_64 { IfOk result (λ state. length state.in_buffer.items ≤ 64) }
+        ensures at_most_64 { IfOk result (λ state. length state.in_buffer.items ≤ fifo_size) }
         ensures fault { IfSome (serial_fault bytes.now) (λ fault. result ≡ Err (LoadError.Invalid fault)) }
         ensures memory { serial_fault bytes.now ≡ None → IfErr result (λ error. error ≡ LoadError.Memory) }
     {
