@@ -1,10 +1,11 @@
 // SPDX-License-Identifier: Apache-2.0 OR BSD-3-Clause
 //! A serial port with the monitor's end of its line. Its struct is `superio_console` in the header.
 ghost use Rattle.std.specs.Prelude.{◌≡◌, ◌≢◌, ◌≤◌, ◌==◌, not, min, length, take, drop};
-ghost use Rattle.superio_core.specs.Serial.{CoherentUart};
+ghost use Rattle.superio_core.specs.Serial.{fifo_size, CoherentUart};
 ghost use Rattle.superio_console.specs.Console.{ConsoleState, state_of, new_console, wants_of, shown_at, after, work_of};
 ghost use Rattle.superio_console.specs.Console.{Reads, Writes, Receives, Consumes, Turns, Refuses, Resets, Suspends, SetsPolled};
-ghost use Rattle.superio_console.specs.Saved.{console_encoding, console_fault, IsConsole};
+ghost use Rattle.superio_console.specs.OutputRing.{output_size};
+ghost use Rattle.superio_console.specs.Saved.{console_encoding, console_fault, console_saved_max, IsConsole};
 ghost use Rattle.superio_c.specs.Saved.{load_status};
 
 use super::saved::{LOADED, load_status};
@@ -47,7 +48,7 @@ pub extern "C" fn superio_console_write(console: &mut Console, offset: u8, value
 #[unsafe(no_mangle)]
 pub extern "C" fn superio_console_wants(console: &Console) -> Wants
     ensures value { result ≡ wants_of (state_of console.now) }
-    ensures at_most_64 { result.input ≤ 64 }
+    ensures at_most_64 { result.input ≤ fifo_size }
 {
     console.wants()
 }
@@ -91,7 +92,7 @@ pub extern "C" fn superio_console_consume(console: &mut Console, count: usize)
 /// Whether the output has no room.
 #[unsafe(no_mangle)]
 pub extern "C" fn superio_console_is_full(console: &Console) -> bool
-    ensures { result ≡ (length (state_of console.now).output == 4096) }
+    ensures { result ≡ (length (state_of console.now).output == output_size) }
 {
     console.is_full()
 }
@@ -164,7 +165,7 @@ pub extern "C" fn superio_console_save(
     bytes: &mut [u8; CONSOLE_SAVED_MAX],
 ) -> usize
     ensures count { result ≡ length (console_encoding (state_of console.now)) }
-    ensures at_most_4196 { result ≤ 4196 }
+    ensures at_most_4196 { result ≤ console_saved_max }
     ensures encoding { take result bytes.new ≡ console_encoding (state_of console.now) }
     ensures rest_unchanged { drop result bytes.new ≡ drop result bytes.old }
 {
@@ -179,7 +180,7 @@ pub extern "C" fn superio_console_load(console: &mut Console, bytes: &[u8]) -> u
     ensures loaded { result ≡ 0 → bytes.now ≡ console_encoding (state_of console.new) }
     ensures read { (state : ConsoleState) → IsConsole state → bytes.now ≡ console_encoding state →
         result ≡ 0 × state_of console.new ≡ state }
-    ensures at_most_64 { result ≡ 0 → console.new.port.in_buffer.len ≤ 64 }
+    ensures at_most_64 { result ≡ 0 → console.new.port.in_buffer.len ≤ fifo_size }
     ensures refused { result ≢ 0 → console.new ≡ console.old }
 {
     match console.load(bytes) {

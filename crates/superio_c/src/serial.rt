@@ -1,7 +1,7 @@
 // SPDX-License-Identifier: Apache-2.0 OR BSD-3-Clause
 //! The serial port. Its struct is `superio_serial` in the header: nine registers, then the received bytes.
 ghost use Rattle.std.specs.Prelude.{◌≡◌, ◌↔◌, ◌≤◌, ◌-◌, ◌==◌, not, length, IsTrue};
-ghost use Rattle.superio_core.specs.Serial.{state_of_uart, CoherentUart, RdaCoversHeldBytes, fresh_state, irq_level, conditions_due};
+ghost use Rattle.superio_core.specs.Serial.{fifo_size, state_of_uart, CoherentUart, RdaCoversHeldBytes, fresh_state, irq_level, conditions_due};
 ghost use Rattle.superio_core.specs.Serial.Step.{IsUartRead, IsUartWrite, IsUartEnqueue, IsUartTimeout};
 
 use superio_core::serial::{EnqueueEffects, ReadEffects, Uart, WriteEffects};
@@ -58,8 +58,8 @@ pub extern "C" fn superio_serial_character_timeout(port: &mut Uart) -> u8
 /// How many bytes fit.
 #[unsafe(no_mangle)]
 pub extern "C" fn superio_serial_fifo_capacity(port: &Uart) -> usize
-    ensures value { result ≡ 64 - length (state_of_uart port.now).in_buffer }
-    ensures bound { length (state_of_uart port.now).in_buffer ≤ 64 }
+    ensures value { result ≡ fifo_size - length (state_of_uart port.now).in_buffer }
+    ensures bound { length (state_of_uart port.now).in_buffer ≤ fifo_size }
 {
     port.fifo_capacity()
 }
