@@ -40,11 +40,15 @@ remaining_fields (Some rest) = fields_of rest.now
 abbrev pub bytes_of : (count : ℕ) (field : List ℕ) → Option (List ℕ)
 bytes_of count field = result_ok (decode_sized field count)
 
+-- how many bytes a field has at most
+abbrev pub field_limit : ℕ
+field_limit = 128
+
 -- 1 to 128 bytes, of two digits each
 abbrev pub field_bytes_of : (field : List ℕ) → Option (List ℕ)
 field_bytes_of field =
     let count = length field / 2 in
-    if nat_le 1 count && nat_le count 128 then bytes_of count field else None
+    if nat_le 1 count && nat_le count field_limit then bytes_of count field else None
 
 -- ---- the first of the fields
 

@@ -83,6 +83,10 @@ counts_after_clock_event counts invalid_write =
 
 -- ---- what a contract sees of an output
 
+-- how many bytes it takes at most
+abbrev pub output_limit : ℕ
+output_limit = 256
+
 -- the bytes that it has taken, oldest first
 abbrev pub written_bytes : (output : Output) → List ℕ
 written_bytes output = output.bytes.items

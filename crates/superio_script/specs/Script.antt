@@ -4,6 +4,7 @@ use Rattle.std.specs.Prelude.{◌≡◌, ℕ, ◌+◌, ◌≤◌, List, [], ◌�
 use Rattle.std.specs.List.{list_all}
 use Rattle.std.specs.Io.KnownBytes.{Appends, Consumes, IsAtEnd}
 use Rattle.superio_script.specs.Fields.{lines_of}
+use Rattle.superio_script.specs.Objects.{output_limit}
 use Rattle.superio_script.specs.Command.{command_of, mask_of, Command, Serial, Clock, Controller, SerialCommand, ClockCommand, ControllerCommand}
 use Rattle.superio_script.specs.Reply.{controller_reply}
 use Rattle.superio_laws.specs.Rtc.{Access}
@@ -105,15 +106,19 @@ first_bad_line_of script = first_bad_line (body_of script).first (body_of script
 -- holds after. The board's output has room for 256 bytes, so the 257th is lost unless an earlier one is
 pub record PrintsLines (mask : ℕ) (lines : List (List ℕ)) (before after : Option (List ℕ)) : Type 0 where
   pub outcomes : List Outcome
-  pub within_room : out_before_loss outcomes ≤ 256
+  pub within_room : out_before_loss outcomes ≤ output_limit
   pub printed : List (List ℕ)
   pub short : IsTrue (all_short printed)
   pub written : Appends before after (text_of mask lines outcomes printed)
 
+-- how many bytes a script has at most
+abbrev pub script_limit : ℕ
+script_limit = 65536
+
 -- a run read the whole script, which is within the limit, found this line to be the first bad one, and wrote the text
 -- of the lines before it: what remains in the reader, and what the writer held before and holds after
 pub record RunsUpTo (bad : Option ℕ) (script : List ℕ) (left before after : Option (List ℕ)) : Type 0 where
-  pub within_limit : length script ≤ 65536
+  pub within_limit : length script ≤ script_limit
   pub none_left : IsAtEnd left
   pub first_bad : first_bad_line_of script ≡ bad
   pub text : PrintsLines (body_of script).mask (body_of script).lines before after

@@ -1,7 +1,7 @@
 // SPDX-License-Identifier: Apache-2.0 OR BSD-3-Clause
 //! A driver on the guest's side of a serial port.
 ghost use Rattle.std.specs.Prelude.{◌≡◌, ◌≤◌, [], ◌++◌, length, false, IsTrue};
-ghost use Rattle.vm_superio.specs.Serial.{has_bits, lcr_dlab_bit, lsr_dr_bit, Coherent, is_dlab};
+ghost use Rattle.vm_superio.specs.Serial.{fifo_size, has_bits, lcr_dlab_bit, lsr_dr_bit, Coherent, is_dlab};
 ghost use Rattle.superio_script.specs.Driver.{ReadsWhileReady, TakesAll};
 
 use arrayvec::ArrayVec;
@@ -32,7 +32,7 @@ pub fn drain<T: Trigger, EV: SerialEvents, W: Write>(
 ) -> ArrayVec<u8, 64>
     // In any state.
     ensures reads { ReadsWhileReady T.link EV.link W.contents result.items serial.old serial.new }
-    ensures at_most_64 { length result.items ≤ 64 }
+    ensures at_most_64 { length result.items ≤ fifo_size }
     ensures dlab_reads_nothing { IsTrue (is_dlab serial.old.state.line_control) → result.items ≡ [] }
     ensures stops_when_not_ready { is_dlab serial.old.state.line_control ≡ false
         → has_bits serial.new.state.line_status lsr_dr_bit ≡ false }

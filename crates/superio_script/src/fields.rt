@@ -3,7 +3,7 @@
 ghost use Rattle.std.specs.Prelude.{◌≡◌, ◌≢◌, List, ℕ, [], ◌∷◌, ◌==◌, position, IfSome, IfNone, MatchOption};
 ghost use Rattle.std.specs.Int.{w8, w16, w32, w64};
 ghost use Rattle.superio_script.specs.Fields.{pieces_of, fields_of, remaining_fields, lines_of};
-ghost use Rattle.superio_script.specs.Fields.{bytes_of, field_bytes_of, first_array, first_number, first_bytes, later_fields, end};
+ghost use Rattle.superio_script.specs.Fields.{bytes_of, field_bytes_of, field_limit, first_array, first_number, first_bytes, later_fields, end};
 
 use arrayvec::ArrayVec;
 use std::marker::Model;
@@ -96,7 +96,7 @@ impl FieldBytes {
 
     /// These bytes, at most 128.
     fn of(bytes: &[u8]) -> FieldBytes
-        requires { length bytes.now ≤ 128 }
+        requires { length bytes.now ≤ field_limit }
         ensures { result ≡ bytes.now }
     {
         let mut field = ArrayVec::new();

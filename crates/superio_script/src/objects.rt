@@ -244,14 +244,14 @@ impl Output {
 }
 
 impl Write for Output {
-    ghost use Rattle.superio_script.specs.Objects.{written_bytes};
+    ghost use Rattle.superio_script.specs.Objects.{output_limit, written_bytes};
 
     ghost contents = { λ output. Some (written_bytes output) };
 
     fn write(&mut self, buf: &[u8]) -> io::Result<usize>
         ensures bound { WritesAtMost result buf.now }
         ensures bytes { WriteAppends (Some (written_bytes self.old)) (Some (written_bytes self.new)) result buf.now }
-        ensures count { result ≡ Ok (min (256 - length (written_bytes self.old)) (length buf.now)) }
+        ensures count { result ≡ Ok (min (output_limit - length (written_bytes self.old)) (length buf.now)) }
     {
         self.bytes.write(buf)
     }

@@ -3,18 +3,22 @@
 //! early.
 ghost use Rattle.std.specs.Prelude.{◌≡◌, ◌+◌, ◌*◌, ◌<◌, ◌≤◌, [], ◌∷◌, ◌++◌, length};
 ghost use Rattle.hex.specs.Hex.{encode_lower};
+ghost use Rattle.superio_script.specs.Objects.{output_limit};
 ghost use Rattle.superio_script.specs.Reply.{with_lf, digits_reply, count_digits};
 
 use arrayvec::ArrayVec;
 use std::error::Error;
 use std::fmt;
 
-/// A reply with its LF. The longest has 512 digits, for the 256 bytes that the serial port's output can hold.
-pub type ReplyText = ArrayVec<u8, 513>;
+/// The longest reply: 512 digits, for the 256 bytes that the serial port's output can hold, and LF.
+pub const REPLY_LIMIT: usize = 513;
+
+/// A reply with its LF.
+pub type ReplyText = ArrayVec<u8, REPLY_LIMIT>;
 
 /// The text, and LF.
 pub(crate) fn reply_text(text: &[u8]) -> ReplyText
-    requires { length text.now < 513 }
+    requires { length text.now < REPLY_LIMIT }
     ensures { result.items ≡ with_lf text.now }
 {
     let mut reply = ReplyText::new();
@@ -25,8 +29,8 @@ pub(crate) fn reply_text(text: &[u8]) -> ReplyText
 
 /// Appends two digits for each byte, to a reply of several fields.
 pub(crate) fn push_digits(reply: &mut ReplyText, bytes: &[u8])
-    requires at_most_256 { length bytes.now ≤ 256 }
-    requires room { length reply.old.items + 2 * length bytes.now ≤ 513 }
+    requires at_most_256 { length bytes.now ≤ output_limit }
+    requires room { length reply.old.items + 2 * length bytes.now ≤ REPLY_LIMIT }
     ensures digits { reply.new.items ≡ reply.old.items ++ encode_lower bytes.now }
     ensures longer { length reply.new.items ≡ length reply.old.items + 2 * length bytes.now }
 {
@@ -38,7 +42,7 @@ pub(crate) fn push_digits(reply: &mut ReplyText, bytes: &[u8])
 
 /// Two digits for each byte, and LF.
 pub(crate) fn reply_digits(bytes: &[u8]) -> ReplyText
-    requires { length bytes.now ≤ 256 }
+    requires { length bytes.now ≤ output_limit }
     ensures { result.items ≡ digits_reply bytes.now }
 {
     let mut reply = ReplyText::new();

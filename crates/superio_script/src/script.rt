@@ -3,7 +3,7 @@
 ghost use Rattle.std.specs.Prelude.{◌≡◌, ◌≢◌, ◌⊎◌, ℕ, ◌+◌, ◌^◌, ◌<◌, ◌≤◌, length, IfOk, IfErr, IfSome, OnOk, vec_len, take, Some, None};
 ghost use Rattle.std.specs.Io.KnownBytes.{Consumes, IsAtEnd};
 ghost use Rattle.superio_script.specs.Fields.{lines_of};
-ghost use Rattle.superio_script.specs.Script.{body_of, first_bad_line, PrintsLines, StopsWithoutMemory, RunsUpTo, EndsWithoutMemory, ReadsBytes};
+ghost use Rattle.superio_script.specs.Script.{body_of, first_bad_line, script_limit, PrintsLines, StopsWithoutMemory, RunsUpTo, EndsWithoutMemory, ReadsBytes};
 
 use crate::command::refused_mask;
 use crate::devices::Board;
@@ -46,11 +46,11 @@ fn fill<R: Read>(reader: &mut R, room: &mut [u8]) -> io::Result<usize>
 fn read_script<R: Read>(alloc: Global, reader: &mut R) -> Result<Vec<u8>, ScriptFault>
     ensures whole { IfOk result (λ script. IfSome (R.remaining reader.old) (λ all. script.items ≡ all)) }
     ensures none_left { OnOk result (IsAtEnd (R.remaining reader.new)) }
-    ensures within_limit { IfOk result (λ script. vec_len script ≤ 65536) }
+    ensures within_limit { IfOk result (λ script. vec_len script ≤ script_limit) }
     ensures too_long { result ≡ Err ScriptFault.TooLong
-        → IfSome (R.remaining reader.old) (λ all. 65536 < length all) }
+        → IfSome (R.remaining reader.old) (λ all. script_limit < length all) }
     ensures read_no_further { result ≡ Err ScriptFault.TooLong
-        → ReadsBytes 65537 (R.remaining reader.old) (R.remaining reader.new) }
+        → ReadsBytes (script_limit + 1) (R.remaining reader.old) (R.remaining reader.new) }
     ensures never_bad { (number : ℕ) → result ≢ Err (ScriptFault.Bad number) }
 {
     let mut script = room(alloc, SCRIPT_LIMIT + 1)?;
@@ -136,10 +136,10 @@ pub fn run_script<R: Read, W: Write>(
         ⊎ IfSome (R.remaining reader.old) (λ script.
         EndsWithoutMemory script (W.contents writer.old) (W.contents writer.new)) }
     ensures too_long { result ≡ Err ScriptFault.TooLong
-        → IfSome (R.remaining reader.old) (λ script. 65536 < length script) }
+        → IfSome (R.remaining reader.old) (λ script. script_limit < length script) }
     ensures too_long_unwritten { result ≡ Err ScriptFault.TooLong → writer.new ≡ writer.old }
     ensures read_no_further { result ≡ Err ScriptFault.TooLong
-        → ReadsBytes 65537 (R.remaining reader.old) (R.remaining reader.new) }
+        → ReadsBytes (script_limit + 1) (R.remaining reader.old) (R.remaining reader.new) }
 {
     let script = read_script(alloc, reader)?;
     let (mask, skipped, lines) = head(&script);
