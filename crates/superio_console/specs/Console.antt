@@ -2,7 +2,34 @@
 -- A serial port with the monitor's end of its line: what a call does to it, what it leaves to do, and what the event
 -- loop polls for.
 use Rattle.std.specs.Prelude.{ℕ, ◌+◌, ◌-◌, ◌^◌, Bool, true, false, ◌==◌, ◌&&◌, ◌||◌, not, nat_lt, min, if◌then◌else◌, List, [], ◌∷◌, ◌++◌, length, take, drop}
-use Rattle.superio_laws.specs.Serial.{has_bits, State, fifo_size, fresh_state, not_empty, register_read, irq_level, conditions_due, state_of_uart, register_at, is_dlab, is_loopback, ier_bit, Rda, Thre, Op, Read, Write, Enqueue, CharacterTimeout, sent_by, Asked, iir_none_bit, step, step_calls, decode_in}
+use Rattle.superio_laws.specs.Serial.{
+  has_bits,
+  State,
+  fifo_size,
+  fresh_state,
+  not_empty,
+  register_read,
+  irq_level,
+  conditions_due,
+  state_of_uart,
+  register_at,
+  is_dlab,
+  is_loopback,
+  ier_bit,
+  Rda,
+  Thre,
+  Op,
+  Read,
+  Write,
+  Enqueue,
+  CharacterTimeout,
+  sent_by,
+  Asked,
+  iir_none_bit,
+  step,
+  step_calls,
+  decode_in,
+}
 use Rattle.superio_console.specs.OutputRing.{output_size, waiting_in}
 pub use Rattle.superio_console.specs.declared.Console.{Console}
 pub use Rattle.superio_console.specs.declared.Wants.{Wants}

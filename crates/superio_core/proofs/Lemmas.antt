@@ -38,7 +38,15 @@ bit_at-without number cleared k =
 -- to clear some bits and then others is to clear all of them
 pub without-twice : (number first second : ℕ) → without_bits (without_bits number first) second ≡ without_bits number (bit_or second first)
 without-twice number first second =
-    same_from_bits _ _ (λ k. grind (arith, bit_at-without number first k, bit_at-without (without_bits number first) second k, bit_at-without number (bit_or second first) k, bit_at_or second first k, bit_at-lt first k, bit_at-lt second k))
+    same_from_bits _ _ (λ k. grind (
+      arith,
+      bit_at-without number first k,
+      bit_at-without (without_bits number first) second k,
+      bit_at-without number (bit_or second first) k,
+      bit_at_or second first k,
+      bit_at-lt first k,
+      bit_at-lt second k,
+    ))
 
 -- the cleared bits are clear
 pub and-without : (number bits : ℕ) → bit_and (without_bits number bits) bits ≡ 0
@@ -48,12 +56,32 @@ and-without number bits =
 -- and the others are as they were
 pub and-without-apart : (number bits others : ℕ) → bit_and bits others ≡ 0 → bit_and (without_bits number bits) others ≡ bit_and number others
 and-without-apart number bits others apart =
-    same_from_bits _ _ (λ k. grind (arith, bit_at_and (without_bits number bits) others k, bit_at_and number others k, bit_at_and bits others k, ap (λ n. bit_at n k) apart, bit_at-without number bits k, bit_at-lt number k, bit_at-lt bits k, bit_at-lt others k))
+    same_from_bits _ _ (λ k. grind (
+      arith,
+      bit_at_and (without_bits number bits) others k,
+      bit_at_and number others k,
+      bit_at_and bits others k,
+      ap (λ n. bit_at n k) apart,
+      bit_at-without number bits k,
+      bit_at-lt number k,
+      bit_at-lt bits k,
+      bit_at-lt others k,
+    ))
 
 -- to set bits leaves the others as they were
 pub and-or-apart : (number bits others : ℕ) → bit_and bits others ≡ 0 → bit_and (bit_or number bits) others ≡ bit_and number others
 and-or-apart number bits others apart =
-    same_from_bits _ _ (λ k. grind (arith, bit_at_and (bit_or number bits) others k, bit_at_and number others k, bit_at_and bits others k, ap (λ n. bit_at n k) apart, bit_at_or number bits k, bit_at-lt number k, bit_at-lt bits k, bit_at-lt others k))
+    same_from_bits _ _ (λ k. grind (
+      arith,
+      bit_at_and (bit_or number bits) others k,
+      bit_at_and number others k,
+      bit_at_and bits others k,
+      ap (λ n. bit_at n k) apart,
+      bit_at_or number bits k,
+      bit_at-lt number k,
+      bit_at-lt bits k,
+      bit_at-lt others k,
+    ))
 
 -- to set bits twice is to set them once
 pub or-twice : (number bits : ℕ) → bit_or (bit_or number bits) bits ≡ bit_or number bits
@@ -73,4 +101,14 @@ without-or number bits =
 -- to clear bits of two numbers is to clear them in each
 pub without-of-or : (number other bits : ℕ) → without_bits (bit_or number other) bits ≡ bit_or (without_bits number bits) (without_bits other bits)
 without-of-or number other bits =
-    same_from_bits _ _ (λ k. grind (arith, bit_at_or number other k, bit_at-without (bit_or number other) bits k, bit_at-without number bits k, bit_at-without other bits k, bit_at_or (without_bits number bits) (without_bits other bits) k, bit_at-lt number k, bit_at-lt other k, bit_at-lt bits k))
+    same_from_bits _ _ (λ k. grind (
+      arith,
+      bit_at_or number other k,
+      bit_at-without (bit_or number other) bits k,
+      bit_at-without number bits k,
+      bit_at-without other bits k,
+      bit_at_or (without_bits number bits) (without_bits other bits) k,
+      bit_at-lt number k,
+      bit_at-lt other k,
+      bit_at-lt bits k,
+    ))

@@ -9,7 +9,29 @@
 ghost use Rattle.std.specs.Prelude.{◌≡◌, ◌↔◌, ◌≤◌, ◌-◌, ◌==◌, ℕ, not, length, IsTrue, if◌then◌else◌, [], ◌∷◌, slice_index, IfOk};
 ghost use Rattle.std.specs.Result.{result_err, IsOkAnd};
 ghost use Rattle.superio_core.specs.Serial.{fifo_size, fresh_state, State, state_of_uart, CoherentUart, RdaCoversHeldBytes, irq_level, conditions_due, not_empty, state_with, register_read, is_asserted};
-ghost use Rattle.superio_core.specs.Serial.Step.{IsUartRead, IsUartWrite, IsUartEnqueue, IsUartTimeout, iir_none_bit, becomes_pending, iir_after_raise, iir_after_lower, bytes_that_fit, receive_bytes, rbr_read, ier_write, read_step, write_step, character_timeout, read_events, ier_write_calls, arrival_calls, timeout_calls, decoded_calls, decode_in};
+ghost use Rattle.superio_core.specs.Serial.Step.{
+  IsUartRead,
+  IsUartWrite,
+  IsUartEnqueue,
+  IsUartTimeout,
+  iir_none_bit,
+  becomes_pending,
+  iir_after_raise,
+  iir_after_lower,
+  bytes_that_fit,
+  receive_bytes,
+  rbr_read,
+  ier_write,
+  read_step,
+  write_step,
+  character_timeout,
+  read_events,
+  ier_write_calls,
+  arrival_calls,
+  timeout_calls,
+  decoded_calls,
+  decode_in,
+};
 ghost use Rattle.superio_core.specs.Serial.RegisterMap.{lsr_dr_bit, ier_bits, iir_bit, Rda, Thre, Data, is_loopback};
 ghost use Rattle.superio_core.specs.Bits.{only_bits, with_bits, without_bits};
 ghost use Rattle.superio_core.specs.Serial.Operations.{Write, count_if, is_first_of_two_refused, decode_write, sent_by, events_of_read};

@@ -4,7 +4,8 @@ use Rattle.std.proofs.Common.{◌≡◌, ℕ, ◌+◌, ◌≤◌, zero, suc, Boo
 use Rattle.std.proofs.lemmas.Bool.{false≢true}
 use Rattle.std.proofs.lemmas.Bool.Decides.{nat_tests}
 use Rattle.std.specs.Bool.{beq}
-use Rattle.superio_laws.specs.Serial.{State, Op, Read, Write, Enqueue, CharacterTimeout, Restore, Asked, Sent, Condition, Rda, Thre, Register, DecodedOp, has_bits, iir_bit, count_if, irq_level, conditions_due, step, step_calls, decoded_calls, decode_in, write_step, register_at, is_dlab, sends_byte, is_refused_at_once, answers_fit, answers_all, is_sent}
+use Rattle.superio_laws.specs.Serial.{State, Op, Read, Write, Enqueue, CharacterTimeout, Restore, Asked, Sent, Condition, Rda, Thre, Register, DecodedOp, has_bits, iir_bit}
+use Rattle.superio_laws.specs.Serial.{count_if, irq_level, conditions_due, step, step_calls, decoded_calls, decode_in, write_step, register_at, is_dlab, sends_byte, is_refused_at_once, answers_fit, answers_all, is_sent}
 use Rattle.superio_laws.specs.Serial.Laws.Line.{is_called}
 use Rattle.superio_laws.proofs.Lemmas.Serial.Laws.OneCall.{turned_bits_law}
 use Rattle.superio_laws.proofs.Lemmas.Serial.Laws.Interrupts.{up_after_call}

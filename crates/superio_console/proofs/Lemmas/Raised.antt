@@ -5,7 +5,8 @@ use Rattle.std.proofs.lemmas.Bool.{false≢true}
 use Rattle.std.proofs.lemmas.Bool.Decides.{nat_tests}
 use Rattle.superio_core.proofs.Lemmas.Serial.Step.{by_kind, shows_held_bytes, up_while_due}
 use Rattle.superio_core.specs.declared.serial.registers.Register.TheVariants.{Ier}
-use Rattle.superio_laws.specs.Serial.{State, Asked, Read, CharacterTimeout, Condition, Rda, Thre, Register, Timeout, has_bits, with_bits, without_bits, only_bits, ier_bits, RdaCoversHeldBytes, iir_bit, ier_bit, not_empty, irq_level, conditions_due, is_iir_read, is_dlab, register_at, decode_read, receive_bytes, read_step, write_step, step, step_calls}
+use Rattle.superio_laws.specs.Serial.{State, Asked, Read, CharacterTimeout, Condition, Rda, Thre, Register, Timeout, has_bits, with_bits, without_bits, only_bits, ier_bits, RdaCoversHeldBytes}
+use Rattle.superio_laws.specs.Serial.{iir_bit, ier_bit, not_empty, irq_level, conditions_due, is_iir_read, is_dlab, register_at, decode_read, receive_bytes, read_step, write_step, step, step_calls}
 use Rattle.superio_laws.proofs.Lemmas.Serial.Laws.OneCall.{bits, rda_left}
 use Rattle.superio_console.specs.Console.{ConsoleState, Call, Reads, Writes, Receives, Consumes, Turns, Refuses, Resets, Suspends, SetsPolled, shown_at, answers_none, retries, steps, steps_calls, after, interrupts_of}
 use Rattle.superio_console.specs.Laws.{after_calls, in_one, is_reset, asks, reads_iir, is_refusal, is_enabled, is_shown, IsRaised, IsDue, IsInterrupted, PendingLaw, WaitingLaw}

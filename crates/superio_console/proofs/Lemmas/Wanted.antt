@@ -4,7 +4,8 @@ use Rattle.std.proofs.Common.{◌≡◌, ◌-◌, ◌==◌, ℕ, Bool, true, fal
 use Rattle.std.proofs.lemmas.Bool.{false≢true}
 use Rattle.std.proofs.lemmas.Bool.Decides.{nat_tests}
 use Rattle.superio_core.proofs.Lemmas.{and-without, and-without-apart}
-use Rattle.superio_laws.specs.Serial.{State, receive_bytes, enqueued_bytes, Write, step_calls, conditions_due, CharacterTimeout, Register, Data, Iir, Rda, has_bits, without_bits, not_empty, register_at, is_dlab, is_loopback, irq_level, rbr_read, read_step, write_step, Asked, sent_by, decode_write, iir_none_bit}
+use Rattle.superio_laws.specs.Serial.{State, receive_bytes, enqueued_bytes, Write, step_calls, conditions_due, CharacterTimeout, Register, Data, Iir, Rda, has_bits, without_bits}
+use Rattle.superio_laws.specs.Serial.{not_empty, register_at, is_dlab, is_loopback, irq_level, rbr_read, read_step, write_step, Asked, sent_by, decode_write, iir_none_bit}
 use Rattle.superio_core.specs.Serial.Step.{iir_after_lower}
 use Rattle.superio_laws.proofs.Lemmas.Serial.Laws.OneCall.{received_bytes}
 use Rattle.superio_console.specs.Console.{ConsoleState, Wants, Work, Call, Reads, Writes, wants_of, names_more, owes_turn, Receives, input_room, is_open, shown_at, answers_none, steps, port_after, after, interrupts_of, wakes, work_of}

@@ -6,7 +6,8 @@ use Rattle.std.specs.Int.{w64, w32, w16, to_le_bytes, from_le_bytes, cast_unsign
 use Rattle.std.proofs.lemmas.Int.{to_z-of_z}
 use Rattle.std.proofs.lemmas.Nat.{from_le_bytes-to_le_bytes_4, from_le_bytes-to_le_bytes_8}
 use Rattle.superio_core.specs.declared.rtc_pl031.encoding.RtcState.{RtcState}
-use Rattle.superio_core.specs.Saved.{SavedStateError, magic, serial_kind, version, header, encoding, flag, numbers_in, clock_encoding, clock_fault, IsClock, SerialEncodingLaw, ClockEncodingLaw, OneSerialStateLaw, OneClockStateLaw, serial_encoding, serial_fault, TooShort, NotASavedState, OtherDevice, UnknownVersion, WrongLength, TooManyBytes, InvalidArmed}
+use Rattle.superio_core.specs.Saved.{SavedStateError, magic, serial_kind, version, header, encoding, flag, numbers_in, clock_encoding, clock_fault, IsClock, SerialEncodingLaw}
+use Rattle.superio_core.specs.Saved.{ClockEncodingLaw, OneSerialStateLaw, OneClockStateLaw, serial_encoding, serial_fault, TooShort, NotASavedState, OtherDevice, UnknownVersion, WrongLength, TooManyBytes, InvalidArmed}
 use Rattle.superio_core.specs.Rtc.{fresh_clock}
 use Rattle.superio_core.specs.Serial.{state_of_bytes, fresh_state, State}
 

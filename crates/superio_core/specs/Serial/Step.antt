@@ -5,7 +5,40 @@
 -- caller carries out.
 use Rattle.std.specs.Prelude.{ℕ, ◌+◌, ◌-◌, Bool, not, ◌==◌, ◌&&◌, ◌||◌, nat_le, if◌then◌else◌, List, [], ◌∷◌, ◌++◌, length, take, drop, ◌≡◌}
 use Rattle.std.specs.Bool.{beq}
-use Rattle.superio_core.specs.Serial.Operations.{Asked, Sent, Op, Read, Write, Enqueue, CharacterTimeout, Restore, Response, ByteRead, EnqueueOk, TimeoutOk, TriggerRefused, FifoFull, NoResponse, Event, buffer_read, out_byte, tx_lost_byte, in_buffer_empty, is_refused_at_once, recorded_write_response, count_if, is_sent, DecodedOp, IerWrite, ThrWrite, RxInput, Timeout, decode, sent_by, events_of_read}
+use Rattle.superio_core.specs.Serial.Operations.{
+  Asked,
+  Sent,
+  Op,
+  Read,
+  Write,
+  Enqueue,
+  CharacterTimeout,
+  Restore,
+  Response,
+  ByteRead,
+  EnqueueOk,
+  TimeoutOk,
+  TriggerRefused,
+  FifoFull,
+  NoResponse,
+  Event,
+  buffer_read,
+  out_byte,
+  tx_lost_byte,
+  in_buffer_empty,
+  is_refused_at_once,
+  recorded_write_response,
+  count_if,
+  is_sent,
+  DecodedOp,
+  IerWrite,
+  ThrWrite,
+  RxInput,
+  Timeout,
+  decode,
+  sent_by,
+  events_of_read,
+}
 use Rattle.superio_core.specs.Bits.{has_bits, only_bits, with_bits, without_bits}
 use Rattle.superio_core.specs.Serial.{State, fifo_size, not_empty, register_read}
 use Rattle.superio_core.specs.Serial.RegisterMap.{Register, Dll, Dlm, Data, Ier, Iir, Lcr, Mcr, Scr, register_at, is_dlab, is_loopback, Condition, Rda, Thre, ier_bit, iir_bit, lsr_dr_bit, ier_bits}

@@ -13,7 +13,10 @@ use Rattle.std.proofs.lemmas.Nat.Bits.{bit_at_or, bit_at_ones_above, bit_at-lt, 
 use Rattle.superio_core.specs.declared.rtc_pl031.ClockRegister.{ClockRegister}
 use Rattle.superio_core.specs.declared.rtc_pl031.ClockRegister.TheVariants.{Mr, Lr, Cr, Imsc, Icr}
 use Rattle.superio_core.specs.Bits.{with_bits, without_bits}
-use Rattle.superio_laws.specs.Rtc.{ClockIsHistory, ReadsByHistory, GoesOnByHistory, is_cleared, RaisesAt, RaisesNothingAt, AlarmDueByHistory, SetTimeLaw, GoesOnFrom, CounterLaw, SetClockLaw, GuestTimeLaw, may_set_time, KeepsTimeLaw, KeepsTimeInTraceLaw, TimeGoesOnLaw, RtcState, Access, read, write, clock_register_at, host_time, guest_time, clock_register_read, bytes_left, moment_of, fresh_clock, guest_time_in, after_alarm, after_write, clock_step, clock_response, state_after_accesses, is_alarm_reached, Setting, load, reset, setting_of, load_by, counter_by, newest_found, value_written, clock_of_history, clock_history_response, counter, cleared_bits, cleared_by, guest_time_at, match_value, match_written, is_alarm_set, guest_times_since_match, is_reached, is_armed, is_alarm_raised}
+use Rattle.superio_laws.specs.Rtc.{ClockIsHistory, ReadsByHistory, GoesOnByHistory, is_cleared, RaisesAt, RaisesNothingAt, AlarmDueByHistory, SetTimeLaw, GoesOnFrom, CounterLaw, SetClockLaw, GuestTimeLaw, may_set_time, KeepsTimeLaw}
+use Rattle.superio_laws.specs.Rtc.{KeepsTimeInTraceLaw, TimeGoesOnLaw, RtcState, Access, read, write, clock_register_at, host_time, guest_time, clock_register_read, bytes_left, moment_of, fresh_clock, guest_time_in}
+use Rattle.superio_laws.specs.Rtc.{after_alarm, after_write, clock_step, clock_response, state_after_accesses, is_alarm_reached, Setting, load, reset, setting_of, load_by, counter_by, newest_found, value_written}
+use Rattle.superio_laws.specs.Rtc.{clock_of_history, clock_history_response, counter, cleared_bits, cleared_by, guest_time_at, match_value, match_written, is_alarm_set, guest_times_since_match, is_reached, is_armed, is_alarm_raised}
 use Rattle.superio_core.proofs.Lemmas.{bit_at-without, without-twice, without-of-or, or-twice}
 
 -- ---- the alarm at an access

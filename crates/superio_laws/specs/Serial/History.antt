@@ -5,9 +5,70 @@ pub mod Interrupts
 pub mod Registers
 use Rattle.std.specs.Prelude.{◌≡◌, ⊤, ℕ, Bool, not, ◌==◌, ◌||◌, nat_le, if◌then◌else◌, List, [], ◌∷◌, ◌++◌, length}
 use Rattle.std.specs.List.{list_all}
-use Rattle.superio_laws.specs.Serial.{with_bits, without_bits, lsr_dr_bit, State, fifo_size, not_empty, Rda, Thre, register_at, identification_of, register_read, Asked, Sent, Op, Read, Write, Enqueue, CharacterTimeout, Restore, TraceEntry, Response, ByteRead, EnqueueOk, TimeoutOk, TriggerRefused, FifoFull, NoResponse, is_refused_at_once, is_lost, recorded_write_response, Trace, DecodedOp, RbrRead, sent_by, Event, buffer_read, out_byte, tx_lost_byte, in_buffer_empty}
+use Rattle.superio_laws.specs.Serial.{
+  with_bits,
+  without_bits,
+  lsr_dr_bit,
+  State,
+  fifo_size,
+  not_empty,
+  Rda,
+  Thre,
+  register_at,
+  identification_of,
+  register_read,
+  Asked,
+  Sent,
+  Op,
+  Read,
+  Write,
+  Enqueue,
+  CharacterTimeout,
+  Restore,
+  TraceEntry,
+  Response,
+  ByteRead,
+  EnqueueOk,
+  TimeoutOk,
+  TriggerRefused,
+  FifoFull,
+  NoResponse,
+  is_refused_at_once,
+  is_lost,
+  recorded_write_response,
+  Trace,
+  DecodedOp,
+  RbrRead,
+  sent_by,
+  Event,
+  buffer_read,
+  out_byte,
+  tx_lost_byte,
+  in_buffer_empty,
+}
 pub use Rattle.superio_laws.specs.Serial.History.Registers.{decode_at, dlab_after, loopback_after, with_last_writes, accepted_by, held_bytes, read_out_bytes, value_written_at, last_found, read_out_by, remaining_bytes, accepted_bytes, ier_after}
-pub use Rattle.superio_laws.specs.Serial.History.Interrupts.{is_pending, trigger_calls, decoded_ops, covers_waiting_bytes, is_fitting_entry, conditions_due_after, is_fitting, raises_rda, acknowledges, raises_thre, rda_raised, rda_pending, is_raised, is_call_due, has_waiting_bytes, pending_since, NoneAcknowledges, IsWithinBound, RdaCoversWaitingBytes, RdaFollowsTimeouts}
+pub use Rattle.superio_laws.specs.Serial.History.Interrupts.{
+  is_pending,
+  trigger_calls,
+  decoded_ops,
+  covers_waiting_bytes,
+  is_fitting_entry,
+  conditions_due_after,
+  is_fitting,
+  raises_rda,
+  acknowledges,
+  raises_thre,
+  rda_raised,
+  rda_pending,
+  is_raised,
+  is_call_due,
+  has_waiting_bytes,
+  pending_since,
+  NoneAcknowledges,
+  IsWithinBound,
+  RdaCoversWaitingBytes,
+  RdaFollowsTimeouts,
+}
 
 abbrev pub iir_after : (start : State) (trace : Trace) → ℕ
 iir_after start trace = identification_of (is_pending Thre start trace) (is_pending Rda start trace)

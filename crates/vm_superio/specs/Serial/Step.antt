@@ -3,7 +3,47 @@
 -- refused; and what stands after a call that failed.
 use Rattle.std.specs.Prelude.{◌≡◌, ℕ, ◌+◌, ◌==◌, length, List, IsTrue, Option, None, Result, is_some, ◌<◌, ◌≤◌, ◌-◌, ◌++◌, take}
 use Rattle.std.specs.Bool.{OnFalse}
-use Rattle.vm_superio.specs.Serial.{Error, SerialView, bytes_sent, outcome_of, turned_on_count, write_response, enqueue_response, timeout_response, refusal_in_result, FullFifo, Trigger, IOError, Asked, Sent, Op, Read, Write, Enqueue, CharacterTimeout, Restore, Response, ByteRead, NoResponse, Event, ends_in_refusal, count_if, has_bits, only_bits, State, fifo_size, Rda, Thre, iir_bit, step, step_response, step_events, answers_fit, sends_byte, conditions_due}
+use Rattle.vm_superio.specs.Serial.{
+  Error,
+  SerialView,
+  bytes_sent,
+  outcome_of,
+  turned_on_count,
+  write_response,
+  enqueue_response,
+  timeout_response,
+  refusal_in_result,
+  FullFifo,
+  Trigger,
+  IOError,
+  Asked,
+  Sent,
+  Op,
+  Read,
+  Write,
+  Enqueue,
+  CharacterTimeout,
+  Restore,
+  Response,
+  ByteRead,
+  NoResponse,
+  Event,
+  ends_in_refusal,
+  count_if,
+  has_bits,
+  only_bits,
+  State,
+  fifo_size,
+  Rda,
+  Thre,
+  iir_bit,
+  step,
+  step_response,
+  step_events,
+  answers_fit,
+  sends_byte,
+  conditions_due,
+}
 use Rattle.vm_superio.specs.Links.{Link, TriggerAnswer, Contents, answers_of, RefusesOwnState}
 use Rattle.vm_superio.specs.Links.Writer.{SerialLinks, serial_links, WriterLink}
 

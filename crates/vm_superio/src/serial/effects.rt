@@ -3,7 +3,30 @@
 ghost use Rattle.std.specs.Prelude.{◌≡◌, ◌≤◌, ◌&&◌, ℕ, List, Result, [], ◌∷◌, length, if◌then◌else◌, is_err, is_some, not, true, IsTrue, IfOk, IfErr, OnOk};
 ghost use Rattle.vm_superio.specs.Links.{answers_of, all_ok, StopsAtRefusal};
 ghost use Rattle.vm_superio.specs.Links.Writer.{serial_links, WriterLink};
-ghost use Rattle.vm_superio.specs.Serial.{outcome_of, bytes_sent, state_with, conditions_due, answers_all, events_of_read, sent_events, Write, Enqueue, CharacterTimeout, WriteOk, TriggerRefused, WriterFailed, FifoFull, EnqueueOk, is_sent, is_lost, ends_in_refusal, write_response, enqueue_response, timeout_response, refusal_in_result};
+ghost use Rattle.vm_superio.specs.Serial.{
+  outcome_of,
+  bytes_sent,
+  state_with,
+  conditions_due,
+  answers_all,
+  events_of_read,
+  sent_events,
+  Write,
+  Enqueue,
+  CharacterTimeout,
+  WriteOk,
+  TriggerRefused,
+  WriterFailed,
+  FifoFull,
+  EnqueueOk,
+  is_sent,
+  is_lost,
+  ends_in_refusal,
+  write_response,
+  enqueue_response,
+  timeout_response,
+  refusal_in_result,
+};
 ghost use Rattle.vm_superio.specs.Saved.{state_of};
 ghost use Rattle.vm_superio.specs.Serial.Step.{RefusesRestore};
 

@@ -1,7 +1,36 @@
 -- SPDX-License-Identifier: Apache-2.0 OR BSD-3-Clause
 -- The laws of one call, in any state.
 use Rattle.std.specs.Prelude.{◌≡◌, ℕ, Bool, true, false, List, ◌∷◌, ◌++◌, ◌<◌, ◌&&◌, length, count_by, IsTrue}
-use Rattle.superio_laws.specs.Serial.{Asked, Sent, Op, Read, Write, Response, ByteRead, WriteOk, Event, out_byte, tx_lost_byte, answer_count, is_sent, sent_by, has_bits, lsr_dr_bit, State, not_empty, Thre, is_dlab, is_loopback, iir_after_raise, receive_bytes, step, step_response, step_events, decode_in, answers_fit}
+use Rattle.superio_laws.specs.Serial.{
+  Asked,
+  Sent,
+  Op,
+  Read,
+  Write,
+  Response,
+  ByteRead,
+  WriteOk,
+  Event,
+  out_byte,
+  tx_lost_byte,
+  answer_count,
+  is_sent,
+  sent_by,
+  has_bits,
+  lsr_dr_bit,
+  State,
+  not_empty,
+  Thre,
+  is_dlab,
+  is_loopback,
+  iir_after_raise,
+  receive_bytes,
+  step,
+  step_response,
+  step_events,
+  decode_in,
+  answers_fit,
+}
 use Rattle.superio_laws.specs.Serial.{turned_on_count}
 use Rattle.superio_laws.specs.Serial.History.{byte_read, accepted_by, read_out_by}
 

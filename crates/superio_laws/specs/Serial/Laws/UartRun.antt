@@ -2,7 +2,39 @@
 -- The laws by which a port without objects and the history agree. What the caller finds when it carries out the effects
 -- changes nothing, so the start and the operations alone determine every read, interrupt, event and byte sent.
 use Rattle.std.specs.Prelude.{◌≡◌, ⊤, ℕ, ◌+◌, ◌*◌, ◌≤◌, not, ◌==◌, ◌&&◌, ◌||◌, nat_le, if◌then◌else◌, List, [], ◌∷◌, ◌++◌, length, take, drop, count_by, Bool, false}
-use Rattle.superio_laws.specs.Serial.{turned_on_count, enqueued_bytes, RdaCoversHeldBytes, Rda, decode_in, Asked, Sent, events_of_read, Read, Write, Enqueue, CharacterTimeout, Restore, TraceEntry, Trace, Op, sent_by, is_iir_read, is_rbr_read, ReadEffects, WriteEffects, EnqueueEffects, State, fifo_size, not_empty, Coherent, conditions_due, IsUartRead, IsUartWrite, IsUartEnqueue, IsUartTimeout}
+use Rattle.superio_laws.specs.Serial.{
+  turned_on_count,
+  enqueued_bytes,
+  RdaCoversHeldBytes,
+  Rda,
+  decode_in,
+  Asked,
+  Sent,
+  events_of_read,
+  Read,
+  Write,
+  Enqueue,
+  CharacterTimeout,
+  Restore,
+  TraceEntry,
+  Trace,
+  Op,
+  sent_by,
+  is_iir_read,
+  is_rbr_read,
+  ReadEffects,
+  WriteEffects,
+  EnqueueEffects,
+  State,
+  fifo_size,
+  not_empty,
+  Coherent,
+  conditions_due,
+  IsUartRead,
+  IsUartWrite,
+  IsUartEnqueue,
+  IsUartTimeout,
+}
 use Rattle.superio_laws.specs.Serial.History.{calls_due, history_events, guest_read, output, state_of_history, decode_at, loopback_after, accepted_by, held_bytes, conditions_due_after, decoded_ops, acknowledges}
 
 -- a call with its effects

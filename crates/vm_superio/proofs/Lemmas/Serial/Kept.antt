@@ -1,7 +1,9 @@
 -- SPDX-License-Identifier: Apache-2.0 OR BSD-3-Clause
 -- What a call keeps: the registers of other offsets, the transmitter's bits, and what is pending.
 use Rattle.std.proofs.Common.{◌≡◌, ℕ, ◌+◌, ◌≤◌, Bool, false, ◌&&◌, ◌||◌, Option, List, [], ◌∷◌, refl, ap, ◌∙◌, arith, IsTrue, if◌then◌else◌}
-use Rattle.vm_superio.specs.Serial.{acknowledged_at, SerialView, State, Asked, Sent, Response, CharacterTimeout, answer_count, answers_all, decoded_calls, step_calls, decode_read, Op, DecodedOp, Read, Write, Enqueue, Other, RxInput, is_iir_read, is_rbr_read, decode_write, Register, Data, Iir, register_at, has_bits, with_bits, only_bits, without_bits, count_if, is_dlab, is_loopback, decode_in, step, read_step, write_step, turned_on_count, turns_on}
+use Rattle.vm_superio.specs.Serial.{acknowledged_at, SerialView, State, Asked, Sent, Response, CharacterTimeout, answer_count, answers_all, decoded_calls, step_calls, decode_read, Op}
+use Rattle.vm_superio.specs.Serial.{DecodedOp, Read, Write, Enqueue, Other, RxInput, is_iir_read, is_rbr_read, decode_write, Register, Data, Iir, register_at}
+use Rattle.vm_superio.specs.Serial.{has_bits, with_bits, only_bits, without_bits, count_if, is_dlab, is_loopback, decode_in, step, read_step, write_step, turned_on_count, turns_on}
 use Rattle.vm_superio.specs.Serial.Step.{IsSerialStep, SameElsewhere, transmitter, pending_count}
 use Rattle.superio_core.proofs.Lemmas.{and-without-apart}
 use Rattle.superio_core.proofs.Lemmas.Serial.Step.{by_kind, next_by_kind}

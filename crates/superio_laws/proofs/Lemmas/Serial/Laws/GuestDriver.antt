@@ -7,7 +7,9 @@ use Rattle.std.specs.Bool.{IsFalse}
 use Rattle.superio_laws.specs.Serial.{Rda, Thre, Condition, State, not_empty, TraceEntry, Trace, count_if, DecodedOp, IirRead, IerWrite, ThrWrite, sent_by, has_bits, ier_bit}
 use Rattle.superio_laws.specs.Serial.History.{decode_at, ier_after, held_bytes, accepted_bytes, read_out_bytes, accepted_by, read_out_by, acknowledges, is_raised, is_pending, NoneAcknowledges, covers_waiting_bytes}
 use Rattle.superio_laws.specs.Serial.Laws.Line.{timeout_entry}
-use Rattle.superio_laws.specs.Serial.Laws.GuestDriver.{Driver, given, sent, left, has_to_send, EnablesThre, SendsEnabled, AsksWhenGiven, SendsOne, Rests, EndsAtNone, EndsInPass, EndsInTimeout, IsAskedFor, InterruptToReadLaw, InterruptToSendLaw, AreDriverRuns, after_runs, is_free, free_runs, ReadOutInRunsLaw, SentInRunsLaw, TakesUntilNone, TakesMost, HandlerRunLaw, HandlerEndsLaw}
+use Rattle.superio_laws.specs.Serial.Laws.GuestDriver.{Driver, given, sent, left, has_to_send, EnablesThre, SendsEnabled, AsksWhenGiven, SendsOne, Rests, EndsAtNone, EndsInPass}
+use Rattle.superio_laws.specs.Serial.Laws.GuestDriver.{EndsInTimeout, IsAskedFor, InterruptToReadLaw, InterruptToSendLaw, AreDriverRuns, after_runs, is_free, free_runs, ReadOutInRunsLaw, SentInRunsLaw, TakesUntilNone, TakesMost}
+use Rattle.superio_laws.specs.Serial.Laws.GuestDriver.{HandlerRunLaw, HandlerEndsLaw}
 use Rattle.superio_laws.proofs.Lemmas.Serial.Laws.{read_out_then_held}
 use Rattle.superio_laws.proofs.Lemmas.Serial.Laws.Consequences.{waiting_bytes_law}
 use Rattle.superio_laws.proofs.Lemmas.Serial.Laws.InterruptDriver.{Begins, begins_then, begins_first, all_bytes, some_held, taken_grows, accepted_grows, longer, counted, all_grow, enough_next}

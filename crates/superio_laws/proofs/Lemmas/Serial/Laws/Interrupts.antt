@@ -3,7 +3,8 @@
 -- interrupt line: a call leaves it by the bits of IIR that it turns.
 use Rattle.std.proofs.Common.{arith, ◌≡◌, ℕ, ◌+◌, Bool, false, not, ◌==◌, ◌&&◌, ◌||◌, List, [], ◌∷◌, ap, sym, ◌∙◌, length, ◌⊎◌, if◌then◌else◌, IsTrue}
 use Rattle.std.specs.Bool.{beq, IsFalse}
-use Rattle.superio_laws.specs.Serial.{ier_bits, Asked, TraceEntry, is_refused_at_once, is_sent, count_if, answer_count, DecodedOp, RbrRead, sent_by, is_iir_read, State, not_empty, has_bits, Thre, Rda, identification_of, pending_in_order, conditions_due, decoded_calls, answers_all, step_calls, answers_fit, Coherent, IerWrite, only_bits, becomes_pending, iir_after_raise, irq_level, decode_in, step}
+use Rattle.superio_laws.specs.Serial.{ier_bits, Asked, TraceEntry, is_refused_at_once, is_sent, count_if, answer_count, DecodedOp, RbrRead, sent_by, is_iir_read, State, not_empty, has_bits, Thre, Rda}
+use Rattle.superio_laws.specs.Serial.{identification_of, pending_in_order, conditions_due, decoded_calls, answers_all, step_calls, answers_fit, Coherent, IerWrite, only_bits, becomes_pending, iir_after_raise, irq_level, decode_in, step}
 use Rattle.superio_laws.specs.Serial.History.{iir_after, decode_at, held_bytes, raises_rda, acknowledges, is_pending, raises_thre, is_fitting_entry}
 use Rattle.superio_laws.specs.Serial.Laws.{state_after, InterruptLaw}
 use Rattle.superio_core.proofs.Lemmas.Serial.Step.{rda_bit, thre_bit, answers_counted, by_kind, next_by_kind, one_or_both, up_while_due}

@@ -2,7 +2,9 @@
 -- A list of operations on a port without objects, and one call of it.
 use Rattle.std.proofs.Common.{◌≡◌, ℕ, ◌+◌, ◌-◌, ◌*◌, ◌≤◌, Bool, true, false, not, ◌&&◌, List, [], ◌∷◌, ◌++◌, length, take, refl, ap, sym, ◌∙◌, subst, arith, append_assoc, append-nil, if◌then◌else◌}
 use Rattle.std.proofs.lemmas.List.{take-append-drop, take_min, length-take}
-use Rattle.superio_laws.specs.Serial.{Asked, Op, Read, Write, Enqueue, CharacterTimeout, DecodedOp, IerWrite, is_iir_read, is_rbr_read, State, not_empty, has_bits, only_bits, ier_bits, Rda, Thre, Trace, Coherent, RdaCoversHeldBytes, turns_on, count_if, decode_in, decode_read, decode_write, Other, RxInput, step, step_calls, decoded_calls, sent_by, bytes_that_fit, enqueued_bytes, becomes_pending, iir_after_raise, is_dlab, is_loopback, register_at, Register, turned_on_count}
+use Rattle.superio_laws.specs.Serial.{Asked, Op, Read, Write, Enqueue, CharacterTimeout, DecodedOp, IerWrite, is_iir_read, is_rbr_read, State, not_empty, has_bits, only_bits}
+use Rattle.superio_laws.specs.Serial.{ier_bits, Rda, Thre, Trace, Coherent, RdaCoversHeldBytes, turns_on, count_if, decode_in, decode_read, decode_write, Other, RxInput, step}
+use Rattle.superio_laws.specs.Serial.{step_calls, decoded_calls, sent_by, bytes_that_fit, enqueued_bytes, becomes_pending, iir_after_raise, is_dlab, is_loopback, register_at, Register, turned_on_count}
 use Rattle.superio_laws.specs.Serial.History.{acknowledges, accepted_by, read_out_by, accepted_bytes, read_out_bytes, held_bytes, decode_at, output}
 use Rattle.superio_laws.specs.Serial.Laws.{state_after}
 use Rattle.superio_laws.specs.Serial.Laws.UartRun.{UartCall, UartRead, UartWrite, UartEnqueue, UartTimeout, UartRestore, op_of_call, without_results, trace_with, UartTurnedOnLaw, UartAcceptsLaw, acknowledges_rda, UartCoversLaw}

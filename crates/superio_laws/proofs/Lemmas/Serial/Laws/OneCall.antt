@@ -4,7 +4,9 @@
 use Rattle.std.proofs.Common.{false, ◌≡◌, ℕ, Bool, true, List, [], ◌∷◌, ◌++◌, length, drop, refl, ap, sym, ◌∙◌, append-nil, ◌<◌, subst, arith, IsTrue, if◌then◌else◌, ◌&&◌, count_by, ◌+◌, not, ◌==◌}
 use Rattle.std.specs.Bool.{beq}
 use Rattle.std.proofs.lemmas.Bool.{and_parts, eqb-true}
-use Rattle.superio_laws.specs.Serial.{ier_bits, Asked, Sent, Op, Read, Write, ByteRead, WriteOk, WriterFailed, TriggerRefused, is_sent, is_lost, ends_in_refusal, DecodedOp, RbrRead, decode_read, sent_by, State, not_empty, has_bits, without_bits, receive_bytes, iir_after_raise, decode_in, answers_all, step_calls, sends_byte, step, read_step, step_response, step_events, Register, Thre, register_at, is_dlab, is_loopback, is_refused_at_once, count_if, answer_count, IerWrite, only_bits, with_bits, Rda, decoded_calls, becomes_pending}
+use Rattle.superio_laws.specs.Serial.{ier_bits, Asked, Sent, Op, Read, Write, ByteRead, WriteOk, WriterFailed, TriggerRefused, is_sent, is_lost, ends_in_refusal, DecodedOp, RbrRead}
+use Rattle.superio_laws.specs.Serial.{decode_read, sent_by, State, not_empty, has_bits, without_bits, receive_bytes, iir_after_raise, decode_in, answers_all, step_calls, sends_byte, step, read_step, step_response}
+use Rattle.superio_laws.specs.Serial.{step_events, Register, Thre, register_at, is_dlab, is_loopback, is_refused_at_once, count_if, answer_count, IerWrite, only_bits, with_bits, Rda, decoded_calls, becomes_pending}
 use Rattle.superio_laws.specs.Serial.History.{byte_read, accepted_by, read_out_by}
 use Rattle.superio_laws.specs.Serial.Laws.OneCall.{OneCallLaw, ReceivedLaw, OneReadLaw, RbrReadLaw, RbrDataReadyLaw, ThrWriteLaw, OutcomeEventsLaw, reports_outcome, TurnedBitsLaw}
 use Rattle.superio_core.proofs.Lemmas.Serial.{data_ready_cleared}

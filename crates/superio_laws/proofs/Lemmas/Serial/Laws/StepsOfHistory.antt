@@ -5,13 +5,16 @@ use Rattle.std.proofs.Common.{arith, sym, ◌≡◌, ℕ, Bool, false, List, [],
 use Rattle.std.proofs.lemmas.Bool.{and_parts}
 use Rattle.std.specs.Bool.{beq}
 use Rattle.std.specs.Cmp.Derive.{both_true}
-use Rattle.superio_laws.specs.Serial.{decode_in, Asked, Sent, Op, Restore, TraceEntry, NoResponse, is_sent, count_if, DecodedOp, Response, State, conditions_due, step_response, step, step_events, Rda, Thre, answers_all, step_calls, sends_byte, answers_fit, Coherent, Other, RxInput, decode_read, sent_by, Write, Enqueue, CharacterTimeout, ByteRead, Trace, Read, not_empty, Register, is_dlab, register_at, bytes_that_fit, decoded_calls}
+use Rattle.superio_laws.specs.Serial.{decode_in, Asked, Sent, Op, Restore, TraceEntry, NoResponse, is_sent, count_if, DecodedOp, Response, State, conditions_due, step_response, step, step_events, Rda, Thre, answers_all}
+use Rattle.superio_laws.specs.Serial.{step_calls, sends_byte, answers_fit, Coherent, Other, RxInput, decode_read, sent_by, Write, Enqueue, CharacterTimeout, ByteRead, Trace, Read, not_empty, Register, is_dlab, register_at, bytes_that_fit}
+use Rattle.superio_laws.specs.Serial.{decoded_calls}
 use Rattle.superio_laws.specs.Serial.History.{history_response, state_of_history, calls_due, decoded_events, loopback_after, held_bytes, decode_at, dlab_after, ier_after, raises_rda, is_pending, raises_thre, is_fitting, output, accepted_by}
 use Rattle.superio_laws.specs.Serial.Laws.{state_after, StateLaw, ResponseLaw, StepLaw, CallLaw, RetryLaw, StepsFollow, RunAgrees, WholeRunLaw}
 use Rattle.superio_laws.proofs.Lemmas.Serial.Laws.{state_of_history-by_state, held_bytes_law, line_status_law}
 use Rattle.superio_laws.proofs.Lemmas.Serial.Laws.Interrupts.{interrupt_law, due_is, coherent_after}
 use Rattle.superio_laws.proofs.Lemmas.Serial.Laws.Consequences.{call_written, due_so_far, due-within}
-use Rattle.superio_laws.specs.Serial.Laws.UartRun.{UartCall, UartRead, UartWrite, UartEnqueue, UartTimeout, UartRestore, IsUartCall, UartCallsFollow, op_of_call, ops_of_calls, without_results, trace_with, EffectsAre, AllEffectsAre, UartRunLaw, byte_to_send, bytes_to_send, UartOutputLaw, interrupts_of, interrupts_to_raise, UartBoundLaw}
+use Rattle.superio_laws.specs.Serial.Laws.UartRun.{UartCall, UartRead, UartWrite, UartEnqueue, UartTimeout, UartRestore, IsUartCall, UartCallsFollow, op_of_call, ops_of_calls, without_results}
+use Rattle.superio_laws.specs.Serial.Laws.UartRun.{trace_with, EffectsAre, AllEffectsAre, UartRunLaw, byte_to_send, bytes_to_send, UartOutputLaw, interrupts_of, interrupts_to_raise, UartBoundLaw}
 
 pub state_law : StateLaw
 state_law start trace coherent =
