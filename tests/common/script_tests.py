@@ -12,7 +12,7 @@ from typing import NamedTuple
 from documents import documents
 from harness import ROOT
 from made import every_load, random_script
-from script import FURTHER_LINES, LINES, run_script, script_of
+from script import FURTHER_LINES, LINES, run_script, script_of, syntax_of
 from seeds import seeds
 from superio.recording import entries_of
 
@@ -91,6 +91,18 @@ def scripts_of(path):
             yield from of_block(f"{path.name}:{rows[0][0]}", [row for _, row in rows])
 
 
+def refused_scripts():
+    """Each further line where the program refuses it: as the first line, after a good one and after a mask, with
+    another line behind it or without. Bytes come with none, one and more."""
+    starts = (b"", b""), (b"kr 04\n", b"00\n"), (b"refuse 0000000000000000\n", b"")
+    for name in FURTHER_LINES:
+        for line in dict.fromkeys([name, *(syntax_of(name).replace("HH..", "00" * count) for count in (1, 33))]):
+            for start, printed in starts:
+                end = f"bad line {1 + len(start.splitlines())}"
+                for more in b"", b"\nkr 04\n":
+                    yield Script(f"{line[:5]} refused", start + line.encode() + more, printed, end)
+
+
 def of_documents():
     """The scripts that documents show with their replies."""
     row = re.compile(rf"({'|'.join(LINES)})( [0-9A-Fa-f]+)*(  .*)?")
@@ -111,7 +123,7 @@ class BoardScript(NamedTuple):
 
 def kept_scripts():
     """The scripts of tests/data and of documents in which neither input nor memory fails. Those with further lines come
-    for a board that refuses these, too."""
+    for a board that refuses these, too, and so does each of these lines."""
     def of_test(test, is_for_program):
         replies = test.replies.decode("latin-1").split("\n")[:-1]
         return BoardScript(test.place, test.script.decode("latin-1"), is_for_program, replies, test.end)
@@ -120,7 +132,7 @@ def kept_scripts():
                        for folder in (TESTS, FURTHER_TESTS))
     yield from (of_test(test, True) for test in shared if not test.end.startswith(("input", "out")))
     yield from (of_test(test, False) for test in [*further, *of_documents()])
-    yield from (of_test(test.by_program, True) for test in further)
+    yield from (of_test(test, True) for test in [*(it.by_program for it in further), *refused_scripts()])
 
 
 def load_scripts():

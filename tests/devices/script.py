@@ -13,13 +13,13 @@ def syntax_of(name):
     return " ".join([name, *("HH.." if digits == BYTES else "H" * digits for digits in LINES[name][1:])])
 
 
-def form_of(lines):
+def pattern_of(lines):
     """What each line matches."""
-    forms = "|".join(map(syntax_of, lines)).replace(" HH..", "( (HH){1,128})?")
-    return re.compile(forms.replace("H", "[0-9A-Fa-f]"))
+    syntaxes = "|".join(map(syntax_of, lines)).replace(" HH..", "( (HH){1,128})?")
+    return re.compile(syntaxes.replace("H", "[0-9A-Fa-f]"))
 
 
-FORMS = {False: form_of(LINES), True: form_of(PROGRAM_LINES)}   # by whether the lines are the program's alone
+PATTERNS = {False: pattern_of(LINES), True: pattern_of(PROGRAM_LINES)}   # by whether the lines are the program's alone
 
 
 def line_of(call, *arguments):
@@ -30,7 +30,7 @@ def line_of(call, *arguments):
 
 
 def call_of(line):
-    """The call of a line that has the right form."""
+    """The call of a line that has a syntax."""
     name, *words = line.split(" ")
     call, *digits = LINES[name]
     return call, *(bytes.fromhex(word) if it == BYTES else int(word, 16) for word, it in zip(words, digits))
@@ -50,9 +50,9 @@ def replies_of(board, calls):
 def run_script(script, is_for_program=False, board=None):
     """The replies of a script with a character for each byte, and what its run says at the end: nothing, or which line
     is the first bad one."""
-    board, replies, form = board or Board(), [], FORMS[is_for_program]
+    board, replies, pattern = board or Board(), [], PATTERNS[is_for_program]
     for number, line in enumerate(script.removesuffix("\n").split("\n") if script else [], 1):
-        if not form.fullmatch(line) or line.startswith("refuse") and number > 1:
+        if not pattern.fullmatch(line) or line.startswith("refuse") and number > 1:
             return replies, f"bad line {number}"
         replies += replies_of(board, [call_of(line)])
     return replies, ""

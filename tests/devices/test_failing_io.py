@@ -1,7 +1,7 @@
 # SPDX-License-Identifier: Apache-2.0 OR BSD-3-Clause
 """How the program ends if a read or a write fails, and that it takes bytes in pieces.
 
-The system makes the faults, after each part of a script of every form and of its replies, and over scripts that are bad
+The system makes the faults, after each part of a script of every line and of its replies, and over scripts that are bad
 or too long. docs/SCRIPT.md says how each run has to end, and shows what a failure of standard error does. It promises
 nothing of what was printed before a failed write; here that is what the file has room for. The tests of `object_calls`
 in crates/superio_tests have faults of every kind, and interruptions, over objects of their own.
@@ -19,7 +19,7 @@ from script_tests import TESTS, Script, scripts_of
 
 pytestmark = pytest.mark.needs("kit")
 
-FORM = next(scripts_of(TESTS / "scripts.txt"))   # of every form of line
+EACH_LINE = next(scripts_of(TESTS / "scripts.txt"))
 LONGEST_BAD = Script("longest", b"kr 04\n" * 10_922 + b"kr 0", b"00\n" * 10_922, "bad line 10923")
 BAD_LATER = Script("bad later", b"kr 04\nkr 5\n", b"00\n", "bad line 2")
 TOO_LONG = Script("too long", b"kr 04\n" * 12_000, b"", "script too long")
@@ -87,8 +87,8 @@ def fault(script, printed=0):
     return script._replace(replies=script.replies[:printed], end="input or output fault")
 
 
-PIECES = at_least(34, [*((FORM, piece) for piece in range(1, 33)), (TOO_LONG, 4_096), (TOO_LONG, 65_536)])
-ROOMS = at_least(190, [(script, room) for script, step in ((FORM, 1), (BAD_LATER, 1), (LONGEST_BAD, 1_365))
+PIECES = at_least(34, [*((EACH_LINE, piece) for piece in range(1, 33)), (TOO_LONG, 4_096), (TOO_LONG, 65_536)])
+ROOMS = at_least(190, [(script, room) for script, step in ((EACH_LINE, 1), (BAD_LATER, 1), (LONGEST_BAD, 1_365))
                        for room in [*range(0, len(script.replies), step), len(script.replies)]])
 
 
@@ -97,14 +97,14 @@ def test_pieces(program, script, piece):
     assert not script.difference(in_pieces(program, script.script, piece))
 
 
-@pytest.mark.parametrize("count", range(len(FORM.script) + 1))
+@pytest.mark.parametrize("count", range(len(EACH_LINE.script) + 1))
 def test_read_fails_after(program, count):
-    assert not fault(FORM).difference(read_fails_after(program, FORM.script, count))
+    assert not fault(EACH_LINE).difference(read_fails_after(program, EACH_LINE.script, count))
 
 
 @pytest.mark.parametrize("source", ["< /", "<&-"])
 def test_no_input(program, source):
-    assert not fault(FORM).difference(redirected(program, FORM.script, source))
+    assert not fault(EACH_LINE).difference(redirected(program, EACH_LINE.script, source))
 
 
 @pytest.mark.parametrize("script, room", ROOMS, ids=lambda it: getattr(it, "place", it))
@@ -114,13 +114,13 @@ def test_output_has_room(program, script, room):
 
 
 @pytest.mark.parametrize("output", ["> /dev/full", ">&-"])
-@pytest.mark.parametrize("script", [FORM, BAD_LATER, LONGEST_BAD], ids=lambda it: getattr(it, "place", it))
+@pytest.mark.parametrize("script", [EACH_LINE, BAD_LATER, LONGEST_BAD], ids=lambda it: getattr(it, "place", it))
 def test_no_output(program, script, output):
     assert not fault(script).difference(redirected(program, script.script, output))
 
 
 @pytest.mark.needs("cc")
-@pytest.mark.parametrize("script", [FORM, BAD_LATER], ids=lambda it: it.place)
+@pytest.mark.parametrize("script", [EACH_LINE, BAD_LATER], ids=lambda it: it.place)
 def test_a_write_fails_once(program, script, tmp_path):
     """A fault is reported, although what was to be written goes out as the program ends."""
     library = tmp_path / "fails_once.so"
@@ -132,5 +132,5 @@ def test_a_write_fails_once(program, script, tmp_path):
 @pytest.mark.parametrize("wrong", ["true", "cat"])
 def test_wrong_program(wrong):
     """A program that hides a fault is found wrong."""
-    assert fault(FORM).difference(redirected(f"/bin/{wrong}", FORM.script, "> /dev/full"))
-    assert fault(FORM).difference(read_fails_after(f"/bin/{wrong}", FORM.script, 9))
+    assert fault(EACH_LINE).difference(redirected(f"/bin/{wrong}", EACH_LINE.script, "> /dev/full"))
+    assert fault(EACH_LINE).difference(read_fails_after(f"/bin/{wrong}", EACH_LINE.script, 9))

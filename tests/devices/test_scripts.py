@@ -10,14 +10,14 @@ import subprocess
 import pytest
 from documents import documents
 from harness import LIMIT, ROOT, at_least
-from script_tests import FURTHER_TESTS, TESTS, of_documents, scripts_of
+from script_tests import FURTHER_TESTS, TESTS, of_documents, refused_scripts, scripts_of
 
 CALL = re.compile(r"(?<![\w./])superio\b")   # of the program, in a command
 SHOWN = [script for script in of_documents() if script.by_program == script]
 KEPT = [script for path in [*sorted(TESTS.glob("*.txt")), ROOT / "examples/linux-boot/boot.recording.xz"]
         for script in scripts_of(path)]
 ENDED = [script.by_program for path in sorted(FURTHER_TESTS.glob("*.txt")) for script in scripts_of(path)]
-SCRIPTS = at_least(228, [*KEPT, *ENDED, *SHOWN])
+SCRIPTS = at_least(260, [*KEPT, *ENDED, *refused_scripts(), *SHOWN])
 COMMANDS = at_least(5, [(f"{document}:{block.number}", command, printed) for document in documents()
                         for block in document.blocks for command, printed in block.commands if CALL.search(command)])
 

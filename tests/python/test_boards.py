@@ -8,7 +8,7 @@ import re
 import pytest
 from harness import at_least
 from made import random_script
-from script import BYTES, FORMS, FURTHER_LINES, LINES, PROGRAM_LINES
+from script import BYTES, FURTHER_LINES, LINES, PATTERNS, PROGRAM_LINES
 from script_tests import FURTHER_TESTS, TESTS, kept_scripts, load_scripts, made_scripts, scripts_of
 from seeds import seeds
 
@@ -19,7 +19,7 @@ from superio.session import Session
 RANDOM_SCRIPTS, RANDOM_SESSIONS = 2_000, 400
 # Further lines that mostly change nothing.
 MOSTLY_IDLE = "sb", "cb", "si", "si", "si", "sl", "sl 00", "cl 00", f"cl {Rtc().to_bytes().hex()}"
-KEPT = at_least(204, kept_scripts())
+KEPT = at_least(237, kept_scripts())
 # In the shell, those that end well.
 IN_SHELL = at_least(88, [test for path in sorted([*TESTS.glob("*.txt"), *FURTHER_TESTS.glob("*.txt")])
                           for test in scripts_of(path) if not test.end])
@@ -87,7 +87,7 @@ def test_near_lines(name):
              for byte in (range(256) if it in (0, len(line)) else b"\0\t\n\r +-/09:@AFGafgx\xff")]
     assert is_parsed(line)
     for text in near:
-        assert is_parsed(text) == bool(FORMS[False].fullmatch(text.decode("latin-1"))), text
+        assert is_parsed(text) == bool(PATTERNS[False].fullmatch(text.decode("latin-1"))), text
 
 
 @pytest.mark.parametrize("test", KEPT, ids=lambda it: it.place)

@@ -7,13 +7,13 @@ from unittest import mock
 
 import pytest
 from harness import ROOT, at_least, check
-from script_tests import FURTHER_TESTS, TESTS, Script, of_documents, scripts_of
+from script_tests import FURTHER_TESTS, TESTS, Script, of_documents, refused_scripts, scripts_of
 
 from superio import board, program
 
 KEPT = [*(test for path in sorted(TESTS.glob("*.txt")) for test in scripts_of(path)),
         *(test.by_program for path in sorted(FURTHER_TESTS.glob("*.txt")) for test in scripts_of(path)),
-        *(test.by_program for test in of_documents())]
+        *refused_scripts(), *(test.by_program for test in of_documents())]
 LONGEST = 65_536
 # A script of each kind of end, and longer than is written at once.
 LONG = Script("long", b"st\n" * 2_000, f"{0:016x}\n".encode() * 2_000)
@@ -43,7 +43,7 @@ def runs(tmp_path):
 
 
 def test_kept_scripts(runs):
-    for test in at_least(169, [*KEPT, LONG, BAD]):
+    for test in at_least(201, [*KEPT, LONG, BAD]):
         assert test.difference(runs.ended(test.script)) is None, test.place
 
 

@@ -11,7 +11,7 @@ from made import broken_lines, every_load
 from recorded import every_answer, random_recorded
 from script import BYTES, FURTHER_LINES, LINES, call_of
 from script_tests import (FURTHER_TESTS, TESTS, Script, board_scripts, kept_scripts, load_scripts, made_scripts,
-                          scripts_of)
+                          refused_scripts, scripts_of)
 from seeds import seeds
 
 FILES = at_least(7, sorted([*TESTS.glob("*.txt"), *TESTS.glob("*.xz"), *FURTHER_TESTS.glob("*.txt")]))
@@ -71,7 +71,16 @@ def test_kept_scripts(monkeypatch):
     places = [test.place for test in further]
     assert [(test.place, test.is_for_program) for test in kept_scripts()] == [
         *((place, True) for place in tried), *((place, False) for place in [*places, "shown"]),
-        *((place, True) for place in places)]
+        *((place, True) for place in places), *((test.place, True) for test in refused_scripts())]
+
+
+def test_refused_scripts():
+    """Each further line at six places, of which half are the last. Bytes come in three ways."""
+    scripts = [test.script.decode() for test in refused_scripts()]
+    assert len({*scripts}) == sum(18 if BYTES in digits else 6 for _, *digits in FURTHER_LINES.values()) == len(scripts)
+    for name in FURTHER_LINES:
+        places = [script.splitlines().index(line) for script in scripts for line in script.splitlines() if line == name]
+        assert places == [0, 0, 1, 1, 1, 1]
 
 
 def test_broken_lines():
