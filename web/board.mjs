@@ -5,6 +5,7 @@
  * their syntax.
  */
 import { I8042, Rtc, SavedStateError, Serial } from "../bindings/js/superio.mjs";
+import { FURTHER_LINES, PROGRAM_LINES } from "./lines.mjs";
 
 const OUTPUT_SIZE = 256;
 const LONGEST_SCRIPT = 65_536;
@@ -17,51 +18,48 @@ export const hexOf = (bytes) => Array.from(bytes, (one) => hex(one, 2)).join("")
 export const bytesOf = (digits) => Uint8Array.from(digits.match(/../g) ?? [], (two) => parseInt(two, 16));
 
 const controller = new I8042();
-// How many digits each field of a line has, or BYTES for 0 to 128 bytes of two digits each; what a board replies to the
-// values of these; and the rule with the heading of docs/DEVICES.md where it stands, unless a register has the rule.
-const BYTES = "bytes";
-const PROGRAM_LINES = {
-  refuse: { fields: [16], reply: (board, mask) => { board.mask = mask; return null; } },
-  sr: { fields: [2], reply: (board, offset) => hex(board.read(offset), 2) },
-  sw: { fields: [2, 2], reply: (board, offset, value) => board.write(offset, value) },
-  sq: { fields: [BYTES], reply: (board, bytes) => board.enqueue(bytes),
+// What a board replies to the values of a line's fields; and the rule of the line with the heading of docs/DEVICES.md
+// where it stands, unless a register has the rule.
+export const LINES = {
+  refuse: { reply: (board, mask) => { board.mask = mask; return null; } },
+  sr: { reply: (board, offset) => hex(board.read(offset), 2) },
+  sw: { reply: (board, offset, value) => board.write(offset, value) },
+  sq: { reply: (board, bytes) => board.enqueue(bytes),
     rule: ["Bytes arrive for the guest: as many of the first as fit, and in loopback none. They raise RDA.",
       "reading-and-writing-data"] },
-  sc: { fields: [], reply: (board) => hex(board.serial.fifoCapacity(), 2) },
-  sd: { fields: [], reply: (board) => board.drain(),
+  sc: { reply: (board) => hex(board.serial.fifoCapacity(), 2) },
+  sd: { reply: (board) => board.drain(),
     rule: ["The guest's driver reads RBR while LSR shows data ready.", "reading-and-writing-data"] },
-  ss: { fields: [], reply: (board) => board.restore(Serial.fromState(board.serial.state)),
+  ss: { reply: (board) => board.restore(Serial.fromState(board.serial.state)),
     rule: ["A restore asks for the interrupt once for each condition that is pending and enabled. If that is " +
       "refused, the old port stays.", "saving-and-restoring"] },
-  so: { fields: [], reply: (board) => hexOf(Array.from(board.output, (one) => one.charCodeAt(0))) },
-  st: { fields: [], reply: (board) => hex(board.asked, 16) },
-  se: { fields: [], reply: (board) => Object.values(board.counts).map((count) => hex(count, 16)).join(" ") },
-  cr: { fields: [16, 4], reply: (board, now, offset) => board.readClock(now, offset) },
-  cw: { fields: [16, 4, 8],
-    reply: (board, now, offset, value) => board.clock.write(offset, value, now).invalidWrite ? "invalid" : "ok" },
-  kr: { fields: [2], reply: (_, offset) => hex(controller.read(offset), 2),
+  so: { reply: (board) => hexOf(Array.from(board.output, (one) => one.charCodeAt(0))) },
+  st: { reply: (board) => hex(board.asked, 16) },
+  se: { reply: (board) => Object.values(board.counts).map((count) => hex(count, 16)).join(" ") },
+  cr: { reply: (board, now, offset) => board.readClock(now, offset) },
+  cw: { reply: (board, now, offset, value) => board.clock.write(offset, value, now).invalidWrite ? "invalid" : "ok" },
+  kr: { reply: (_, offset) => hex(controller.read(offset), 2),
     rule: ["Every read of the controller gives 0.", "the-reset-controller"] },
-  kw: { fields: [2, 2], reply: (_, offset, value) => controller.write(offset, value).resets ? "reset" : "ok",
+  kw: { reply: (_, offset, value) => controller.write(offset, value).resets ? "reset" : "ok",
     rule: ["0xFE at offset 4 resets the machine. Any other write has no effect.", "the-reset-controller"] },
-};
-// The program refuses these.
-const FURTHER_LINES = {
-  si: { fields: [], reply: (board) => board.ask(board.serial.characterTimeout()) ? "ok" : "trigger",
+  si: { reply: (board) => board.ask(board.serial.characterTimeout()) ? "ok" : "trigger",
     rule: ["A character timeout raises RDA again for bytes that are held, if IER enables it and it is not pending.",
       "the-character-timeout"] },
-  sb: { fields: [], reply: (board) => hexOf(board.serial.toBytes()),
+  sb: { reply: (board) => hexOf(board.serial.toBytes()),
     rule: ["A port is saved as its nine registers and the held bytes. No byte that the guest has read is in it.",
       "saving-and-restoring"] },
-  sl: { fields: [BYTES], reply: (board, bytes) => loaded(Serial, bytes, (port) => board.restore(port)),
+  sl: { reply: (board, bytes) => loaded(Serial, bytes, (port) => board.restore(port)),
     rule: ["A saved state is taken unchanged. The restore then asks for each condition that is pending and enabled.",
       "saving-and-restoring"] },
-  cb: { fields: [], reply: (board) => hexOf(board.clock.toBytes()),
+  cb: { reply: (board) => hexOf(board.clock.toBytes()),
     rule: ["A clock is saved as its registers, its offset and its alarm.", "the-clock"] },
-  cl: { fields: [BYTES], reply: (board, bytes) => loaded(Rtc, bytes, (clock) => { board.clock = clock; return "ok"; }),
+  cl: { reply: (board, bytes) => loaded(Rtc, bytes, (clock) => { board.clock = clock; return "ok"; }),
     rule: ["Any numbers may be restored, and reads show them.", "the-clock"] },
 };
-export const LINES = { ...PROGRAM_LINES, ...FURTHER_LINES };
-const FIELDS = new Map([[BYTES, /^([0-9A-Fa-f]{2}){1,128}$/], ...[2, 4, 8, 16].map((digits) =>
+// The fields of each line, and what each kind has to match.
+const FIELDS_OF = { ...PROGRAM_LINES, ...FURTHER_LINES };
+const BYTES = 0;
+const PATTERNS = new Map([[BYTES, /^([0-9A-Fa-f]{2}){1,128}$/], ...[2, 4, 8, 16].map((digits) =>
   [digits, new RegExp(`^[0-9A-Fa-f]{${digits}}$`)])]);
 
 function valueOf(digits, text) {
@@ -75,11 +73,11 @@ function valueOf(digits, text) {
  */
 export function parse(line, isFirst = false, isForProgram = false) {
   const [name, ...texts] = line.split(" ");
-  const lines = isForProgram ? PROGRAM_LINES : LINES;
+  const lines = isForProgram ? PROGRAM_LINES : FIELDS_OF;
   if (!Object.hasOwn(lines, name) || (name === "refuse" && !isFirst)) return null;
-  const { fields } = lines[name];
+  const fields = lines[name];
   if (fields[0] === BYTES && !texts.length) return { name, values: [new Uint8Array()] };
-  if (texts.length !== fields.length || !texts.every((text, at) => FIELDS.get(fields[at]).test(text))) return null;
+  if (texts.length !== fields.length || !texts.every((text, at) => PATTERNS.get(fields[at]).test(text))) return null;
   return { name, values: texts.map((text, place) => valueOf(fields[place], text)) };
 }
 
@@ -87,8 +85,8 @@ export function parse(line, isFirst = false, isForProgram = false) {
 export function syntaxOf(line) {
   const [name] = line.split(" ");
   if (name === "refuse") return "refuse is for the first line, with 16 hexadecimal digits.";
-  if (!Object.hasOwn(LINES, name)) return `No line of a script begins with "${name}".`;
-  const fields = LINES[name].fields.map((digits) => digits === BYTES ? "up to 128 bytes of two hexadecimal digits" :
+  if (!Object.hasOwn(FIELDS_OF, name)) return `No line of a script begins with "${name}".`;
+  const fields = FIELDS_OF[name].map((digits) => digits === BYTES ? "up to 128 bytes of two hexadecimal digits" :
     `${digits} hexadecimal digits`);
   return `${name} takes ${fields.join(", then ") || "nothing"}${fields.length ? ", after one space each" : ""}.`;
 }

@@ -6,6 +6,7 @@ import random
 import re
 
 import pytest
+from generators.lines import DOCUMENT, PAGE_LINES, for_page, for_readers
 from harness import at_least
 from made import random_script
 from script import BYTES, FURTHER_LINES, LINES, PATTERNS, PROGRAM_LINES
@@ -67,6 +68,15 @@ def test_lines():
         assert parse(line.encode()).name == name
         with pytest.raises(ScriptError, match="^the program superio has no such line$"):
             parse(line.encode(), is_for_program=True)
+
+
+def test_made():
+    """The page and the document have the lines as they are here. The document has no table beside."""
+    made = for_readers(DOCUMENT.read_text("utf-8"))
+    assert (PAGE_LINES.read_text("ascii"), DOCUMENT.read_text("utf-8")) == (for_page(), made), "run tools/generate"
+    for other in "", made + made[made.index("| Line | Effect |"):]:
+        with pytest.raises(ValueError, match="^SCRIPT.md has [0-9]+ tables of lines$"):
+            for_readers(other)
 
 
 def is_parsed(line):

@@ -19,7 +19,7 @@ PAGE = ROOT / "docs" / "try.html"
 REQUIRED = PACKAGE / "superio.cjs"
 # In the order in which each finds what it takes from those before it.
 OF_PACKAGE = [PACKAGE / f"{name}.mjs" for name in ("module", "registers", "superio")]
-MODULES = [*OF_PACKAGE, *(ROOT / "web" / f"{name}.mjs" for name in ("board", "why", "boot", "page"))]
+MODULES = [*OF_PACKAGE, *(ROOT / "web" / f"{name}.mjs" for name in ("lines", "board", "why", "boot", "page"))]
 # How superio.mjs makes its instance, and how a module does that may not wait.
 WAITING = "const { instance } = await WebAssembly.instantiate(bytesOfModule);"
 AT_ONCE = "const instance = new WebAssembly.Instance(new WebAssembly.Module(bytesOfModule));"

@@ -11,14 +11,12 @@ import { Boot } from "../../../web/boot.mjs";
 import {
   CONDITIONS, dateOf, lineFormat, plural, quoted, ruleOf, short, shownRegisters, storyOf, told,
 } from "../../../web/why.mjs";
+import { FURTHER_LINES as FURTHER, PROGRAM_LINES } from "../../../web/lines.mjs";
 
-// By docs/SCRIPT.md: how many digits each field of a line has, or BYTES for up to 128 bytes, which may be left out.
-const BYTES = 256;
-const FURTHER = { si: [], sb: [], sl: [BYTES], cb: [], cl: [BYTES] };
-const SYNTAX = {
-  refuse: [16], sr: [2], sw: [2, 2], sq: [BYTES], sc: [], sd: [], ss: [], so: [], st: [], se: [],
-  cr: [16, 4], cw: [16, 4, 8], kr: [2], kw: [2, 2], ...FURTHER,
-};
+// How many digits each field of a line has, or BYTES for up to 128 bytes, which may be left out. tests/python compares
+// what this is made from with what a model of a board takes.
+const BYTES = 0;
+const SYNTAX = { ...PROGRAM_LINES, ...FURTHER };
 const DIGITS = "0123456789abcdefABCDEF";
 const MOST = hexOf(Array.from({ length: 128 }, (_, place) => 255 - place));
 // All that is no digit: the other bytes, and digits of other scripts.
@@ -79,13 +77,14 @@ test("refuse is for the first line, and the further lines are not for the progra
 
 test("the syntax of each line in words", () => {
   const digits = (...counts) => counts.map((count) => `${count} hexadecimal digits`).join(", then ");
-  const words = new Map([["sc sd ss so st se si sb cb", "takes nothing."],
-    ["sr kr", `takes ${digits(2)}, after one space each.`], ["sw kw", `takes ${digits(2, 2)}, after one space each.`],
-    ["cr", `takes ${digits(16, 4)}, after one space each.`], ["cw", `takes ${digits(16, 4, 8)}, after one space each.`],
-    ["sq sl cl", "takes up to 128 bytes of two hexadecimal digits, after one space each."],
-    ["refuse", `is for the first line, with ${digits(16)}.`]]);
-  const told = Array.from(words).flatMap(([names, text]) => names.split(" ").map((name) => [name, `${name} ${text}`]));
-  assert.deepEqual(told.map(([name]) => name).sort(), Object.keys(SYNTAX).sort());
+  const words = new Map([["", "takes nothing."],
+    ["2", `takes ${digits(2)}, after one space each.`], ["2,2", `takes ${digits(2, 2)}, after one space each.`],
+    ["16,4", `takes ${digits(16, 4)}, after one space each.`],
+    ["16,4,8", `takes ${digits(16, 4, 8)}, after one space each.`],
+    [`${BYTES}`, "takes up to 128 bytes of two hexadecimal digits, after one space each."],
+    ["16", `is for the first line, with ${digits(16)}.`]]);
+  const told = Object.entries(SYNTAX).map(([name, sizes]) => [name, `${name} ${words.get(String(sizes))}`]);
+  assert.deepEqual(new Set(Object.values(SYNTAX).map(String)), new Set(words.keys()));
   const others = ["", "SR", "s", "srr", "constructor"];
   for (const [name, text] of [...told, ...others.map((it) => [it, `No line of a script begins with "${it}".`])]) {
     for (const rest of ["", " ", " x", " 00 00 00 00"]) assert.equal(syntaxOf(name + rest), text);
@@ -129,18 +128,19 @@ test("what is noted of the last call, and of no earlier one", () => {
 test("a copy of a board is another one: what is done to either changes nothing of the other", () => {
   const lines = ["sw 01 03", "sq 6162636465", "sr 00", "sw 00 41", "sr 02", "cw 0000000000000005 0008 00000064",
     "cw 0000000000000005 0004 00000066", "sw 07 42", "sw 00 43"];
-  const more = { refuse: "ffffffffffffffff", sr: "00", sw: "00 5a", sq: "7a", sl: hexOf(new Board().serial.toBytes()),
+  const more = { refuse: "ffffffffffffffff", sw: "00 5a", sq: "7a", sl: hexOf(new Board().serial.toBytes()),
     cr: "0000000000000007 0000", cw: "0000000000000009 000c 00000001", kr: "04", kw: "04 fe",
     cl: hexOf(new Board().clock.toBytes()) };
   const made = new Board();
   for (const line of lines) made.reply(parse(line));
   Object.assign(made, { refuses: true, fails: true });
   const kept = valuesOf(made);
-  const changed = Object.keys(SYNTAX).filter((name) => {
+  const changed = Object.entries(SYNTAX).filter(([name, sizes]) => {
     const original = made.clone();
     const copy = original.clone();
     const further = copy.clone();
-    copy.reply(parse([name, more[name] ?? []].flat().join(" "), true));
+    const texts = sizes.map((digits) => fieldsOf(digits)[0][0]);
+    copy.reply(parse([name, more[name] ?? texts].flat().join(" "), true));
     Object.assign(copy, { refuses: false, fails: false });
     for (const board of [original, further]) {
       assert.deepEqual(valuesOf(board), kept);
@@ -148,7 +148,7 @@ test("a copy of a board is another one: what is done to either changes nothing o
     }
     return copy.mask !== made.mask || !copy.isSameAs(made);
   });
-  assert.equal(changed.join(" "), "refuse sr sw sq sd ss cr cw si sl cl");
+  assert.equal(changed.map(([name]) => name).join(" "), "sr sw sq sd ss cr cw refuse si sl cl");
 });
 
 test("the place of the oldest byte, and what was read, go on with each byte that the guest reads, and no other", () => {

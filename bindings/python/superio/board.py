@@ -48,11 +48,13 @@ class Command(NamedTuple):
 
 
 class Line(NamedTuple):
-    """What a line is."""
+    """What a line is. `tools/generate` makes the tables of docs/SCRIPT.md and web/lines.mjs of it."""
 
-    about: str                           # as `help` says it
+    about: str                           # as `help` lists it
     fields: Tuple[Field, ...]            # of which bytes may be left out
     reply: Callable[..., Optional[str]]  # has a board carry it out, given the values of the fields
+    replies: str = ""                    # what a script prints for it, in words
+    more: str = ""                       # what else is to be known of it, in sentences
 
 
 def without_thre(port: Serial) -> Serial:
@@ -231,36 +233,54 @@ def _loaded(data: bytes, kind: Any, replace_device: Callable[[Any], str]) -> str
 
 
 PROGRAM_LINES: Dict[str, Line] = {
-    "sr": Line("the guest reads at offset OO", (SERIAL_OFFSET,), lambda board, offset: f"{board._read(offset):02x}"),
-    "sw": Line("the guest writes VV at offset OO", (SERIAL_OFFSET, SERIAL_VALUE), Board._serial_write),
-    "sq": Line("1 to 128 bytes arrive; sq alone: none", (BYTES,), Board._enqueue),
-    "sc": Line("how many more bytes fit", (), lambda board: f"{board.serial.fifo_capacity():02x}"),
-    "sd": Line("the guest's driver reads what is held", (), Board._drain),
-    "ss": Line("saves the port and restores it", (),
-               lambda board: board._replace_port(Serial.from_state(board.serial.state))),
-    "so": Line("the bytes that the port wrote", (), lambda board: board.output.hex()),
-    "st": Line("how often the interrupt line was called", (), lambda board: f"{board.calls:016x}"),
-    "se": Line("reads of RBR, bytes out, lost, reads that left none", (),
-               lambda board: " ".join(f"{count:016x}" for count in board.counts)),
-    "cr": Line("the guest reads the clock at offset OOOO", (MOMENT, CLOCK_OFFSET), Board._clock_read),
-    "cw": Line("the guest writes the clock", (MOMENT, CLOCK_OFFSET, CLOCK_VALUE), Board._clock_write),
-    "kr": Line("the guest reads the controller", (OFFSET,),
-               lambda board, offset: f"{board.controller.read(offset):02x}"),
-    "kw": Line("the guest writes the controller; kw 04 fe resets", (OFFSET, VALUE),
-               lambda board, offset, value: "reset" if board.controller.write(offset, value).resets else "ok"),
-    MASK: Line("the calls that the interrupt line refuses", (Field("mask", "MASK", 16),), Board._refuse),
+    "sr": Line("the guest reads at offset OO", (SERIAL_OFFSET,), lambda board, offset: f"{board._read(offset):02x}",
+               "the byte"),
+    "sw": Line("the guest writes VV at offset OO", (SERIAL_OFFSET, SERIAL_VALUE), Board._serial_write,
+               "`ok`; `io` if the byte was lost"),
+    "sq": Line("the monitor enqueues 0 to 128 bytes", (BYTES,), Board._enqueue,
+               "how many were accepted, two digits; `full` if the line has bytes, the port holds 64 already, and it is "
+               "not in loopback", "Each has two digits, and no spaces stand between them."),
+    "sc": Line("the board tells how many more bytes fit in the FIFO", (),
+               lambda board: f"{board.serial.fifo_capacity():02x}",
+               "two digits: `40`, which is 64, if no byte is held"),
+    "sd": Line("the guest's driver reads what is held", (), Board._drain,
+               "the bytes that it read; an empty line if there are none",
+               "It reads RBR as long as LSR shows data ready. If DLAB is set, it reads no byte."),
+    "ss": Line("the board makes a new port from the old one's saved state", (),
+               lambda board: board._replace_port(Serial.from_state(board.serial.state)), "`ok`"),
+    "so": Line("the board shows the output of the port so far", (), lambda board: board.output.hex(),
+               "the bytes; an empty line if there are none"),
+    "st": Line("the board tells how often the interrupt line was called", (), lambda board: f"{board.calls:016x}",
+               "sixteen digits", "Refused calls count too."),
+    "se": Line("the board tells how often each event was reported", (),
+               lambda board: " ".join(f"{count:016x}" for count in board.counts), "four times sixteen digits",
+               "The events are RBR reads, bytes out, bytes lost, and RBR reads that left no byte."),
+    "cr": Line("the guest reads the clock at offset OOOO", (MOMENT, CLOCK_OFFSET), Board._clock_read,
+               "the value, eight digits; `invalid` if the clock has nothing to read there"),
+    "cw": Line("the guest writes VVVVVVVV at offset OOOO of the clock", (MOMENT, CLOCK_OFFSET, CLOCK_VALUE),
+               Board._clock_write, "`ok`; `invalid` if the clock has nothing to write there"),
+    "kr": Line("the guest reads the controller at offset OO", (OFFSET,),
+               lambda board, offset: f"{board.controller.read(offset):02x}", "the byte"),
+    "kw": Line("the guest writes VV at offset OO of the controller", (OFFSET, VALUE),
+               lambda board, offset, value: "reset" if board.controller.write(offset, value).resets else "ok",
+               "`reset` if the reset line was called, otherwise `ok`", "The line `kw 04 fe` has the reset command."),
+    MASK: Line("the calls that the interrupt line refuses", (Field("mask", "MASK", 16),), Board._refuse, "",
+               "Only before every other call. The line refuses call k, from 0, if bit k of the mask is set."),
 }
 """The lines of a script, by their names."""
 
 FURTHER_LINES: Dict[str, Line] = {
-    "si": Line("the line is idle: raises RDA again if bytes wait", (),
-               lambda board: "ok" if board._ask(board.serial.character_timeout()) else "trigger"),
-    "sb": Line("the port's saved state", (), lambda board: board.serial.to_bytes().hex()),
-    "sl": Line("loads the port from a saved state", (BYTES,),
-               lambda board, data=b"": _loaded(data, Serial, board._replace_port)),
-    "cb": Line("the clock's saved state", (), lambda board: board.clock.to_bytes().hex()),
-    "cl": Line("loads the clock from a saved state", (BYTES,),
-               lambda board, data=b"": _loaded(data, Rtc, board._replace_clock)),
+    "si": Line("the line is idle: RDA is raised again if bytes wait", (),
+               lambda board: "ok" if board._ask(board.serial.character_timeout()) else "trigger",
+               "`ok`, even if it raised nothing"),
+    "sb": Line("the board saves the port", (), lambda board: board.serial.to_bytes().hex(), "the saved state"),
+    "sl": Line("the board makes a new port from a saved state", (BYTES,),
+               lambda board, data=b"": _loaded(data, Serial, board._replace_port),
+               "`ok`, or why the bytes are no saved state", "The line has 0 to 128 bytes."),
+    "cb": Line("the board saves the clock", (), lambda board: board.clock.to_bytes().hex(), "the saved state"),
+    "cl": Line("the board makes a new clock from a saved state", (BYTES,),
+               lambda board, data=b"": _loaded(data, Rtc, board._replace_clock),
+               "`ok`, or why the bytes are no saved state", "The line has 0 to 128 bytes."),
 }
 """The further lines, by their names: a board carries them out, and the program `superio` refuses them."""
 

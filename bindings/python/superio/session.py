@@ -5,7 +5,7 @@ import shlex
 import time
 from typing import IO, Callable, Dict, Iterable, Iterator, List, Optional, Tuple
 
-from .board import FURTHER_LINES, MASK, PROGRAM_LINES, Board, Call, Command, Line
+from .board import FURTHER_LINES, PROGRAM_LINES, Board, Call, Command, Line
 from .program import LONGEST
 from .prompt import Help, Prompt, write_text
 from .registers import CLOCK, SERIAL
@@ -26,13 +26,16 @@ help lists all commands, Tab completes, Ctrl-D ends."""
 _READ, _WRITTEN = (", ".join(name for name, register in SERIAL.items() if letter in register.access) for letter in "rw")
 _CLOCK_NAMES = ", ".join(name for name in CLOCK if not name.startswith("ID"))
 
-_OF_MASK = "Only before every other call. The line refuses call k, from 0, if bit k of the mask is set."
+
+def _more(line: Line) -> str:
+    """What `help NAME` says of a line beside what it is about."""
+    return f"{line.more} {line.replies and f'Reply: {line.replies}.'}".strip().replace("`", "")
 
 
 def _helps(lines: Dict[str, Line]) -> Tuple[Help, ...]:
     """What `help` says of lines."""
-    return tuple(Help(syntax_of(name), line.about, _OF_MASK if name == MASK else "",
-                      tuple(field.kind for field in line.fields)) for name, line in lines.items())
+    return tuple(Help(syntax_of(name), line.about, _more(line), tuple(field.kind for field in line.fields))
+                 for name, line in lines.items())
 
 
 _GROUPS: Dict[str, Tuple[Help, ...]] = {

@@ -432,7 +432,9 @@ class Words(FolderTest):
         for name, more in (("read", "REGISTER is RBR, DLL, IER, "), ("clock", "REGISTER is DR, MR, LR, "),
                            ("refuse", "Only before every other call.")):
             self.assertIn(more, self.said(f"help {name}")[2])
-        self.assertEqual(["kr OO", "the guest reads the controller."], self.said("help kr"))
+        self.assertEqual(["kr OO", "the guest reads the controller at offset OO.", "Reply: the byte."],
+                         self.said("help kr"))
+        self.assertNotIn("Reply", self.said("help refuse")[2])
         for row in ("regs [serial|clock] every", f"write REGISTER VALUE\n{'':22}the guest"):  # of 19 characters and 20
             self.assertIn(f"\n  {row}", listed)
         self.assertTrue(listed.endswith("\nhelp NAME says more. Ctrl-C drops a line, Ctrl-D ends."))

@@ -1,0 +1,57 @@
+# SPDX-License-Identifier: Apache-2.0 OR BSD-3-Clause
+"""The lines of a script, as bindings/python/superio/board.py has them, for the page and for readers: web/lines.mjs, and
+the tables of docs/SCRIPT.md."""
+import json
+import re
+
+from common.commands import ROOT
+from superio.board import BYTES, FURTHER_LINES, MASK, PROGRAM_LINES
+
+PAGE_LINES = ROOT / "web" / "lines.mjs"
+DOCUMENT = ROOT / "docs" / "SCRIPT.md"
+HEAD = "| Line | Effect | Reply |\n|---|---|---|\n"
+# The lines of each table of the document, in their order: those of a device, whose names begin with its letter, and the
+# further ones. The line that a script begins with has a paragraph of its own.
+OF_DEVICES = {name: line for name, line in PROGRAM_LINES.items() if name != MASK}
+TABLES = [*({name: line for name, line in OF_DEVICES.items() if name[0] == letter}
+            for letter in dict.fromkeys(name[0] for name in OF_DEVICES)), FURTHER_LINES]
+
+
+def for_page():
+    """The text of lines.mjs."""
+    tables = {"PROGRAM_LINES": PROGRAM_LINES, "FURTHER_LINES": FURTHER_LINES}
+    lines = ["// SPDX-License-" "Identifier: Apache-2.0 OR BSD-3-Clause",
+             "// Made by tools/generate from board.py of bindings/python/superio.",
+             "// How many digits each field of a line has, or 0 for 0 to 128 bytes of two digits each."]
+    for table, rows in tables.items():
+        fields = (f"  {name}: {json.dumps([field.digits for field in line.fields])}," for name, line in rows.items())
+        lines += [f"export const {table} = {{", *fields, "};"]
+    return "\n".join([*lines, ""])
+
+
+def shown(field):
+    """A field in a syntax: a letter for each digit, where N is that of a moment."""
+    return field.syntax if len(field.syntax) == field.digits or field == BYTES else "N" * field.digits
+
+
+def row(name, line):
+    """The row of a line."""
+    syntax = " ".join([name, *map(shown, line.fields)])
+    syntaxes = [name, syntax] if BYTES in line.fields else [syntax]
+    effect = f"{line.about[0].upper()}{line.about[1:]}. {line.more}".strip()
+    return f"| {', '.join(f'`{it}`' for it in syntaxes)} | {effect} | {line.replies} |\n"
+
+
+def for_readers(text):
+    """The text of SCRIPT.md with its tables."""
+    tables = iter(TABLES)
+    made, count = re.subn(re.escape(HEAD) + r"(?:\|.*\n)*", lambda _: HEAD + "".join(
+        row(name, line) for name, line in next(tables, {}).items()), text)
+    if count != len(TABLES):
+        raise ValueError(f"{DOCUMENT.name} has {count} tables of lines")
+    return made
+
+
+if __name__ == "__main__":
+    PAGE_LINES.write_text(for_page(), encoding="ascii")
+    DOCUMENT.write_text(for_readers(DOCUMENT.read_text(encoding="utf-8")), encoding="utf-8")
