@@ -6,8 +6,8 @@ use Rattle.std.specs.Int.Bits.{and_mask}
 use Rattle.vm_superio.specs.Links.{Link, TriggerAnswer, Contents}
 use Rattle.vm_superio.specs.Serial.{SerialView, has_bits, without_bits, State, not_empty, Coherent, Data, register_at, is_dlab, register_read, identification_of, Read, Response, ByteRead, Event, buffer_read, in_buffer_empty, rbr_read, read_step, step, read_events, Asked}
 use Rattle.vm_superio.specs.Serial.Step.{IsSerialRead}
-use Rattle.superio_laws.specs.Serial.Laws.{CoherenceLaw}
-use Rattle.superio_laws.specs.Serial.Laws.OneCall.{RbrDataReadyLaw}
+use Rattle.superio_core.proofs.Lemmas.Serial.Coherence.{coherence_law}
+use Rattle.superio_laws.proofs.Lemmas.Serial.Laws.OneCall.{rbr_data_ready}
 use Rattle.superio_script.specs.Driver.{IsReady, ReadsWhileReady, without_bytes, drain_events, TakesAll}
 
 -- ---- how many reads are to come
@@ -63,16 +63,16 @@ module _ {T E EV W : Type 0} {trigger : Link T (TriggerAnswer E)} {events : Link
         hidden made.events;
   }
 
-  pub polled_read : {status byte : ℕ} {old seen new : SerialView T EV W} → RbrDataReadyLaw → is_dlab old.state.line_control ≡ false
+  pub polled_read : {status byte : ℕ} {old seen new : SerialView T EV W} → is_dlab old.state.line_control ≡ false
       → IsSerialRead trigger events contents 5 status old seen → seen ≡ old → has_bits status 0x01 ≡ true
       → IsSerialRead trigger events contents 0 byte seen new → IsPolledRead trigger events contents byte old new
-  polled_read {status} {byte} {old} {seen} {new} law hidden looked same shows read =
+  polled_read {status} {byte} {old} {seen} {new} hidden looked same shows read =
       let ready = ap (λ lsr. has_bits lsr 0x01) (sym (lsr_read looked)) ∙ shows in
       let made : IsSerialRead trigger events contents 0 byte old new =
       subst (λ (port : SerialView T EV W). IsSerialRead trigger events contents 0 byte port new) same read in
       let state = (rbr_read-from_step hidden made).state in
       let left = ap (λ (s : State). s.in_buffer) state in
-      let still = ap (λ (s : State). has_bits s.line_status 0x01) made.state ∙ law old.state hidden
+      let still = ap (λ (s : State). has_bits s.line_status 0x01) made.state ∙ rbr_data_ready old.state hidden
       ∙ ap (λ shown. shown && not_empty (step old.state (Read 0) Asked.Nothing).in_buffer) ready
       ∙ ap (λ (s : State). not_empty s.in_buffer) (sym made.state) ∙ ap not_empty left in
       record {
@@ -156,13 +156,12 @@ events-of_all left = grind arith
 module _
     {T E EV W : Type 0} (trigger : Link T (TriggerAnswer E)) (events : Link EV Event) (contents : Contents W)
     (empty : (x y : EV) → events x [] y ↔ (x ≡ y))
-    (append : (x y z : EV) (first second : List Event) → events x first y → events y second z → events x (first ++ second) z)
-    (coherence : CoherenceLaw) where
+    (append : (x y z : EV) (first second : List Event) → events x first y → events y second z → events x (first ++ second) z) where
   pub coherent_after : (bytes : List ℕ) (old new : SerialView T EV W) → Coherent old.state
       → ReadsWhileReady trigger events contents bytes old new → Coherent new.state
   coherent_after [] old new is same = subst (λ (port : SerialView T EV W). Coherent port.state) (sym same) is
   coherent_after (byte ∷ bytes) old new is (ready, (middle, made, later)) =
-      coherent_after bytes middle new (subst Coherent (sym made.state) (coherence old.state (Read 0) Asked.Nothing is)) later
+      coherent_after bytes middle new (subst Coherent (sym made.state) (coherence_law old.state (Read 0) Asked.Nothing is)) later
 
   pub takes_all : (bytes : List ℕ) (old new : SerialView T EV W) → Coherent old.state → is_dlab old.state.line_control ≡ false
       → ReadsWhileReady trigger events contents bytes old new → has_bits new.state.line_status 0x01 ≡ false
@@ -176,7 +175,7 @@ module _
   takes_all (byte ∷ bytes) old new is hidden (ready, (middle, made, later)) clear =
       let read = rbr_read-from_step hidden made in
       let after = subst Coherent read.state
-      (subst Coherent (sym made.state) (coherence old.state (Read 0) Asked.Nothing is)) in
+      (subst Coherent (sym made.state) (coherence_law old.state (Read 0) Asked.Nothing is)) in
       let is_middle = subst Coherent (sym read.state) after in
       let rest = takes_all bytes middle new is_middle
       (ap (λ (s : State). is_dlab s.line_control) read.state ∙ hidden) later clear in

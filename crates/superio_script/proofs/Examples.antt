@@ -4,7 +4,7 @@ use Rattle.std.proofs.Common.{◌≡◌, ℕ, List, [], ◌∷◌, ◌++◌, ref
 use Rattle.vm_superio.specs.Serial.{has_bits, only_bits, with_bits}
 use Rattle.superio_script.specs.Reply.{with_lf, digits_reply, count_digits}
 use Rattle.superio_script.specs.SerialScript.{Out, serial_replies}
-use Rattle.superio_script.specs.declared.command.SerialCommand.TheVariants.{Read, Write, Enqueue, Capacity, Drain, Restore, Output, Calls, Events}
+use Rattle.superio_script.specs.declared.serial_lines.SerialCommand.TheVariants.{Read, Write, Enqueue, Capacity, Drain, Restore, Output, Calls, Events}
 
 abbrev ok : List ℕ
 ok = with_lf (codes "ok")

@@ -4,10 +4,13 @@ use Rattle.std.proofs.Common.{◌≡◌, ◌≢◌, ℕ, ◌==◌, Bool, true, f
 use Rattle.std.specs.Str.{bytes_eq}
 use Rattle.std.proofs.lemmas.Slice.Eq.{bytes_eq-Decides}
 use Rattle.std.proofs.lemmas.Option.{option_and_then_some}
-use Rattle.std.specs.Int.{Width, w8}
-use Rattle.superio_script.specs.Fields.{prepend_to_first, pieces_of, fields_of, number, bytes, end, first_number, first_bytes, later_fields}
-use Rattle.superio_script.specs.Command.{by_syntax, serial_syntaxes, clock_syntaxes, controller_syntaxes, command_of_name, command_of_fields, command_of, SerialCommand, ClockCommand, ControllerCommand, Serial, Clock, Controller}
-use Rattle.superio_script.specs.declared.command.SerialCommand.TheVariants as line
+use Rattle.std.specs.Int.{Width}
+use Rattle.superio_script.specs.Fields.{by_syntax, prepend_to_first, pieces_of, fields_of, number, bytes, end, first_number, first_bytes, later_fields}
+use Rattle.superio_script.specs.Command.{command_of_name, command_of_fields, command_of, Serial, Clock, Controller}
+use Rattle.superio_script.specs.SerialScript.{SerialCommand, serial_syntaxes}
+use Rattle.superio_script.specs.ClockScript.{ClockCommand, clock_syntaxes}
+use Rattle.superio_script.specs.ControllerScript.{ControllerCommand, controller_syntaxes}
+use Rattle.superio_script.specs.declared.serial_lines.SerialCommand.TheVariants as line
 
 -- ---- a line of one field
 
@@ -37,39 +40,24 @@ one-field (x ∷ xs) field one = by_test (x == 32) (fields_of xs) (one-field xs)
 
 -- ---- the syntax
 
--- fields that give one command give no other
-module _ {A : Type 0} (other : A) where
-  end-other : (command : A) → command ≢ other → (fields : List (List ℕ)) → end command fields ≢ Some other
-  end-other command differs [] is = differs cc
-  end-other command differs (field ∷ fields) is = absurd cc
+-- fields that give a command: the first of them gives a value with which the later ones do
+number-gives : {A : Type 0} (width : Width) (next : ℕ → List (List ℕ) → Option A) (fields : List (List ℕ)) (command : A) →
+    number width next fields ≡ Some command → (value : ℕ) × (next value (later_fields fields) ≡ Some command)
+number-gives width next fields command is =
+    option_and_then_some (λ value. next value (later_fields fields)) (first_number width fields) command is (λ value _ e. (value, e))
 
-  number-other : (width : Width) (next : ℕ → List (List ℕ) → Option A) → ((value : ℕ) (fields : List (List ℕ)) → next value fields ≢ Some other)
-      → (fields : List (List ℕ)) → number width next fields ≢ Some other
-  number-other width next never fields is =
-      option_and_then_some (λ value. next value (later_fields fields)) (first_number width fields) other is
-      (λ value _ e. never value (later_fields fields) e)
+bytes-gives : {A : Type 0} (next : List ℕ → List (List ℕ) → Option A) (fields : List (List ℕ)) (command : A) →
+    bytes next fields ≡ Some command → (value : List ℕ) × (next value (later_fields fields) ≡ Some command)
+bytes-gives next fields command is =
+    option_and_then_some (λ value. next value (later_fields fields)) (first_bytes fields) command is (λ value _ e. (value, e))
 
-  bytes-other : (next : List ℕ → List (List ℕ) → Option A) → ((value : List ℕ) (fields : List (List ℕ)) → next value fields ≢ Some other)
-      → (fields : List (List ℕ)) → bytes next fields ≢ Some other
-  bytes-other next never fields is =
-      option_and_then_some (λ value. next value (later_fields fields)) (first_bytes fields) other is
-      (λ value _ e. never value (later_fields fields) e)
-
--- a line without fields
-end-restore : (command : SerialCommand) (fields : List (List ℕ)) → end command fields ≡ Some line.Restore → command ≡ line.Restore
-end-restore command [] is = cc
-end-restore command (field ∷ fields) is = absurd cc
+end-gives : {A : Type 0} (command other : A) (fields : List (List ℕ)) → end command fields ≡ Some other → command ≡ other
+end-gives command other [] is = cc
+end-gives command other (field ∷ fields) is = absurd cc
 
 restore-syntax : (name : List ℕ) (fields : List (List ℕ)) → by_syntax serial_syntaxes name fields ≡ Some line.Restore
     → IsTrue (bytes_eq name (codes "ss")) × (end line.Restore fields ≡ Some line.Restore)
-restore-syntax name fields is = grind (
-  arith,
-  number-other line.Restore w8 (λ offset. end (line.Read offset)) (λ offset. end-other line.Restore (line.Read offset) (λ e. cc)) fields,
-  number-other line.Restore w8 (λ offset. number w8 (λ value. end (line.Write offset value)))
-      (λ offset. number-other line.Restore w8 (λ value. end (line.Write offset value)) (λ value. end-other line.Restore (line.Write offset value) (λ e. cc))) fields,
-  bytes-other line.Restore (λ value. end (line.Enqueue value)) (λ value. end-other line.Restore (line.Enqueue value) (λ e. cc)) fields,
-  end-restore,
-)
+restore-syntax name fields is = grind (arith, number-gives, bytes-gives, end-gives)
 
 ended : (fields : List (List ℕ)) → end line.Restore fields ≡ Some line.Restore → fields ≡ []
 ended [] is = refl

@@ -17,7 +17,8 @@ use Rattle.superio_script.specs.Command.{command_of, Command, Serial, Clock, Con
 use Rattle.superio_script.specs.SerialScript.{Outcome, outcomes_of, all_short, trace_after_line, prints_after_loss}
 use Rattle.superio_script.specs.ClockScript.{clock_after, access_of_line, clock_replies}
 use Rattle.superio_script.specs.Board.{Devices, IsAfter, IsFresh, IsLineStep}
-use Rattle.superio_script.specs.Script.{has_syntax, until_bad, good_commands, first_bad_line, serial_lines, clock_lines, controller_lines, controller_replies, replies_in_order, text_from, text_of, PrintsLines, StopsWithoutMemory}
+use Rattle.superio_script.specs.ControllerScript.{controller_replies}
+use Rattle.superio_script.specs.Script.{has_syntax, until_bad, good_commands, first_bad_line, serial_lines, clock_lines, controller_lines, replies_in_order, text_from, text_of, PrintsLines, StopsWithoutMemory}
 use Rattle.superio_script.proofs.SerialScriptLemmas.{outcomes_taken, printed_taken, first-replies, outcomes-after_line}
 
 -- ---- a line of the board

@@ -1,6 +1,6 @@
 -- SPDX-License-Identifier: Apache-2.0 OR BSD-3-Clause
 -- A line of the serial port leads from the trace before it to the one after it.
-use Rattle.std.proofs.Common.{◌≡◌, ℕ, zero, suc, ◌+◌, ◌-◌, ◌≤◌, Bool, true, false, List, [], ◌∷◌, ◌++◌, length, drop, fold, count_by, Option, Some, None, Result, refl, ap, sym, ◌∙◌, subst, arith, append_assoc, append-nil, length-append, inl, inr, ◌≢◌, IsTrue, if◌then◌else◌, ◌==◌, not, codes, ◌&&◌, is_some}
+use Rattle.std.proofs.Common.{◌≡◌, ℕ, zero, suc, ◌+◌, ◌≤◌, Bool, true, false, List, [], ◌∷◌, ◌++◌, length, drop, fold, count_by, Option, Some, None, Result, refl, ap, sym, ◌∙◌, subst, arith, append_assoc, append-nil, length-append, inl, inr, ◌≢◌, IsTrue, if◌then◌else◌, ◌==◌, not, codes, ◌&&◌, is_some}
 use Rattle.std.specs.Bool.{beq}
 use Rattle.std.specs.List.{list_all}
 use Rattle.std.proofs.lemmas.Bool.{and_parts, false≢true}
@@ -8,9 +8,11 @@ use Rattle.std.proofs.lemmas.Bool.Decides.{nat_tests}
 use Rattle.std.proofs.lemmas.List.Sums.{sum_by-append}
 use Rattle.std.specs.Cmp.Derive.{both_true}
 use Rattle.superio_core.proofs.Lemmas.Serial.{fresh_coherent}
+use Rattle.superio_laws.proofs.Lemmas.Serial.Laws.Interrupts.{coherent_after}
+use Rattle.superio_laws.proofs.Lemmas.Serial.Laws.StepsOfHistory.{state_law, step_law, call_law}
 use Rattle.vm_superio.specs.Serial.Step.{RefusesRestore, IsSerialStep}
 use Rattle.superio_laws.specs.Serial.History.{none_lost, output, decode_at, held_bytes, dlab_after, state_of_history, history_events, calls_due, conditions_due_after, is_fitting, is_fitting_entry, trigger_calls}
-use Rattle.superio_laws.specs.Serial.Laws.{StepLaw, CallLaw, StateLaw, CoherenceLaw, CallAgrees, StepAgrees, state_after}
+use Rattle.superio_laws.specs.Serial.Laws.{CallAgrees, StepAgrees}
 use Rattle.vm_superio.specs.Links.{Contents, answers_of, all_ok, StopsAtRefusal}
 use Rattle.vm_superio.specs.Links.Writer.{SerialLinks, serial_links, WriterLink}
 use Rattle.vm_superio.specs.Serial.{bytes_sent, outcome_of, SerialView, DecodedOp, failure_response, Asked, Sent, Op, Read, Write, Enqueue, Trace, TraceEntry, Response, Event, buffer_read, out_byte, tx_lost_byte, in_buffer_empty, is_sent, is_lost, answer_count, ends_in_refusal, sent_by, State, not_empty, fresh_state, has_bits, only_bits, Coherent, Condition, is_dlab, pending_in_order, answers_all, answers_fit, step_events, step_calls, sends_byte, conditions_due}
@@ -19,12 +21,11 @@ use Rattle.vm_superio.specs.declared.serial.errors.Error.{Error}
 use Rattle.vm_superio.specs.declared.serial.errors.Error.TheVariants.{Trigger, IOError, FullFifo, Memory}
 use Rattle.vm_superio.specs.Links.ForAnyObject.{FoldsCalls}
 use Rattle.superio_script.specs.Objects.{fresh_interrupt_line, InterruptLineLink, is_call_refused, saturated, no_counts, counts_after_event, written_bytes, Line, Counts, Output, LineRefused}
-use Rattle.superio_script.specs.Reply.{with_lf, response_reply, digits_reply}
-use Rattle.superio_script.specs.SerialScript.{calls_of_entry, calls_made, interrupt_line_after, events_reported, is_event, counts_of, Outcome, Out, Lost, out_before_loss, outcome_of_sent, outcomes_of, next_outcome, next_printed, trigger_answers, sends, sent_with, call_entry, entry_reply, rbr_read_entry, after_rbr_reads, drained_bytes, restore_entry, is_restore_refused, serial_reply, trace_after_line, line_sends, prints_after_loss, serial_replies, shown}
+use Rattle.superio_script.specs.Reply.{with_lf, digits_reply}
+use Rattle.superio_script.specs.SerialScript.{SerialCommand, response_reply, calls_of_entry, calls_made, interrupt_line_after, events_reported, is_event, counts_of, Outcome, Out, Lost, out_before_loss, outcome_of_sent, outcomes_of, next_outcome, next_printed, trigger_answers, sends, sent_with, call_entry, entry_reply, rbr_read_entry, after_rbr_reads, drained_bytes, restore_entry, is_restore_refused, serial_reply, trace_after_line, line_sends, prints_after_loss, serial_replies, shown}
 use Rattle.superio_script.specs.Driver.{ReadsWhileReady, TakesAll}
 use Rattle.superio_script.specs.Board.{IsAfter, SerialLineStep, IsSerialLineStep}
-use Rattle.superio_script.specs.declared.command.SerialCommand.{SerialCommand}
-use Rattle.superio_script.specs.declared.command.SerialCommand.TheVariants as line
+use Rattle.superio_script.specs.declared.serial_lines.SerialCommand.TheVariants as line
 
 -- ---- the interrupt line
 
@@ -168,7 +169,7 @@ sent-is : (sent : Sent) (sends : Bool) → IsTrue (beq (is_sent sent) sends) →
 unfolding outcome_in
 sent-is sent sends fits = grind arith
 
-module _ (steps : StepLaw) (calls : CallLaw) {op : Op} {asked : Asked} {sent : Sent} {response : Response} {refusal : Option LineRefused} {old new : SerialView Line Counts Output}
+module _ {op : Op} {asked : Asked} {sent : Sent} {response : Response} {refusal : Option LineRefused} {old new : SerialView Line Counts Output}
     (made : IsSerialStep board_links op asked sent response refusal old new) (mask : ℕ) (trace : Trace) (at : IsAfter mask trace old)
     (counted : calls_of_entry trace op asked ≡ answer_count asked) where
   abbrev made_entry : TraceEntry
@@ -181,10 +182,10 @@ module _ (steps : StepLaw) (calls : CallLaw) {op : Op} {asked : Asked} {sent : S
   was-fits = subst (λ s. IsTrue (answers_fit s op asked sent)) at.state made.fits
 
   agreed : CallAgrees fresh_state trace made_entry response new.state
-  agreed = calls fresh_state trace made_entry response old.state new.state fresh_coherent at.state made.fits made.response made.state
+  agreed = call_law fresh_state trace made_entry response old.state new.state fresh_coherent at.state made.fits made.response made.state
 
   stepped : StepAgrees fresh_state trace made_entry
-  stepped = (steps fresh_state trace fresh_coherent).steps made_entry was-fits
+  stepped = (step_law fresh_state trace fresh_coherent).steps made_entry was-fits
 
   parts : IsTrue (answers_all (step_calls now op) asked) × IsTrue (beq (is_sent sent) (sends trace op))
   parts = and_parts (answers_all (step_calls now op) asked) (beq (is_sent sent) (sends_byte now op)) was-fits
@@ -193,7 +194,7 @@ module _ (steps : StepLaw) (calls : CallLaw) {op : Op} {asked : Asked} {sent : S
       × (new.trigger ≡ interrupt_line_after mask (calls_made trace + answer_count asked))
   answered =
       answers-from_link mask (calls_made trace) new.trigger (calls_due fresh_state trace op) asked refusal
-      (subst (λ due. IsTrue (answers_all due asked)) ((steps fresh_state trace fresh_coherent).calls op) parts.0)
+      (subst (λ due. IsTrue (answers_all due asked)) ((step_law fresh_state trace fresh_coherent).calls op) parts.0)
       made.refused
       (subst (λ line. InterruptLineLink line (answers_of asked refusal) new.trigger) at.interrupt_line made.trigger)
 
@@ -250,39 +251,34 @@ module _ {mask : ℕ} {trace : Trace} {line : SerialCommand} {reply : List ℕ} 
 
 -- ---- a drain
 
-module _ (steps : StepLaw) (calls : CallLaw) where
-  -- the reads of a driver, each of which is a call
-  reads-after : (bytes : List ℕ) (old new : SerialView Line Counts Output) (mask : ℕ) (trace : Trace) → IsAfter mask trace old
-      → ReadsWhileReady InterruptLineLink (FoldsCalls counts_after_event) output_link bytes old new
-      → IsAfter mask (after_rbr_reads (length bytes) trace) new
-  reads-after [] old new mask trace at same = subst (IsAfter mask trace) (sym same) at
-  reads-after (byte ∷ bytes) old new mask trace at (ready, (middle, made, later)) =
-      reads-after bytes middle new mask (rbr_read_entry ∷ trace) (call-after steps calls made mask trace at refl) later
-
-coherent-after : CoherenceLaw → (trace : Trace) → Coherent (state_after fresh_state trace)
-coherent-after coherence [] = fresh_coherent
-coherent-after coherence (entry ∷ trace) = coherence (state_after fresh_state trace) entry.op entry.asked (coherent-after coherence trace)
+-- the reads of a driver, each of which is a call
+reads-after : (bytes : List ℕ) (old new : SerialView Line Counts Output) (mask : ℕ) (trace : Trace) → IsAfter mask trace old
+    → ReadsWhileReady InterruptLineLink (FoldsCalls counts_after_event) output_link bytes old new
+    → IsAfter mask (after_rbr_reads (length bytes) trace) new
+reads-after [] old new mask trace at same = subst (IsAfter mask trace) (sym same) at
+reads-after (byte ∷ bytes) old new mask trace at (ready, (middle, made, later)) =
+    reads-after bytes middle new mask (rbr_read_entry ∷ trace) (call-after made mask trace at refl) later
 
 drained-are : (latch : Bool) (bytes held : List ℕ) → (latch ≡ true → bytes ≡ []) → (latch ≡ false → bytes ≡ held)
     → bytes ≡ (if latch then [] else held)
 drained-are latch bytes held set clear = grind arith
 
 pub drain-step :
-    StepLaw → CallLaw → StateLaw → CoherenceLaw → (bytes : List ℕ) (old new : SerialView Line Counts Output)
+    (bytes : List ℕ) (old new : SerialView Line Counts Output)
     → ReadsWhileReady InterruptLineLink (FoldsCalls counts_after_event) output_link bytes old new
     → (IsTrue (is_dlab old.state.line_control) → bytes ≡ [])
     → (Coherent old.state → is_dlab old.state.line_control ≡ false → TakesAll (FoldsCalls counts_after_event) bytes old new)
     → IsSerialLineStep line.Drain (digits_reply bytes) old new
-drain-step steps calls states coherence bytes old new reads latch all mask trace at =
+drain-step bytes old new reads latch all mask trace at =
     let latched = ap (λ (s : State). is_dlab s.line_control) at.state in
-    let coherent = subst Coherent (states fresh_state trace fresh_coherent ∙ sym at.state) (coherent-after coherence trace) in
+    let coherent = subst Coherent (state_law fresh_state trace fresh_coherent ∙ sym at.state) (coherent_after fresh_state trace fresh_coherent) in
     let taken : bytes ≡ drained_bytes trace =
     drained-are (dlab_after fresh_state trace) bytes (held_bytes fresh_state trace) (λ set. latch (latched ∙ set))
     (λ clear. (all coherent (latched ∙ clear)).bytes ∙ ap (λ (s : State). s.in_buffer) at.state) in
     without_choice
     (ap digits_reply taken)
     (subst (λ (bytes : List ℕ). IsAfter mask (after_rbr_reads (length bytes) trace) new) taken
-    (reads-after steps calls bytes old new mask trace at reads))
+    (reads-after bytes old new mask trace at reads))
 
 -- ---- the lines that change nothing
 
@@ -363,11 +359,11 @@ module _ (mask : ℕ) (trace : Trace) where
       )
 
   -- the port after an accepted restore
-  restored-after : (steps : StepLaw) (old new : SerialView Line Counts Output) → IsAfter mask trace old → new.state ≡ old.state →
+  restored-after : (old new : SerialView Line Counts Output) → IsAfter mask trace old → new.state ≡ old.state →
       new.trigger ≡ interrupt_line_after mask (calls_made (restore_entry ∷ trace)) → new.events ≡ old.events → new.out ≡ old.out →
       IsAfter mask (restore_entry ∷ trace) new
-  restored-after steps old new at state line events out = record {
-    state = state ∙ at.state ∙ ((steps fresh_state trace fresh_coherent).steps restore_entry refl).state;
+  restored-after old new at state line events out = record {
+    state = state ∙ at.state ∙ ((step_law fresh_state trace fresh_coherent).steps restore_entry refl).state;
     interrupt_line = line;
     counts = events ∙ at.counts ∙ ap counts_of (sym (append-nil (events_reported trace)));
     output = λ kept. ap written_bytes out ∙ at.output kept ∙ sym (append-nil (output fresh_state [] trace));
@@ -376,29 +372,29 @@ module _ (mask : ℕ) (trace : Trace) where
   }
 
 -- a restore whose calls were accepted
-pub restore-accepts : StepLaw → (old new : SerialView Line Counts Output) →
+pub restore-accepts : (old new : SerialView Line Counts Output) →
     new.state ≡ old.state → InterruptLineLink old.trigger (all_ok (conditions_due old.state)) new.trigger → new.events ≡ old.events → new.out ≡ old.out →
     IsSerialLineStep line.Restore (with_lf (codes "ok")) old new
-restore-accepts steps old new state link events out mask trace at =
-    let due = ap conditions_due at.state ∙ (steps fresh_state trace fresh_coherent).restoring in
+restore-accepts old new state link events out mask trace at =
+    let due = ap conditions_due at.state ∙ (step_law fresh_state trace fresh_coherent).restoring in
     let (accepted, after) = restore-answered mask trace new.trigger None (all_ok (conditions_due_after fresh_state trace)) false (accepted-answers _ _)
     (subst (λ line. InterruptLineLink line (all_ok (conditions_due_after fresh_state trace)) new.trigger) at.interrupt_line
     (subst (λ due. InterruptLineLink old.trigger (all_ok due) new.trigger) due link)) in
     without_choice
     (ap (λ refused. with_lf (if refused then codes "trigger" else codes "ok")) (sym accepted))
     (subst (λ (refused : Bool). IsAfter mask (if refused then trace else restore_entry ∷ trace) new) (sym accepted)
-    (restored-after mask trace steps old new at state (after refl) events out))
+    (restored-after mask trace old new at state (after refl) events out))
 
 -- a restore that had a call refused
-pub restore-refuses : StepLaw → (old : SerialView Line Counts Output) (state : State) (after : Line) (error : Error LineRefused) →
+pub restore-refuses : (old : SerialView Line Counts Output) (state : State) (after : Line) (error : Error LineRefused) →
     state ≡ old.state → length old.state.in_buffer ≤ 64 → RefusesRestore InterruptLineLink state error old.trigger after → error ≢ Memory →
     IsSerialLineStep line.Restore (response_reply (failure_response error)) old old
-restore-refuses steps old state after FullFifo is few refuses other mask trace at =
+restore-refuses old state after FullFifo is few refuses other mask trace at =
     absurd (omega (arith, few, refuses.0, ap (λ (s : State). length s.in_buffer) is))
-restore-refuses steps old state after (IOError fault) is few refuses other mask trace at = absurd refuses.1
-restore-refuses steps old state after Memory is few refuses other mask trace at = absurd (other refl)
-restore-refuses steps old state after (Trigger refusal) is few (none_more, (responses, stops, link)) other mask trace at =
-    let due = ap conditions_due (is ∙ at.state) ∙ (steps fresh_state trace fresh_coherent).restoring in
+restore-refuses old state after (IOError fault) is few refuses other mask trace at = absurd refuses.1
+restore-refuses old state after Memory is few refuses other mask trace at = absurd (other refl)
+restore-refuses old state after (Trigger refusal) is few (none_more, (responses, stops, link)) other mask trace at =
+    let due = ap conditions_due (is ∙ at.state) ∙ (step_law fresh_state trace fresh_coherent).restoring in
     let (refused, line) = restore-answered mask trace after (Some refusal) responses true
     (refused-answers refusal (conditions_due_after fresh_state trace) responses (few-pending _ _)
     (subst (λ due. StopsAtRefusal due refusal responses) due stops))

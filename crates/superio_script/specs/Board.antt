@@ -6,10 +6,10 @@ use Rattle.superio_laws.specs.Serial.History.{state_of_history, none_lost, outpu
 use Rattle.vm_superio.specs.Rtc.{ClockDevice}
 use Rattle.superio_laws.specs.Rtc.{RtcState, Access, fresh_clock}
 use Rattle.superio_script.specs.Objects.{fresh_interrupt_line, no_counts, written_bytes, Line, Counts, Output}
-use Rattle.superio_script.specs.Reply.{controller_reply}
-use Rattle.superio_script.specs.SerialScript.{calls_made, interrupt_line_after, events_reported, counts_of, Outcome, out_before_loss, outcomes_of, serial_reply, trace_after_line}
-use Rattle.superio_script.specs.ClockScript.{clock_after, access_of_line, clock_reply}
-use Rattle.superio_script.specs.Command.{Command, Serial, Clock, Controller, SerialCommand, ClockCommand}
+use Rattle.superio_script.specs.SerialScript.{SerialCommand, calls_made, interrupt_line_after, events_reported, counts_of, Outcome, out_before_loss, outcomes_of, serial_reply, trace_after_line}
+use Rattle.superio_script.specs.ClockScript.{ClockCommand, clock_after, access_of_line, clock_reply}
+use Rattle.superio_script.specs.ControllerScript.{controller_reply}
+use Rattle.superio_script.specs.Command.{Command, Serial, Clock, Controller}
 
 -- the devices. Of the controller, a contract sees its reset line
 pub record Devices : Type 0 where

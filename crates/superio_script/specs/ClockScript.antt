@@ -1,12 +1,23 @@
 -- SPDX-License-Identifier: Apache-2.0 OR BSD-3-Clause
--- The clock's part of a script: the replies to its lines. They depend on these lines alone, through the trace of the
--- clock's accesses.
+-- The clock's part of a script: its lines, and the replies to them. They depend on these lines alone, through the trace
+-- of the clock's accesses.
 use Rattle.std.specs.Prelude.{ℕ, List, [], ◌∷◌, if◌then◌else◌, codes, Option, Some, None}
-use Rattle.std.specs.Int.{w32, to_be_bytes}
+use Rattle.std.specs.Int.{w16, w32, w64, to_be_bytes}
 use Rattle.superio_laws.specs.Rtc.{RtcState, Access, read, write, clock_register_at, is_writable, fresh_clock, clock_of_history, clock_history_response}
+use Rattle.superio_script.specs.Fields.{Syntax, number, end}
 use Rattle.superio_script.specs.Reply.{with_lf, digits_reply}
-use Rattle.superio_script.specs.declared.command.ClockCommand.{ClockCommand}
-use Rattle.superio_script.specs.declared.command.ClockCommand.TheVariants as clock
+pub use Rattle.superio_script.specs.declared.clock_lines.ClockCommand.{ClockCommand}
+use Rattle.superio_script.specs.declared.clock_lines.ClockCommand.TheVariants as clock
+
+abbrev pub clock_syntaxes : List (Syntax ClockCommand)
+clock_syntaxes =
+    (codes "cr", number w64 (λ moment. number w16 (λ offset. end (clock.Read moment offset))))
+    ∷ (
+      codes "cw",
+      number w64 (λ moment. number w16 (λ offset. number w32 (λ value.
+          end (clock.Write moment offset value)))),
+    )
+    ∷ []
 
 -- the state of a board's clock after these accesses, newest first
 abbrev pub clock_after : (accesses : List Access) → RtcState

@@ -1,6 +1,6 @@
 -- SPDX-License-Identifier: Apache-2.0 OR BSD-3-Clause
--- The lines of a script and the fields of a line, by the kinds that the syntaxes have.
-use Rattle.std.specs.Prelude.{ℕ, List, [], ◌∷◌, if◌then◌else◌, ◌==◌, None, Some, Option, ◌/◌, ◌&&◌, nat_le, length, option_map, option_and_then}
+-- The lines of a script, the fields of a line, by the kinds that the syntaxes have, and what a syntax is.
+use Rattle.std.specs.Prelude.{ℕ, List, [], ◌∷◌, if◌then◌else◌, ◌==◌, None, Some, Option, ◌/◌, ◌&&◌, nat_le, length, option_map, option_and_then, bytes_eq}
 use Rattle.std.specs.Borrow.{Bor}
 use Rattle.std.specs.Result.{result_ok}
 use Rattle.std.specs.Int.{Width, byte_len, from_be_bytes}
@@ -89,3 +89,15 @@ bytes next fields = option_and_then (λ value. next value (later_fields fields))
 -- no further field
 abbrev pub end : {A : Type 0} (command : A) (fields : List (List ℕ)) → Option A
 end command fields = option_map (λ _. command) (no_field fields)
+
+-- ---- the syntaxes of a device's lines
+
+-- a syntax: a line's name, and the command that the fields after it give
+abbrev pub Syntax : (A : Type 0) → Type 0
+Syntax A = List ℕ × (List (List ℕ) → Option A)
+
+-- the command of a line with this name and these fields, or `None` if it has no syntax
+abbrev pub by_syntax : {A : Type 0} (syntaxes : List (Syntax A)) (name : List ℕ) (fields : List (List ℕ)) → Option A
+by_syntax [] name fields = None
+by_syntax (syntax ∷ syntaxes) name fields =
+    if bytes_eq name syntax.0 then syntax.1 fields else by_syntax syntaxes name fields

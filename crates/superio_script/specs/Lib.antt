@@ -2,6 +2,7 @@
 pub mod Board
 pub mod ClockScript
 pub mod Command
+pub mod ControllerScript
 pub mod Driver
 pub mod Fields
 pub mod Objects

@@ -1,16 +1,16 @@
 -- SPDX-License-Identifier: Apache-2.0 OR BSD-3-Clause
 -- The text of a script: what a run of it prints.
-use Rattle.std.specs.Prelude.{◌≡◌, ℕ, ◌+◌, ◌≤◌, List, [], ◌∷◌, ◌++◌, length, map, if◌then◌else◌, Bool, Option, Some, None, is_some, IsTrue, codes}
+use Rattle.std.specs.Prelude.{◌≡◌, ℕ, ◌+◌, ◌≤◌, List, [], ◌∷◌, ◌++◌, length, if◌then◌else◌, Bool, Option, Some, None, is_some, IsTrue, codes}
 use Rattle.std.specs.List.{list_all}
 use Rattle.std.specs.Io.KnownBytes.{Appends, Consumes, IsAtEnd}
 use Rattle.superio_script.specs.Fields.{lines_of}
 use Rattle.superio_script.specs.Objects.{output_limit}
-use Rattle.superio_script.specs.Command.{command_of, mask_of, Command, Serial, Clock, Controller, SerialCommand, ClockCommand, ControllerCommand}
-use Rattle.superio_script.specs.Reply.{controller_reply}
+use Rattle.superio_script.specs.Command.{command_of, mask_of, Command, Serial, Clock, Controller}
 use Rattle.superio_laws.specs.Rtc.{Access}
 use Rattle.vm_superio.specs.Serial.{Trace}
-use Rattle.superio_script.specs.SerialScript.{Outcome, out_before_loss, all_short, serial_replies}
-use Rattle.superio_script.specs.ClockScript.{clock_replies}
+use Rattle.superio_script.specs.SerialScript.{SerialCommand, Outcome, out_before_loss, all_short, serial_replies}
+use Rattle.superio_script.specs.ClockScript.{ClockCommand, clock_replies}
+use Rattle.superio_script.specs.ControllerScript.{ControllerCommand, controller_replies}
 
 -- ---- the lines
 
@@ -67,9 +67,6 @@ abbrev pub controller_lines : (commands : List Command) → List ControllerComma
 controller_lines [] = []
 controller_lines (Controller line ∷ commands) = line ∷ controller_lines commands
 controller_lines (_ ∷ commands) = controller_lines commands
-
-abbrev pub controller_replies : (lines : List ControllerCommand) → List (List ℕ)
-controller_replies lines = map controller_reply lines
 
 -- ---- the text
 

@@ -1,14 +1,53 @@
 -- SPDX-License-Identifier: Apache-2.0 OR BSD-3-Clause
--- The serial port's part of a script: the replies to its lines, by the history. They depend on these lines alone, on
--- the mask, and on what a script leaves open: which bytes are lost, and what `so` prints once one was.
+-- The serial port's part of a script: its lines, and the replies to them, by the history. They depend on these lines
+-- alone, on the mask, and on what a script leaves open: which bytes are lost, and what `so` prints once one was.
 use Rattle.std.specs.Prelude.{ℕ, zero, suc, ◌+◌, ◌-◌, Bool, true, false, not, if◌then◌else◌, List, [], ◌∷◌, ◌++◌, length, drop, count_by, codes, nat_le}
+use Rattle.std.specs.Int.{w8}
 use Rattle.std.specs.List.{list_all}
 use Rattle.vm_superio.specs.Serial.{State, Asked, Sent, Op, Read, Write, Enqueue, Restore, TraceEntry, Trace, answer_count, ends_in_refusal, sent_by, Event, buffer_read, out_byte, tx_lost_byte, in_buffer_empty, fresh_state, not_empty}
+use Rattle.superio_core.specs.Serial.Operations.{Response, ByteRead, WriteOk, EnqueueOk, TimeoutOk, TriggerRefused, WriterFailed, FifoFull, OutOfMemory, NoResponse}
 use Rattle.superio_laws.specs.Serial.History.{decode_at, dlab_after, held_bytes, guest_read, none_lost, output, history_events, history_response, calls_due, conditions_due_after, state_of_history}
+use Rattle.superio_script.specs.Fields.{Syntax, number, bytes, end}
 use Rattle.superio_script.specs.Objects.{is_call_refused, saturated, Line, Counts}
-use Rattle.superio_script.specs.Reply.{with_lf, response_reply, digits_reply, count_digits, counts_reply}
-use Rattle.superio_script.specs.declared.command.SerialCommand.{SerialCommand}
-use Rattle.superio_script.specs.declared.command.SerialCommand.TheVariants as serial
+use Rattle.superio_script.specs.Reply.{with_lf, digits_reply, count_digits}
+pub use Rattle.superio_script.specs.declared.serial_lines.SerialCommand.{SerialCommand}
+use Rattle.superio_script.specs.declared.serial_lines.SerialCommand.TheVariants as serial
+
+-- ---- the lines
+
+abbrev pub serial_syntaxes : List (Syntax SerialCommand)
+serial_syntaxes =
+    (codes "sr", number w8 (λ offset. end (serial.Read offset)))
+    ∷ (codes "sw", number w8 (λ offset. number w8 (λ value. end (serial.Write offset value))))
+    ∷ (codes "sq", bytes (λ value. end (serial.Enqueue value)))
+    ∷ (codes "sc", end serial.Capacity)
+    ∷ (codes "sd", end serial.Drain)
+    ∷ (codes "ss", end serial.Restore)
+    ∷ (codes "so", end serial.Output)
+    ∷ (codes "st", end serial.Calls)
+    ∷ (codes "se", end serial.Events)
+    ∷ []
+
+-- ---- what a call replies, and what the counts show
+
+-- the reply to a call of the serial port with this response
+abbrev pub response_reply : (response : Response) → List ℕ
+response_reply (ByteRead byte) = digits_reply (byte ∷ [])
+response_reply WriteOk = with_lf (codes "ok")
+response_reply (EnqueueOk count) = digits_reply (count ∷ [])
+response_reply TriggerRefused = with_lf (codes "trigger")
+response_reply WriterFailed = with_lf (codes "io")
+response_reply FifoFull = with_lf (codes "full")
+-- no call of a line responds with these
+response_reply TimeoutOk = []
+response_reply OutOfMemory = []
+response_reply NoResponse = []
+
+-- the four counts of a serial port's events, with one space between two
+abbrev pub counts_reply : (counts : Counts) → List ℕ
+counts_reply counts =
+    with_lf (count_digits counts.buffer_reads ++ 32 ∷ count_digits counts.out_bytes
+    ++ 32 ∷ count_digits counts.tx_lost_bytes ++ 32 ∷ count_digits counts.in_buffer_empties)
 
 -- ---- a board's serial port after a trace: its calls and its accepted restores, newest first, since it was fresh
 
@@ -140,7 +179,7 @@ abbrev pub is_restore_refused : (mask : ℕ) (trace : Trace) → Bool
 is_restore_refused mask trace =
     ends_in_refusal (trigger_answers mask (calls_made trace) (length (conditions_due_after fresh_state trace)))
 
--- ---- the lines
+-- ---- the replies to lines
 
 -- what a line that makes no call shows: how many more bytes fit, how often the interrupt line was called, or the counts
 -- of events. For the other lines `serial_reply` says what they show

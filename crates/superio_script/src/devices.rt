@@ -2,13 +2,13 @@
 //! A board of devices, and the lines that drive it.
 ghost use Rattle.std.specs.Prelude.{◌≡◌, ◌↔◌, codes, IfOk, IfErr, IsSomeAnd, IsErrOf, OnErr};
 ghost use Rattle.superio_script.specs.Command.{command_of};
-ghost use Rattle.superio_script.specs.Reply.{controller_reply};
 ghost use Rattle.superio_script.specs.declared.replies.LineFault.TheVariants.{Bad, Memory};
 
 use crate::clock_lines::clock_line;
-use crate::command::{Command, ControllerCommand, parse};
+use crate::command::{Command, parse};
+use crate::controller_lines::controller_line;
 use crate::objects::{Counts, Line, Output};
-use crate::replies::{LineFault, ReplyText, ScriptFault, reply_byte, reply_text};
+use crate::replies::{LineFault, ReplyText, ScriptFault};
 use crate::serial_lines::{BoardSerial, serial_line};
 use std::alloc::Global;
 use std::marker::Model;
@@ -73,25 +73,7 @@ impl Board {
         match parse(line).ok_or(LineFault::Bad)? {
             Command::Serial(line) => serial_line(alloc, &mut self.serial, line),
             Command::Clock(line) => Ok(clock_line(&mut self.clock, line)),
-            Command::Controller(line) => Ok(self.controller_line(line)),
+            Command::Controller(line) => Ok(controller_line(&mut self.controller, line)),
         }
-    }
-
-    /// Executes a line on the controller, leaves it fresh, and returns the reply.
-    fn controller_line(&mut self, line: ControllerCommand) -> ReplyText
-        ensures reply { result.items ≡ controller_reply line }
-        ensures same { self.new ≡ self.old }
-    {
-        let (offset, value) = match line {
-            ControllerCommand::Read { offset } => return reply_byte(self.controller.read(offset)),
-            ControllerCommand::Write { offset, value } => (offset, value),
-        };
-        // The reset line refuses no call, so its count shows what the result shows.
-        let _ = self.controller.write(offset, value);
-        if self.controller.reset_evt().calls() == 0 {
-            return reply_text(b"ok");
-        }
-        self.controller = I8042Device::new(Line::new(0));
-        reply_text(b"reset")
     }
 }

@@ -7,7 +7,7 @@ ghost use Rattle.superio_script.specs.Driver.{ReadsWhileReady, TakesAll};
 use arrayvec::ArrayVec;
 use std::io::Write;
 use vm_superio::serial::SerialEvents;
-use vm_superio::{Serial, Trigger, laws};
+use vm_superio::{Serial, Trigger};
 
 /// The offset of RBR, while DLAB is clear.
 const RBR_OFFSET: u8 = 0;
@@ -46,8 +46,6 @@ pub fn drain<T: Trigger, EV: SerialEvents, W: Write>(
         → result.items ++ serial.new.state.in_buffer ≡ serial.old.state.in_buffer }
     ensures coherent { Coherent serial.old.state → Coherent serial.new.state }
 {
-    laws::coherence();
-    laws::one_call();
     let mut bytes = ArrayVec::new();
     if shows_latch(serial.read(LCR_OFFSET)) {
         return bytes;

@@ -3,7 +3,7 @@
 ghost use Rattle.std.specs.Prelude.{◌≡◌, ◌≢◌, List, ℕ, [], ◌∷◌, ◌==◌, position, IfSome, IfNone, MatchOption};
 ghost use Rattle.std.specs.Int.{w8, w16, w32, w64};
 ghost use Rattle.superio_script.specs.Fields.{pieces_of, fields_of, remaining_fields, lines_of};
-ghost use Rattle.superio_script.specs.Fields.{bytes_of, field_bytes_of, field_limit, first_array, first_number, first_bytes, later_fields, end};
+ghost use Rattle.superio_script.specs.Fields.{field_bytes_of, field_limit, first_array, first_number, first_bytes, later_fields, end};
 
 use arrayvec::ArrayVec;
 use std::marker::Model;
@@ -112,15 +112,6 @@ impl FieldBytes {
     }
 }
 
-/// The bytes of a field of exactly two hexadecimal digits per byte.
-fn parse_bytes<const N: usize>(field: &[u8]) -> Option<[u8; N]>
-    ensures { result ≡ bytes_of N field.now }
-{
-    let mut bytes = [0; N];
-    hex::decode_to_slice(field, &mut bytes).ok()?;
-    Some(bytes)
-}
-
 /// The 1 to 128 bytes of a field of two digits per byte.
 fn field_bytes(field: &[u8]) -> Option<FieldBytes>
     ensures { result ≡ field_bytes_of field.now }
@@ -167,7 +158,10 @@ impl<'a> Fields<'a> {
         ensures value { result ≡ first_array N (remaining_fields self.old.rest) }
         ensures later { remaining_fields self.new.rest ≡ later_fields (remaining_fields self.old.rest) }
     {
-        parse_bytes(self.next_field()?)
+        let field = self.next_field()?;
+        let mut bytes = [0; N];
+        hex::decode_to_slice(field, &mut bytes).ok()?;
+        Some(bytes)
     }
 
     /// A byte, of two digits.

@@ -4,6 +4,7 @@
 
 mod clock_lines;
 mod command;
+mod controller_lines;
 mod devices;
 mod driver;
 mod fields;

@@ -51,13 +51,6 @@ pub(crate) fn reply_digits(bytes: &[u8]) -> ReplyText
     reply
 }
 
-/// The byte as two digits, and LF.
-pub(crate) fn reply_byte(value: u8) -> ReplyText
-    ensures { result.items ≡ digits_reply (value ∷ []) }
-{
-    reply_digits(&[value])
-}
-
 /// The count as sixteen digits, and LF.
 pub(crate) fn reply_count(count: u64) -> ReplyText
     ensures { result.items ≡ with_lf (count_digits count) }

@@ -1,21 +1,69 @@
 // SPDX-License-Identifier: Apache-2.0 OR BSD-3-Clause
-//! The lines of the serial port.
+//! The lines of the serial port: their syntaxes, and what executes them.
 ghost use Rattle.std.specs.Prelude.{◌≡◌, ◌<◌, IfOk, IfErr, OnErr};
 ghost use Rattle.vm_superio.specs.Serial.{write_response, enqueue_response, failure_response};
-ghost use Rattle.superio_script.specs.Reply.{response_reply, counts_reply};
+ghost use Rattle.superio_script.specs.Fields.{by_syntax, remaining_fields};
+ghost use Rattle.superio_script.specs.SerialScript.{serial_syntaxes, response_reply, counts_reply};
 ghost use Rattle.superio_script.specs.Board.{IsSerialLineStep};
-ghost use Rattle.superio_script.specs.declared.command.SerialCommand.TheVariants.{Drain, Restore};
+ghost use Rattle.superio_script.specs.declared.serial_lines.SerialCommand.TheVariants.{Restore};
 
-use crate::command::SerialCommand;
 use crate::driver::drain;
+use crate::fields::{FieldBytes, Fields};
 use crate::objects::{Counts, Line, LineRefused, Output};
-use crate::replies::{
-    LineFault, ReplyText, push_digits, reply_byte, reply_count, reply_digits, reply_text,
-};
+use crate::replies::{LineFault, ReplyText, push_digits, reply_count, reply_digits, reply_text};
 use std::alloc::Global;
 use std::mem;
+use vm_superio::Serial;
 use vm_superio::serial::Error;
-use vm_superio::{Serial, laws};
+
+/// A line of the serial port.
+#[derive(Drop)]
+pub(crate) enum SerialCommand {
+    /// The guest reads.
+    Read { offset: u8 },
+    /// The guest writes.
+    Write { offset: u8, value: u8 },
+    /// Bytes come in for the guest.
+    Enqueue { bytes: FieldBytes },
+    /// How many more bytes fit in the FIFO.
+    Capacity,
+    /// A driver reads the bytes that the port holds.
+    Drain,
+    /// A save and a restore of the port.
+    Restore,
+    /// The bytes that the port wrote.
+    Output,
+    /// How often the interrupt line was called.
+    Calls,
+    /// How often each event was reported.
+    Events,
+}
+
+/// The syntaxes of the lines, a row each: the name, what it asks for, and the kinds of its fields in order.
+pub(crate) fn serial_syntax(name: &[u8], fields: &mut Fields) -> Option<SerialCommand>
+    ensures { result ≡ by_syntax serial_syntaxes name.now (remaining_fields fields.old.rest) }
+{
+    let command = match name {
+        b"sr" => SerialCommand::Read {
+            offset: fields.u8()?,
+        },
+        b"sw" => SerialCommand::Write {
+            offset: fields.u8()?,
+            value: fields.u8()?,
+        },
+        b"sq" => SerialCommand::Enqueue {
+            bytes: fields.bytes()?,
+        },
+        b"sc" => SerialCommand::Capacity,
+        b"sd" => SerialCommand::Drain,
+        b"ss" => SerialCommand::Restore,
+        b"so" => SerialCommand::Output,
+        b"st" => SerialCommand::Calls,
+        b"se" => SerialCommand::Events,
+        _ => return None,
+    };
+    fields.end(command)
+}
 
 /// The serial port of a board.
 pub(crate) type BoardSerial = Serial<Line, Counts, Output>;
@@ -33,17 +81,14 @@ pub(crate) fn serial_line(
     ensures only_memory { IfErr result (λ fault. fault ≡ LineFault.Memory) }
     ensures restores { OnErr result (line ≡ Restore) }
 {
-    // By these laws the history gives what the port's steps do.
-    laws::steps_of_history();
-    laws::calls_of_history();
     match line {
-        SerialCommand::Read { offset } => Ok(reply_byte(serial.read(offset))),
+        SerialCommand::Read { offset } => Ok(reply_digits(&[serial.read(offset)])),
         SerialCommand::Write { offset, value } => Ok(write_reply(serial.write(offset, value))),
         SerialCommand::Enqueue { bytes } => {
             Ok(enqueue_reply(serial.enqueue_raw_bytes(bytes.as_slice())))
         }
-        SerialCommand::Capacity => Ok(reply_byte(serial.fifo_capacity() as u8)),
-        SerialCommand::Drain => Ok(drain_line(serial)),
+        SerialCommand::Capacity => Ok(reply_digits(&[serial.fifo_capacity() as u8])),
+        SerialCommand::Drain => Ok(reply_digits(&drain(serial))),
         SerialCommand::Restore => restore(alloc, serial),
         SerialCommand::Output => Ok(reply_digits(serial.writer().bytes())),
         SerialCommand::Calls => Ok(reply_count(serial.interrupt_evt().calls())),
@@ -67,17 +112,6 @@ fn reply_events(counts: &Counts) -> ReplyText
     reply
 }
 
-/// Reads what the port holds, as a driver does.
-fn drain_line(serial: &mut BoardSerial) -> ReplyText
-    ensures step { IsSerialLineStep Drain result.items serial.old serial.new }
-{
-    laws::steps_of_history();
-    laws::calls_of_history();
-    laws::states_of_history();
-    laws::coherence();
-    reply_digits(&drain(serial))
-}
-
 /// Makes the port again from its own state, with copies of its interrupt line and counts, and with its output. If the
 /// copy of the interrupt line refuses a call, the old port stays.
 fn restore(alloc: Global, serial: &mut BoardSerial) -> Result<ReplyText, LineFault>
@@ -85,7 +119,6 @@ fn restore(alloc: Global, serial: &mut BoardSerial) -> Result<ReplyText, LineFau
     ensures unchanged { OnErr result (serial.new ≡ serial.old) }
     ensures only_memory { IfErr result (λ fault. fault ≡ LineFault.Memory) }
 {
-    laws::steps_of_history();
     let Ok(state) = serial.state(alloc) else {
         return Err(LineFault::Memory);
     };
@@ -120,7 +153,7 @@ fn enqueue_reply(enqueued: Result<usize, Error<LineRefused>>) -> ReplyText
     ensures { result.items ≡ response_reply (enqueue_response enqueued) }
 {
     match enqueued {
-        Ok(count) => reply_byte(count as u8),
+        Ok(count) => reply_digits(&[count as u8]),
         Err(error) => error_reply(error),
     }
 }

@@ -25,14 +25,14 @@ loop-bytes-init g c =
 
 pub loop-bytes-smaller : goal.loop-bytes-smaller
 loop-bytes-smaller g c =
-    let one = polled_read c.one_call.ensures.data_ready c.loop-bytes.invariant.hidden c.read-in-loop-bytes.ensures.step
+    let one = polled_read c.loop-bytes.invariant.hidden c.read-in-loop-bytes.ensures.step
     (c.read-in-loop-bytes.ensures.rest_unchanged (refl {a = Other})) (sym c.has_data_ready.ensures ∙ c.loop-bytes-test.true) c.read-in-loop-bytes-2.ensures.step in
     omega (arith, one.less)
 
 pub loop-bytes-preserved : goal.loop-bytes-preserved
 loop-bytes-preserved g c =
     let before = c.loop-bytes.invariant in
-    let one = polled_read c.one_call.ensures.data_ready c.loop-bytes.invariant.hidden c.read-in-loop-bytes.ensures.step
+    let one = polled_read c.loop-bytes.invariant.hidden c.read-in-loop-bytes.ensures.step
     (c.read-in-loop-bytes.ensures.rest_unchanged (refl {a = Other})) (sym c.has_data_ready.ensures ∙ c.loop-bytes-test.true) c.read-in-loop-bytes-2.ensures.step in
     record {
       hidden = one.hidden;
@@ -56,7 +56,7 @@ returns-clause-stops_when_not_ready g c = λ hidden.
 pub returns-clause-all : goal.returns-clause-all
 returns-clause-all g c = λ is hidden.
     takes_all g.T.Trigger.link g.EV.SerialEvents.link g.W.Write.contents g.met.EV.SerialEvents.empty g.met.EV.SerialEvents.append
-    c.coherence.ensures c.loop-bytes.bytes.items c.args.serial.now c.read-in-loop-bytes.new.self is hidden (returns-clause-reads g c)
+    c.loop-bytes.bytes.items c.args.serial.now c.read-in-loop-bytes.new.self is hidden (returns-clause-reads g c)
     (returns-clause-stops_when_not_ready g c hidden)
 
 pub returns-clause-no_loss : goal.returns-clause-no_loss
@@ -69,4 +69,4 @@ returns-clause-no_loss g c = λ is.
 pub returns-clause-coherent : goal.returns-clause-coherent
 returns-clause-coherent g c = λ is.
     coherent_after g.T.Trigger.link g.EV.SerialEvents.link g.W.Write.contents g.met.EV.SerialEvents.empty g.met.EV.SerialEvents.append
-    c.coherence.ensures c.loop-bytes.bytes.items c.args.serial.now c.read-in-loop-bytes.new.self is (returns-clause-reads g c)
+    c.loop-bytes.bytes.items c.args.serial.now c.read-in-loop-bytes.new.self is (returns-clause-reads g c)

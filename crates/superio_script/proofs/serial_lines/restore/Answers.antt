@@ -19,7 +19,7 @@ returns-in-Ok-from_state-clause-step c =
     let link = subst (λ (state : State). InterruptLineLink old.trigger (all_ok (conditions_due state)) c.replace-old.new.dest.trigger) c.in-Ok.ensures.saved
     (subst (λ (new : Line). InterruptLineLink old.trigger (all_ok (conditions_due (state_of c.in-Ok.state))) new) new
     (subst (λ (l : Line). InterruptLineLink l (all_ok (conditions_due (state_of c.in-Ok.state))) c.in-Ok-from_state.restored.trigger) c.interrupt_evt-line.ensures made.called)) in
-    rw c.reply_text.ensures (restore-accepts c.steps_of_history.ensures old _
+    rw c.reply_text.ensures (restore-accepts old _
     (ap (λ (port : SerialView Line Counts Output). port.state) after ∙ made.state ∙ c.in-Ok.ensures.saved)
     link
     (ap (λ (port : SerialView Line Counts Output). port.events) after ∙ made.events ∙ c.events-counts.ensures)
@@ -33,4 +33,4 @@ returns-clause-step c =
     let refuses = subst (λ (l : Line). RefusesRestore InterruptLineLink state refused.error l refused.trigger) c.interrupt_evt-line.ensures c.in-Err.ensures.refused in
     let other = λ (is : refused.error ≡ Memory). c.in_default-into_error.not-Memory (c.into_error.ensures ∙ is) in
     rw (c.error_reply.ensures, c.into_error.ensures)
-    (restore-refuses c.steps_of_history.ensures old state refused.trigger refused.error c.in-Ok.ensures.saved c.state.ensures.at_most_64 refuses other)
+    (restore-refuses old state refused.trigger refused.error c.in-Ok.ensures.saved c.state.ensures.at_most_64 refuses other)

@@ -6,8 +6,7 @@ use Rattle.vm_superio.specs.Serial.{SerialView}
 use Rattle.superio_script.specs.Board.{IsBetweenLines, IsSerialLineStep}
 use Rattle.superio_script.specs.ClockScript.{access_of_line}
 use Rattle.superio_script.specs.Objects.{Line, Counts, Output}
-use Rattle.superio_script.specs.SerialScript.{trace_after_line}
-use Rattle.superio_script.specs.declared.command.SerialCommand.{SerialCommand}
+use Rattle.superio_script.specs.SerialScript.{SerialCommand, trace_after_line}
 use Rattle.superio_script.proofs.devices.Board.line.Goals as goal
 
 after-serial_line :
@@ -32,7 +31,7 @@ invariant_of-self c =
 
 pub invariant_of-self-in-Clock : goal.invariant_of-self-in-Clock
 invariant_of-self-in-Clock c =
-    let before = c.self-in-Clock.invariant in record {
+    let before = c.self.invariant in record {
       mask = before.mask;
       trace = before.trace;
       serial = before.serial;
