@@ -83,16 +83,18 @@ def translated(root: Path, around: bool = True) -> tuple[dict[str, str], list[st
 
 
 def audit(folder: Path, functions: list[str]) -> list[str]:
-    """The theorems of Claims.v, if they cover everything and rest on nothing."""
-    text = (folder / "Claims.v").read_text()
-    theorems = [f"Recheck.Claims.{name}" for name in statements.theorems_of(folder)]
-    of_law = {law: name for name, law in re.findall(r"^Theorem (\w+) : (\w+)\.(?: |$)", text, re.M)}
+    """The theorems, if they cover everything and rest on nothing."""
+    files = statements.theorems_of(folder)
+    theorems = [f"Recheck.{file}.{name}" for name, file in files.items()]
+    text = "\n".join((folder / f"{file}.v").read_text() for file in dict.fromkeys(files.values()))
+    of_law = {law: f"Recheck.{files[name]}.{name}"
+              for name, law in re.findall(r"^Theorem (\w+) : (\w+)\.(?: |$)", text, re.M)}
     laws = []
     for path in LAWS:
         module, _, law = path.rpartition(".")
         laws.append(f"{module.rpartition('.')[2]}_{law}" if law in laws else law)  # as antt2coq names the second of a name
-    lines = ["Require Recheck.Definitions Recheck.Claims."]
-    lines += [f"Definition proved_{law} : Recheck.Definitions.{law} := Recheck.Claims.{of_law[law]}." for law in laws if law in of_law]
+    lines = [f"Require Recheck.{file}." for file in ("Definitions", *dict.fromkeys(files.values()))]
+    lines += [f"Definition proved_{law} : Recheck.Definitions.{law} := {of_law[law]}." for law in laws if law in of_law]
     lines += [f"Check @{name}." for name in theorems]
     lines += rests_on(theorems)
     (folder / "Audit.v").write_text("\n".join(lines) + "\n")
@@ -136,7 +138,8 @@ def main(said: str | None) -> None:
             theorems = audit(folder, functions)
             statements.compare(folder, arguments.write_statements)
             if arguments.chk:
-                subprocess.run(["coqchk", "-silent", "-o", "-Q", ".", "Recheck", "Recheck.Witnesses"], cwd=folder, check=True)
+                subprocess.run(["coqchk", "-silent", "-o", "-Q", ".", "Recheck", "Recheck.Audit", "Recheck.Witnesses"],
+                               cwd=folder, check=True)
         except (Failed, rust2coq.Refused, antt2coq.Refused) as fault:
             sys.exit(f"recheck: {fault}")
     listed = left_out_items((HERE / "recheck/left-out.rs").read_text())

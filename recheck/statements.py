@@ -1,7 +1,8 @@
 # SPDX-License-Identifier: Apache-2.0 OR BSD-3-Clause
 """What is proved, as Coq says it, in two files that a person reads: claims.txt has the claims of docs/PROOFS.md, and
-statements.txt the rest. The sentences, the claims and the topics are the comments of Claims.v, and the words of a claim
-are the page's."""
+statements.txt the rest. They show each `Theorem` of recheck/proofs, and no `Lemma`. The sentence of a theorem and the
+claims that it is for stand in the comment above it. The first comment of a file is the topic of its theorems, and the
+words of a claim are the page's."""
 import difflib
 import hashlib
 import re
@@ -20,13 +21,16 @@ SHOWN = {"Prelude": "the words of the definitions (recheck/Prelude.v)",
          "Acts": "what a function does that calls objects (recheck/Acts.v)",
          "ShellCode": "the structs of the shell, and its calls of objects",
          "Calls": "lists of calls of the code (recheck/Calls.v)",
-         "Claims": "a word of the theorems (recheck/proofs/Claims.v)",
          "Witnesses": "calls that meet the conditions of laws (recheck/proofs/Witnesses.v)"}
+# The files of recheck/proofs that have theorems, in the order in which these are shown.
+PROOFS = ("PortCode", "Fifo", "Clock", "Controller", "PortLaws", "PortHistory", "PortAnswers", "ConsoleLaws",
+          "ConsoleLawsDriver", "Saved", "ConsoleCode", "ConsoleSaved", "CFunctions", "Shell", "ShellHistory",
+          "ShellSegments")
 # Of these files only those definitions are shown that a statement uses.
 IF_USED = ("Types", "Definitions", "ShellCode")
 # What is translated of a function's body is the code: no statement is made by it.
 CODE = re.compile(r"Code\.\w+|ShellCode\.vm_\w+")
-IMPORTED = ("Prelude", "Machine", "Definitions", "Code", "Acts", "ShellCode", "Calls", "Claims")
+IMPORTED = ("Prelude", "Machine", "Definitions", "Code", "Acts", "ShellCode", "Calls")
 # The one word whose value is sealed. What is shown of it is its type: no proof can use more of it.
 SEALED = "Prelude.width_of_usize"
 KEYWORD = r"(?:Theorem|Definition|Fixpoint|Inductive|CoInductive|Variant|Record)"
@@ -46,8 +50,16 @@ OTHERS = """What is proved beside claims.txt, as Coq prints it: the other theore
     used once each; and the definitions that are not in claims.txt."""
 
 
-def theorems_of(folder: Path) -> list[str]:
-    return re.findall(r"^Theorem (\w+)", (folder / "Claims.v").read_text(), re.M)
+def theorems_of(folder: Path) -> dict[str, str]:
+    """The theorems in their order, each with its file."""
+    names = {file.stem: re.findall(r"^Theorem (\w+)", file.read_text(), re.M) for file in folder.glob("*.v")}
+    if unknown := sorted(file for file in names if names[file] and file not in PROOFS):
+        raise Failed(f"{unknown[0]}.v has theorems, and no place among PROOFS of statements.py")
+    every = [(name, file) for file in PROOFS for name in names.get(file, [])]
+    found = dict(every)
+    if twice := [name for name, file in every if found[name] != file]:
+        raise Failed(f"two theorems are {twice[0]}")
+    return found
 
 
 def witnesses_of(folder: Path) -> list[str]:
@@ -62,18 +74,15 @@ def sentences(folder: Path, file: str) -> dict[str, str]:
     return {name: " ".join(words.split()) for words, name in found}
 
 
-def topics(folder: Path) -> dict[str, list[str]]:
-    """The theorems under each heading of Claims.v. All other comments below its first heading are sentences."""
-    found: dict[str, list[str]] = {}
-    head, _, text = (folder / "Claims.v").read_text().partition("(* ---- ")
-    if names := re.findall(r"^Theorem (\w+)", head, re.M):
-        raise Failed(f"no heading above {names[0]}")
-    for part in text.split("\n(* ---- "):
-        title = re.split(r"\n\n| *\*\)", part)[0]
-        found.setdefault(" ".join(title.split()), []).extend(re.findall(r"^Theorem (\w+)", part, re.M))
-        for lone in re.findall(rf"^\(\* ((?:(?!\*\)).)*?) *\*\)\n(?!{KEYWORD})", part, re.M | re.S):
-            raise Failed(f"no theorem below: {' '.join(lone.split())}")
-    return found
+def topic(folder: Path, file: str) -> str:
+    """What the theorems of a file are about: the first paragraph of its first comment below the licenses."""
+    text = (folder / f"{file}.v").read_text()
+    for lone in re.findall(r"^\(\* (Claims? \d(?:(?!\*\)).)*?) *\*\)\n(?!Theorem )", text, re.M | re.S):
+        raise Failed(f"no theorem below: {' '.join(lone.split())}")
+    head = re.match(rf"(?:\(\* SPDX[^\n]*\n)?\(\* (?!SPDX)((?:(?!\*\)).)*?) *\*\)\n(?!{KEYWORD})", text, re.S)
+    if not head:
+        raise Failed(f"no topic at the head of {file}.v")
+    return " ".join([*head[1].partition("\n\n")[0].split(), f"(recheck/proofs/{file}.v)"])
 
 
 def claims_of(page: str) -> dict[int, str]:
@@ -98,14 +107,16 @@ def in_lines(words: str) -> str:
 class Statements:
     """What Coq says of all that is in a folder."""
     def __init__(self, folder: Path) -> None:
-        self.folder, self.defined, self.proofs = folder, list[str](), set[str]()
+        self.folder, self.defined = folder, list[str]()
         self.owners = defaultdict[str, set[str]](set)
         self.modules = "|".join(requirements(folder))
-        self.theorems = [f"Claims.{name}" for name in theorems_of(folder)]
+        files = theorems_of(folder)
+        self.theorems, self.proved = [f"{file}.{name}" for name, file in files.items()], [*dict.fromkeys(files.values())]
+        self.proofs = {*self.theorems}
         self.witnesses = [f"Witnesses.{name}" for name in witnesses_of(folder)]
         self.list_definitions()
         asked = [*self.defined, *self.theorems, *self.witnesses]
-        requires = [f"Require Recheck.{file}." for file in dict.fromkeys([*IMPORTED, *SHOWN])]
+        requires = [f"Require Recheck.{file}." for file in dict.fromkeys([*IMPORTED, *SHOWN, *self.proved])]
         in_full = [*requires, "Set Printing All.", "Set Printing Width 1000."]
         to_read = ["Unset Printing All.", *(f"Import Recheck.{file}." for file in IMPORTED), "Set Printing Width 120."]
         rest = rests_on(f"Recheck.{name}" for name in self.witnesses)
@@ -184,9 +195,11 @@ class Statements:
 
     def claims(self) -> dict[tuple[int, ...], list[str]]:
         """The theorems of each claim, or of several, by the first words of their sentences."""
-        words, found = sentences(self.folder, "Claims"), dict[tuple[int, ...], list[str]]()
+        found = dict[tuple[int, ...], list[str]]()
+        words = {file: sentences(self.folder, file) for file in self.proved}
         for theorem in self.theorems:
-            sentence = words.get(theorem.partition(".")[2])
+            file, _, name = theorem.partition(".")
+            sentence = words[file].get(name)
             if sentence is None:
                 raise Failed(f"no sentence above {theorem}")
             if named := re.match(r"Claims? (\d(?:(?:, | and )\d)*)\. ", sentence):
@@ -197,7 +210,8 @@ class Statements:
         """A statement or a definition under its sentence. A law stands under the theorem that proves it."""
         file, _, word = name.partition(".")
         sentence = re.sub(r"^Claims? \d[^.]*\. ", "", comments[file].get(word, ""))
-        lines = [*textwrap.wrap(sentence, 120), self.text[name]]
+        text = re.sub(rf"^(@?){file}\.", r"\1", self.text[name]) if name in self.theorems else self.text[name]
+        lines = [*textwrap.wrap(sentence, 120), text]
         if law := self.law_of(name):
             lines.append(self.text[law])
         return "\n".join(lines) + "\n"
@@ -208,7 +222,7 @@ class Statements:
 
     def files(self, page: str) -> dict[str, str]:
         """What claims.txt and statements.txt have to be."""
-        comments = {file: sentences(self.folder, file) for file in SHOWN}
+        comments = {file: sentences(self.folder, file) for file in (*SHOWN, *self.proved)}
         claims, words = self.claims(), claims_of(page)
         named = {number for numbers in claims for number in numbers}
         if faults := [f"no theorem is for claim {number} of docs/PROOFS.md" for number in sorted(words.keys() - named)]:
@@ -229,9 +243,9 @@ class Statements:
             said += [words.pop(number) for number in numbers if number in words]
             add("claims.txt", " ".join(said), theorems)
         parts["claims.txt"].append(paragraph(JUDGED))
-        for topic, theorems in topics(self.folder).items():
-            paths = [f"Claims.{name}" for name in theorems]
-            add("statements.txt", topic, [path for path in paths if path not in of_claims])
+        for file in self.proved:
+            more = [path for path in self.theorems if path.startswith(f"{file}.") and path not in of_claims]
+            add("statements.txt", topic(self.folder, file), more)
         add("statements.txt", "laws that have conditions, used once each", self.witnesses)
         for source, title in SHOWN.items():
             left = [name for name in self.defined if name.startswith(f"{source}.") and name in self.text.keys() - shown]

@@ -56,7 +56,7 @@ WRONG = [(DEVICES + file, old, new, proofs) for file, old, new, proofs in [
     ("rtc_pl031.rs", "i64::from(value) - i64::from(time)", "i64::from(time) - i64::from(value)", CLOCK),
     ("rtc_pl031.rs", "self.ris & self.imsc & 1 == 1", "self.ris & 1 == 1", CLOCK),
     ("rtc_pl031.rs", "- AMBA_ID_LOW) / 4", "- AMBA_ID_LOW) / 2", CLOCK),
-    ("i8042.rs", "CMD_RESET_CPU: u8 = 0xFE", "CMD_RESET_CPU: u8 = 0xFF", {"Claims", "Shell"}),
+    ("i8042.rs", "CMD_RESET_CPU: u8 = 0xFE", "CMD_RESET_CPU: u8 = 0xFF", {"Controller"}),
 ]]
 WRONG += [(SPECS + file, old, new, proofs) for file, old, new, proofs in [
     ("superio_core/specs/Serial/Step.antt", "if others == 0 then iir_none_bit", "if others == 0 then 0", {"PortHistory"}),
@@ -70,7 +70,7 @@ WRONG += [(SPECS + file, old, new, proofs) for file, old, new, proofs in [
     ("superio_laws/specs/Rtc/History.antt", "if at == offset then Some value else None", "None", CLOCK),
     ("superio_laws/specs/Serial/Laws/GuestDriver.antt", "take (length runs) (held_bytes", "take (1 + length runs) (held_bytes", {"PortLaws"}),
 ]]
-WRONG += [(C_FUNCTIONS, old, new, {"Saved", "Claims"}) for old, new in [
+WRONG += [(C_FUNCTIONS, old, new, {"Saved", "CFunctions"}) for old, new in [
     ("invalid_read: value.is_none()", "invalid_read: value.is_some()"),
     ("invalid_write: !is_taken", "invalid_write: is_taken"),
     ("SavedStateError::OtherDevice => 3", "SavedStateError::OtherDevice => 2"),
@@ -123,7 +123,7 @@ WRONG += [(SPECS + "superio_console/specs/" + file, old, new, {"ConsoleLaws"}) f
     ("Console.antt", "if nat_lt (length output) 4096 then output ++ byte ∷ [] else output", "output"),
     ("Laws.antt", "take (length runs) c.port.in_buffer", "take (1 + length runs) c.port.in_buffer"),
 ]]
-WRONG += [(C_FUNCTIONS, old, new, SAVED_CONSOLE | {"Claims"}) for old, new in [
+WRONG += [(C_FUNCTIONS, old, new, {"CFunctions"}) for old, new in [
     ("oldest.len().min(count)", "oldest.len()"),
     ("Console::new(is_polled)", "Console::new(!is_polled)"),
 ]]
@@ -132,7 +132,7 @@ WRONG += [(SPECS + "superio_laws/specs/Serial/Laws/GuestDriver.antt", old, old +
           for old in ("  pub asks : AsksWhenGiven driver start before run\n", "  pub unread : NoIirRead start pass before\n")]
 EMPTY = "        if effects.in_buffer_empty {\n            self.events.in_buffer_empty();\n        }\n"
 READ = "        if effects.buffer_read {\n            self.events.buffer_read();\n        }\n"
-WRONG += [(SHELL + file, old, new, {"Shell", "Claims"}) for file, old, new in [
+WRONG += [(SHELL + file, old, new, {"Shell", "Controller"}) for file, old, new in [
     ("serial.rs", "self.out.write_all(&[value]).and_then(|()| self.out.flush())", "self.out.flush().and_then(|()| self.out.write_all(&[value]))"),
     ("serial.rs", "self.out.write_all(&[value]).and_then(|()| self.out.flush())", "self.out.write_all(&[value])"),
     ("serial.rs", "Ok(()) => self.events.out_byte()", "Ok(()) => self.events.tx_lost_byte()"),
@@ -169,7 +169,7 @@ HARMLESS += [(SHELL + file, old, new) for file, old, new in [
 WEAKER = [
     (SPECS + "superio_laws/specs/Serial/Laws/Transmit.antt", "  pub due : IsTrue (is_call_due condition start (earlier ++ before) entry)\n",
      "  pub due : later ≡ later\n", "-    CallsFor_due : IsTrue"),
-    ("recheck/proofs/Claims.v", "inhabited (IsUartRead offset effects (state_of_uart port) (state_of_uart after)).\n",
+    ("recheck/proofs/PortCode.v", "inhabited (IsUartRead offset effects (state_of_uart port) (state_of_uart after)).\n",
      "inhabited (IsUartRead offset effects (state_of_uart port) (state_of_uart after)) \\/ False.\n", "\\/ False"),
     ("recheck/proofs/Witnesses.v", "Definition used_retried := retried Condition_Thre fresh [took (Write 1 2)] eq_refl eq_refl.",
      "Definition used_retried := eq_refl 0.", "used_retried"),
@@ -244,7 +244,7 @@ def test_wrong(file, old, new, proofs, checked, tmp_path):
 @pytest.mark.parametrize("file, old, new", HARMLESS, ids=short)
 def test_harmless(file, old, new, checked, tmp_path):
     folder, changed = planted(checked, tmp_path, file, old, new)
-    assert "Claims" in changed
+    assert "Witnesses" in changed
     coq.check(folder, JOBS, changed)
 
 

@@ -6,6 +6,7 @@ import shutil
 import pytest
 from coq_text import together
 from harness import ROOT, check
+from test_plants import with_requiring
 
 import coq
 import rerun
@@ -34,23 +35,27 @@ def test_code_does_what_coq_computes(checked, tmp_path):
     coq.coqc(tmp_path, "Differential")
 
 
-# What is done to Claims.v, and what the run says then. The name of a function without a theorem still stands there: in a
-# comment, in the proof of a theorem, and in a lemma.
+# What is done to which file, and what the run says then. The name of a function without a theorem still stands there: in
+# a comment, in the proof of a theorem, and in a lemma.
 GAPS = {
-    "a law without a theorem": (r"Theorem (?=waiting_bytes :)", "Lemma ", r"^no theorem is WaitingBytesLaw$"),
+    "a law without a theorem": (
+        "ConsoleLawsDriver", r"Theorem (?=console_monitors :)", "Lemma ", r"^no theorem is MonitoredLaw$"),
     "a function without a theorem": (
-        r"Theorem superio_abi : .*\nProof\.", "(* `rs_superio_abi` *)\nLemma of_abi : rs_superio_abi = Some rs_ABI.\n"
+        "CFunctions", r"Theorem superio_abi : .*\nProof\.",
+        "(* `rs_superio_abi` *)\nLemma of_abi : rs_superio_abi = Some rs_ABI.\n"
         "Proof. reflexivity. Qed.\nTheorem superio_abi : Some true = Some true.\nProof. pose (it := rs_superio_abi).",
         r"^no theorem names rs_superio_abi$"),
-    "an axiom": (r"Theorem no_byte_waits : NoByteWaitsLaw\. .*",
-                 "Axiom all : forall T : Type, T.\nTheorem no_byte_waits : NoByteWaitsLaw. Proof. apply all. Qed.",
-                 r"^theorems rest on something:\n(?s:.*)^Claims\.all : forall T : Type, T$"),
-    "a proof that is left out": (r"(?<=Theorem retries : RetryLaw\. ).*", "Admitted.",
-                                 r"^theorems rest on something:\n(?s:.*)^Claims\.retries : Definitions\.RetryLaw$"),
+    "an axiom": ("ConsoleLawsDriver", r"Theorem each_byte_is_through : EachByteIsThroughLaw\.(?s:.*?)Qed\.",
+                 "Axiom all : forall T : Type, T.\n"
+                 "Theorem each_byte_is_through : EachByteIsThroughLaw. Proof. apply all. Qed.",
+                 r"^theorems rest on something:\n(?s:.*)^ConsoleLawsDriver\.all : forall T : Type, T$"),
+    "a proof that is left out": (
+        "ConsoleLawsDriver", r"(?<=Theorem console_at_reset : ResetLaw\.\n).*", "Admitted.",
+        r"^theorems rest on something:\n(?s:.*)^ConsoleLawsDriver\.console_at_reset : Definitions\.ResetLaw$"),
     "a function without a theorem whose name begins another one's": (
-        r"Theorem rtc_read (?s:.*?)Qed\.\n", "(* vm_Rtc_read clock *)\n", r"^no theorem names vm_Rtc_read$"),
+        "Shell", r"Theorem rtc_read (?s:.*?)Qed\.\n", "(* vm_Rtc_read clock *)\n", r"^no theorem names vm_Rtc_read$"),
     "a function of the shell without a theorem": (
-        r"(?<=Theorem serial_objects port : )gives \(vm_Serial_writer port\)[^\n]*\n  /\\ ", "(* vm_Serial_writer *) ",
+        "Shell", r"(?<=Theorem serial_objects port : )gives \(vm_Serial_writer port\)[^\n]*\n  /\\ ", "(* vm_Serial_writer *) ",
         r"^no theorem names vm_Serial_writer$"),
 }
 
@@ -60,11 +65,17 @@ def functions():
     return rerun.translated(ROOT)[1]
 
 
-def said(checked, functions, folder, claims):
-    """What the run says of another Claims.v."""
+def changed(checked, folder, texts):
+    """A copy of what is checked with other texts of some files, which are checked again, as is what requires them."""
     shutil.copytree(checked[0], folder)
-    (folder / "Claims.v").write_text(claims)
-    coq.coqc(folder, "Claims")
+    for name, text in texts.items():
+        (folder / f"{name}.v").write_text(text)
+    coq.check(folder, 1, with_requiring(folder, {*texts}) - {"Witnesses"})
+    return folder
+
+
+def said(folder, functions):
+    """What the run says of a changed folder."""
     with pytest.raises(coq.Failed) as failed:
         rerun.audit(folder, functions)
     return str(failed.value)
@@ -72,26 +83,27 @@ def said(checked, functions, folder, claims):
 
 @pytest.fixture(scope="module")
 def said_of_gaps(checked, functions, tmp_path_factory):
-    text = (checked[0] / "Claims.v").read_text()
-    for old, new, _ in GAPS.values():
-        text, count = re.subn(old, new, text, count=1)
+    texts = {name: (checked[0] / f"{name}.v").read_text() for name, *_ in GAPS.values()}
+    for name, old, new, _ in GAPS.values():
+        texts[name], count = re.subn(old, new, texts[name], count=1)
         assert count == 1, old
-    return said(checked, functions, tmp_path_factory.mktemp("gaps") / "all", text)
+    return said(changed(checked, tmp_path_factory.mktemp("gaps") / "all", texts), functions)
 
 
 @pytest.mark.parametrize("name", GAPS)
 def test_a_gap_fails(name, said_of_gaps):
-    assert re.search(GAPS[name][2], said_of_gaps, re.M), said_of_gaps
+    assert re.search(GAPS[name][3], said_of_gaps, re.M), said_of_gaps
 
 
 def test_a_law_of_the_same_name_fails(checked, functions, tmp_path):
     """A theorem about another law that is named the same. The file has this theorem alone."""
-    found = said(checked, functions, tmp_path / "changed", """Require Import Recheck.Definitions.
-Definition RetryLaw := True.
-Theorem retries : RetryLaw. Proof. exact I. Qed.
-""")
+    found = said(changed(checked, tmp_path / "changed", {"ConsoleLawsDriver": """Require Import Recheck.Definitions.
+Definition ResetLaw := True.
+Theorem console_at_reset : ResetLaw. Proof. exact I. Qed.
+"""}), functions)
     assert found.startswith("Audit.v is not proved")
-    assert 'has type "Claims.RetryLaw" while it is expected to have type "Definitions.RetryLaw"' in " ".join(found.split())
+    assert ('has type "ConsoleLawsDriver.ResetLaw" while it is expected to have type "Definitions.ResetLaw"'
+            in " ".join(found.split()))
 
 
 def test_a_warning_fails(tmp_path):
@@ -102,12 +114,10 @@ def test_a_warning_fails(tmp_path):
 
 def test_another_statement_fails(checked, tmp_path):
     """As test_statements.py shows on a smaller folder."""
-    folder = tmp_path / "changed"
-    shutil.copytree(checked[0], folder)
-    text, count = re.subn(r"\(\* [^*]*\*\)\nTheorem uart_read (?s:.*?)Qed\.\n", "", (folder / "Claims.v").read_text(), count=1)
+    text, count = re.subn(r"\(\* [^*]*\*\)\nTheorem superio_serial_read (?s:.*?)Qed\.\n", "",
+                          (checked[0] / "CFunctions.v").read_text(), count=1)
     assert count == 1
-    (folder / "Claims.v").write_text(text)
-    coq.check(folder, 1, {"Claims", "Witnesses"})
+    folder = changed(checked, tmp_path / "changed", {"CFunctions": text})
     with pytest.raises(coq.Failed) as failed:
         statements.compare(folder)
-    assert re.search(r"^-uart_read$", str(failed.value), re.M), failed.value
+    assert re.search(r"^-superio_serial_read$", str(failed.value), re.M), failed.value

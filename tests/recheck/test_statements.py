@@ -70,9 +70,13 @@ Definition rs_Port_write (port : Port) : option Port := Some port.
     "ShellCode": "Require Import Recheck.Code.\nRecord VmPort : Type := mk_VmPort { VmPort_port : Port }.\n",
     "Calls": "Require Import Recheck.Code.\nDefinition writes (port : Port) : option Port := rs_Port_write port.\n",
     "Proofs": "Definition hidden (n : nat) : Prop := n = n.\n",
-    "Claims": """Require Import Recheck.Prelude Recheck.Definitions Recheck.Code Recheck.Calls.
-Require Recheck.Proofs.
-(* ---- the port *)
+    "PortCode": """(* the port
+
+   This paragraph is no part of the heading. *)
+Require Import Recheck.Prelude Recheck.Definitions Recheck.Code Recheck.Calls.
+
+(* a lemma is no theorem *)
+Lemma few : 0 <= most. Proof. apply le_0_n. Qed.
 
 (* Claim 1. A new port fits. *)
 Theorem port_new : exists port, rs_Port_new = Some port /\\ Fits port.
@@ -82,8 +86,11 @@ Proof. exists (mk_Port 0). split; [reflexivity | apply le_0_n]. Qed.
    panics. *)
 Theorem port_write port : writes port = Some port.
 Proof. reflexivity. Qed.
-
-(* ---- numbers *)
+""",
+    "Clock": """(* SPDX-License-Identifier: Apache-2.0 OR BSD-3-Clause *)
+(* numbers *)
+Require Import Recheck.Prelude Recheck.Definitions.
+Require Recheck.Proofs.
 
 (* Doubling is adding. *)
 Theorem doubles : DoubleLaw.
@@ -93,20 +100,20 @@ Proof. intro n. reflexivity. Qed.
 Theorem zero : kind_of 0 = Kind_Read /\\ same (kind := 1) 2.
 Proof. repeat split. Qed.
 """,
-    "Witnesses": """Require Import Recheck.Claims.
+    "Witnesses": """Require Import Recheck.Clock.
 Lemma three : 3 = 3. Proof. reflexivity. Qed.
 Definition used_doubles := doubles 3.
 """,
 }
 # A change: in which file, what stands there, and what in its place; and the lines in which it shows, by the file.
 CHANGES = {
-    "a theorem that is gone": ("Claims", r"\(\* Zero is read.(?s:.*)Qed\.\n", "", {"statements.txt": ["-zero"]}),
+    "a theorem that is gone": ("Clock", r"\(\* Zero is read.(?s:.*)Qed\.\n", "", {"statements.txt": ["-zero"]}),
     "a claim's theorem that says less": (
-        "Claims", r" /\\ Fits port\.(?s:.*?)Qed\.", ". Proof. exists (mk_Port 0). reflexivity. Qed.",
+        "PortCode", r" /\\ Fits port\.(?s:.*?)Qed\.", ". Proof. exists (mk_Port 0). reflexivity. Qed.",
         {"claims.txt": ["-     : exists port : Port, rs_Port_new = Some port /\\ Fits port"]}),
     "another theorem that says less": (
-        "Claims", "kind_of 0 = Kind_Read /\\\\ ", "", {"statements.txt": ["-     : kind_of 0 = Kind_Read /\\ same 2"]}),
-    "a law of another name": ("Claims", ": DoubleLaw", ": forall n, double n = n + n",
+        "Clock", "kind_of 0 = Kind_Read /\\\\ ", "", {"statements.txt": ["-     : kind_of 0 = Kind_Read /\\ same 2"]}),
+    "a law of another name": ("Clock", ": DoubleLaw", ": forall n, double n = n + n",
                               {"statements.txt": ["-     : DoubleLaw", "+     : forall n : nat, double n = n + n"]}),
     "a definition of a claim": ("Definitions", "64", "65", {"claims.txt": ["-most = 64", "+most = 65"]}),
     "a definition of another theorem": (
@@ -115,16 +122,16 @@ CHANGES = {
     "a type of Rust": ("Types", r"Kind_Write\.", "Kind_Write | Kind_None.", {"statements.txt": ["-Inductive Kind"]}),
     "a list of calls": ("Calls", "rs_Port_write port", "Some port", {"claims.txt": ["-writes = "]}),
     "a word that no theorem uses": ("Machine", r":= n\.", ":= 0.", {"statements.txt": ["-plain = "]}),
-    "a hypothesis": ("Claims", r"\(\* ---- numbers(?s:.*)",
-                     r"Section Ports.\nContext {never : False}.\nDefinition used := never.\n\g<0>End Ports.\n",
-                     {"statements.txt": ["+used = "]}),
+    "a hypothesis": ("Clock", r"(\(\* Zero is read(?s:.*?)Proof\.).*",
+                     r"Section Ports.\nContext {never : False}.\n\1 destruct never. Qed.\nEnd Ports.",
+                     {"statements.txt": ["+     : False -> kind_of 0"]}),
     "a witness that is gone": ("Witnesses", "Definition used(?s:.*)", "", {"statements.txt": ["-Witnesses.used_doubles"]}),
-    "what Coq does not show": ("Claims", r"\(kind := 1\)", "(kind := 2)", {"statements.txt": ["-All of both files"]}),
-    "a sentence": ("Claims", "A new port fits", "A port fits", {"claims.txt": ["-A new port fits."]}),
+    "what Coq does not show": ("Clock", r"\(kind := 1\)", "(kind := 2)", {"statements.txt": ["-All of both files"]}),
+    "a sentence": ("PortCode", "A new port fits", "A port fits", {"claims.txt": ["-A new port fits."]}),
     "a sentence of a definition": ("Definitions", "a FIFO holds", "a ring holds", {"claims.txt": ["-a FIFO holds as many"]}),
-    "another claim": ("Claims", "Claim 1. A new", "Claim 2. A new",
+    "another claim": ("PortCode", "Claim 1. A new", "Claim 2. A new",
                       {"claims.txt": ["-==== Claim 1. A new port fits, always."]}),
-    "a theorem that is no claim's": ("Claims", "Claim 1. A new port", "A new port",
+    "a theorem that is no claim's": ("PortCode", "Claim 1. A new port", "A new port",
                                      {"claims.txt": ["-port_new"], "statements.txt": ["+port_new"]}),
     "what no statement uses": ("Definitions", "unused : nat := 7", "unused : nat := 8", {}),
     "a width of a struct that no statement uses": ("Types", "Width_bits : nat", "Width_bits : bool", {}),
@@ -132,25 +139,31 @@ CHANGES = {
 }
 # And what no such file is made of.
 REFUSED = {
-    "a theorem without a sentence": ("Claims", r"\(\* Zero is read\. \*\)\n", "", r"^no sentence above Claims\.zero$"),
-    "a sentence above an empty line": ("Claims", r"(?<=read\. \*\)\n)", "\n", r"^no sentence above Claims\.zero$"),
-    "a sentence of no theorem": ("Claims", r"(?=\(\* ---- numbers)", "(* Claim 1. A port is small. *)\n\n",
+    "a theorem without a sentence": ("Clock", r"\(\* Zero is read\. \*\)\n", "", r"^no sentence above Clock\.zero$"),
+    "a sentence above an empty line": ("Clock", r"(?<=read\. \*\)\n)", "\n", r"^no sentence above Clock\.zero$"),
+    "a sentence of no theorem": ("Clock", r"(?=\(\* Doubling)", "(* Claim 1. A port is small. *)\n\n",
                                  r"^no theorem below: Claim 1\. A port is small\.$"),
-    "a claim without a theorem": ("Claims", "Claims 1 and 2. ", "Claim 1. ", r"^no theorem is for claim 2 of docs/PROOFS\.md$"),
-    "a claim that the page does not make": ("Claims", "Claims 1 and 2. ", "Claims 2 and 3. ", r"^docs/PROOFS\.md has no claim 3$"),
-    "a theorem above all headings": ("Claims", r"\(\* ---- the port \*\)\n", "", r"^no heading above port_new$"),
+    "a sentence of a lemma": ("Clock", r"(?=\(\* Doubling)", "(* Claim 1. A fact. *)\nLemma fact : True. Proof. exact I. Qed.\n",
+                              r"^no theorem below: Claim 1\. A fact\.$"),
+    "a claim without a theorem": ("PortCode", "Claims 1 and 2. ", "Claim 1. ", r"^no theorem is for claim 2 of docs/PROOFS\.md$"),
+    "a claim that the page does not make": ("PortCode", "Claims 1 and 2. ", "Claims 2 and 3. ", r"^docs/PROOFS\.md has no claim 3$"),
+    "a file without a heading": ("Clock", r"\(\* numbers \*\)\n", "", r"^no topic at the head of Clock\.v$"),
+    "a file that has no place": ("Proofs", r"\Z", "Theorem fact : True. Proof. exact I. Qed.\n",
+                                 r"^Proofs\.v has theorems, and no place among PROOFS of statements\.py$"),
+    "two theorems of one name": ("Clock", r"\Z", "(* Again. *)\nTheorem port_new : True. Proof. exact I. Qed.\n",
+                                 r"^two theorems are port_new$"),
     "a module": ("Calls", "(?=Definition writes)", "Module Hidden.\nDefinition n := 0.\nEnd Hidden.\n", r"^a module in Calls\.v$"),
     "an axiom": ("Witnesses", "Definition used_doubles := doubles 3", "Axiom all : False.\nDefinition used_doubles := all",
                  r"^witnesses rest on something:\n(?s:.*)\ball : False$"),
     "a warning of Coq's": ("Witnesses", "(?=Definition used_doubles)", "Unset Nothing Of This Name.\n",
                            r"^Witnesses\.v is not proved:\n(?s:.*)\[unknown-option"),
-    "a word that is sealed": ("Claims", r"(\(\* Zero is read\. \*\)\nTheorem zero : )",
+    "a word that is sealed": ("Clock", r"(\(\* Zero is read\. \*\)\nTheorem zero : )",
                               r"(* A word. *)\nTheorem word : Prop. Proof. exact True. Qed.\n\1word -> ",
-                              r"^Claims\.zero has Claims\.word, which is not among the definitions of the statements$"),
+                              r"^Clock\.zero has Clock\.word, which is not among the definitions of the statements$"),
     "a width that is not sealed": ("Prelude", r"(?<= reflexivity\. )Qed", "Defined",
                                    r"^Prelude\.width_of_usize is not sealed$"),
-    "a definition of the proofs": ("Claims", "same \\(kind := 1\\) 2", "Proofs.hidden 2",
-                                   r"^Claims\.zero has Proofs\.hidden, which is not among the definitions of the statements$"),
+    "a definition of the proofs": ("Clock", "same \\(kind := 1\\) 2", "Proofs.hidden 2",
+                                   r"^Clock\.zero has Proofs\.hidden, which is not among the definitions of the statements$"),
 }
 
 
@@ -223,7 +236,7 @@ def test_what_a_reviewer_reads(small):
 def test_what_the_rest_is(small):
     """Each theorem and definition is in one of the files, once; a law stands under its theorem."""
     rest = small[1]["statements.txt"]
-    assert "==== numbers\n\nDoubling is adding.\ndoubles\n     : DoubleLaw\nDoubleLaw = forall n : nat, double n = n + n\n" in rest
+    assert "==== numbers (recheck/proofs/Clock.v)\n\nDoubling is adding.\ndoubles\n     : DoubleLaw\nDoubleLaw = forall n : nat, double n = n + n\n" in rest
     assert "\none of two\nwidth_of_usize\n     : {bits : nat | bits = 4 \\/ bits = 8}\n" in rest
     both = small[1]["claims.txt"] + rest
     for name in ("port_new", "port_write", "doubles", "zero", "most =", "Fits =", "kind_of =", "double =", "plain =", "writes =",

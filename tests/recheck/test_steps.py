@@ -71,7 +71,7 @@ def test_each_option_reaches_its_step(recheck, tmp_path, capsys):
     assert called["translated"] == (tmp_path,) and called["rustc"][:2] == (tmp_path, "a-rustc")
     assert called["check"] == (kept, 13) and called["compare"] == (kept, True)
     assert called["audit"] == (kept, ["rs_f"])
-    assert called["coqchk"][0] == str(kept) and called["coqchk"][-3:] == [".", "Recheck", "Recheck.Witnesses"]
+    assert called["coqchk"][0] == str(kept) and called["coqchk"][-4:] == [".", "Recheck", "Recheck.Audit", "Recheck.Witnesses"]
     sources = {path.name for folder in ("recheck", "recheck/proofs") for path in (ROOT / folder).glob("*.v")}
     assert {path.name for path in kept.iterdir()} == {*sources, "Code.v"}
     assert (kept / "Code.v").read_text("ascii") == "(* made *)"
