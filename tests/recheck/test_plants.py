@@ -149,9 +149,10 @@ WRONG += [(SHELL + file, old, new, {"Shell", "Controller"}) for file, old, new i
     ("serial/state.rs", "% FIFO_SIZE", "% 63"),
     ("serial/state.rs", "modem_control: self.modem_control", "modem_control: self.modem_status"),
     ("serial/timeout.rs", "0 => Ok(()),", "1 => Ok(()),"),
-    ("rtc_pl031.rs", "if offset != RTCDR && !self.is_armed() {", "if offset != RTCDR {"),
+    ("rtc_pl031.rs", "} else if self.is_armed() {", "} else if self.interrupt_line() {"),
     ("rtc_pl031.rs", "if !is_valid {", "if is_valid {"),
-    ("rtc_pl031.rs", "} else if offset > RTCLR {", "} else if offset > RTCMR {"),
+    ("rtc_pl031.rs", "if offset > RTCLR && !self.is_armed() {", "if offset > RTCMR && !self.is_armed() {"),
+    ("rtc_pl031.rs", "_ if clock.armed != 0 =>", "_ if clock.ris != 0 =>"),
     ("i8042.rs", "if is_reset_command(offset, value) {", "if !is_reset_command(offset, value) {"),
 ]]
 HARMLESS = [(DEVICES + file, old, new) for file, old, new in [

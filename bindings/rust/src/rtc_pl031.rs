@@ -198,23 +198,17 @@ impl<EV: RtcEvents + fmt::Debug> fmt::Debug for Rtc<EV> {
 }
 
 /// The moment of a host's time: the seconds since 1970, or 0 if it is before that.
-#[inline(always)]
 fn moment_of(time: SystemTime) -> u64 {
     time.duration_since(UNIX_EPOCH).map_or(0, |since| since.as_secs())
 }
 
 /// The host's time.
-#[inline(always)]
 fn moment() -> u64 {
     moment_of(SystemTime::now())
 }
 
-// What asks for the host's time is in functions of its own, so that other accesses save no registers for it.
-
-#[inline(never)]
-fn read_now(clock: &mut Pl031, offset: u16) -> Option<u32> {
-    clock.read(offset, moment())
-}
+// What asks for the host's time is in functions of its own, so that other accesses save no registers for it. A call
+// that names its register looks it up in no table, which spares some ten instructions.
 
 #[inline(never)]
 fn read_guest_time_now(clock: &mut Pl031) -> Option<u32> {
@@ -222,18 +216,19 @@ fn read_guest_time_now(clock: &mut Pl031) -> Option<u32> {
 }
 
 #[inline(never)]
+fn read_now(clock: &mut Pl031, offset: u16) -> Option<u32> {
+    clock.read(offset, moment())
+}
+
+/// Asks only if the write depends on the host's time.
+#[inline(never)]
 fn write_now(clock: &mut Pl031, offset: u16, value: u32) -> bool {
-    clock.write(offset, value, moment())
-}
-
-#[inline(never)]
-fn write_match_now(clock: &mut Pl031, value: u32) -> bool {
-    clock.write(RTCMR, value, moment())
-}
-
-#[inline(never)]
-fn write_load_now(clock: &mut Pl031, value: u32) -> bool {
-    clock.write(RTCLR, value, moment())
+    match offset {
+        RTCMR => clock.write(RTCMR, value, moment()),
+        RTCLR => clock.write(RTCLR, value, moment()),
+        _ if clock.armed != 0 => clock.write(offset, value, moment()),
+        _ => clock.write(offset, value, ANY_MOMENT),
+    }
 }
 
 impl Default for Rtc<NoEvents> {
@@ -306,19 +301,12 @@ impl<EV: RtcEvents> Rtc<EV> {
     /// Asks for the host's time once at a write of RTCMR or RTCLR and, while an alarm is set, at any write. To spare
     /// that, use [`write_at`](Rtc::write_at).
     pub fn write(&mut self, offset: u16, data: &[u8; 4]) {
-        let value = u32::from_le_bytes(*data);
-        let is_valid = if self.is_armed() {
-            write_now(&mut self.clock, offset, value)
-        } else if offset > RTCLR {
-            self.clock.write(offset, value, ANY_MOMENT) // the registers of guest time come first
+        if offset > RTCLR && !self.is_armed() {
+            self.write_at(offset, data, ANY_MOMENT); // the registers of guest time come first
         } else {
-            match offset {
-                RTCMR => write_match_now(&mut self.clock, value),
-                RTCLR => write_load_now(&mut self.clock, value),
-                _ => self.clock.write(offset, value, ANY_MOMENT),
-            }
-        };
-        self.report_write(is_valid);
+            let is_valid = write_now(&mut self.clock, offset, u32::from_le_bytes(*data));
+            self.report_write(is_valid);
+        }
     }
 
     /// Writes as [`write`](Rtc::write) does, at the moment `now`, in seconds since 1970. Does not ask for the host's
@@ -342,14 +330,15 @@ impl<EV: RtcEvents> Rtc<EV> {
     /// Asks for the host's time once at a read of RTCDR and, while an alarm is set, at any read. To spare that, use
     /// [`read_at`](Rtc::read_at).
     pub fn read(&mut self, offset: u16, data: &mut [u8; 4]) {
-        if offset != RTCDR && !self.is_armed() {
-            return self.read_at(offset, data, ANY_MOMENT);
+        if offset == RTCDR {
+            let value = read_guest_time_now(&mut self.clock);
+            self.show(value, data);
+        } else if self.is_armed() {
+            let value = read_now(&mut self.clock, offset);
+            self.show(value, data);
+        } else {
+            self.read_at(offset, data, ANY_MOMENT);
         }
-        let value = match offset {
-            RTCDR => read_guest_time_now(&mut self.clock),
-            _ => read_now(&mut self.clock, offset),
-        };
-        self.show(value, data);
     }
 
     /// Reads as [`read`](Rtc::read) does, at the moment `now`, in seconds since 1970. Does not ask for the host's time.
