@@ -178,11 +178,7 @@ pub extern "C" fn superio_serial_new() -> Uart {
 
 #[no_mangle]
 pub extern "C" fn superio_serial_read(port: &mut Uart, offset: u8) -> ReadEffects {
-    // Only at 0 there are events. The compiler then puts no struct together for another offset: it is the byte alone.
-    match offset {
-        0 => port.read(0),
-        _ => port.read(offset),
-    }
+    port.read(offset)
 }
 
 #[no_mangle]
