@@ -16,7 +16,7 @@ BLOCKS = [[tuple(line.split(": ", 1)) for line in block.splitlines()]
           for block in (ROOT / "tests/documents/facts.txt").read_text(encoding="utf-8").split("\n\n")[1:]]
 
 
-def text_of(file):
+def contents(file):
     """The words of a file. Those of a binary are the power of two that its size does not reach."""
     path = ROOT / file
     if path.suffix in (".a", ".wasm"):
@@ -35,7 +35,7 @@ def numbers_of(block):
 
 @pytest.mark.parametrize("file, text", at_least(42, [place for block in BLOCKS for place in block]))
 def test_place(file, text):
-    assert text in text_of(file), f"{file} has no {text!r}"
+    assert text in contents(file), f"{file} has no {text!r}"
 
 
 @pytest.mark.parametrize("number, files", at_least(15, [it for block in BLOCKS for it in numbers_of(block).items()]),

@@ -92,13 +92,13 @@ COPYRIGHT = [
 CHANGE = f"superio ({VERSION}+ds-1) unstable; urgency=medium"
 
 
-def text_of(name):
+def contents(name):
     return (ROOT / name).read_text(encoding="utf-8")
 
 
 def paragraphs(name):
     """The paragraphs of a file of Debian's, each with the first line of its fields."""
-    return [dict(re.findall(r"^([\w-]+): *(.*)$", text, re.M)) for text in text_of(name).strip().split("\n\n")]
+    return [dict(re.findall(r"^([\w-]+): *(.*)$", text, re.M)) for text in contents(name).strip().split("\n\n")]
 
 
 def test_each_crate_is_listed():
@@ -108,12 +108,12 @@ def test_each_crate_is_listed():
 
 @pytest.mark.parametrize("crate", at_least(5, CRATES))
 def test_cargo(crate):
-    assert tomllib.loads(text_of(f"{crate}/Cargo.toml")) == CRATES[crate]
+    assert tomllib.loads(contents(f"{crate}/Cargo.toml")) == CRATES[crate]
 
 
 @pytest.mark.parametrize("page", PAGES)
 def test_oldest_rust(page):
-    assert {*re.findall(r"Rust (1\.\d+)\b", text_of(page))} == {RUST}
+    assert {*re.findall(r"Rust (1\.\d+)\b", contents(page))} == {RUST}
 
 
 def test_control():
@@ -131,15 +131,15 @@ def test_copyright():
 
 
 def test_changelog():
-    first, *_, last = text_of("debian/changelog").rstrip("\n").splitlines()
+    first, *_, last = contents("debian/changelog").rstrip("\n").splitlines()
     assert first == CHANGE and last.startswith(f" -- {SOURCE['Maintainer']}  ")
-    assert (text_of("debian/source/format"), text_of("debian/watch")[:10]) == ("3.0 (quilt)\n", "version=4\n")
+    assert (contents("debian/source/format"), contents("debian/watch")[:10]) == ("3.0 (quilt)\n", "version=4\n")
 
 
 def test_line_for_the_installed_crate():
     """Of docs/RELEASE.md. Debian's test of the package tries the same."""
     [block] = [it.lines for it in Document("docs/RELEASE.md").blocks if it.language == "toml"]
-    makefile = text_of("Makefile")
+    makefile = contents("Makefile")
     [crate] = re.findall(r"^CRATE = (.*)$", makefile, re.M)
     tried = [line.strip().replace("$(CRATE)", crate) for line in makefile.splitlines()]
     assert block == tried[(start := tried.index(block[0])):start + len(block)]

@@ -14,7 +14,7 @@ from script_tests import FURTHER_TESTS, TESTS, kept_scripts, load_scripts, made_
 from seeds import seeds
 
 from superio import Board, Rtc, ScriptError, board, parse
-from superio.script import BadLine, text_of
+from superio.script import BadLine, line_of
 from superio.session import Session
 
 RANDOM_SCRIPTS, RANDOM_SESSIONS = 2_000, 400
@@ -121,7 +121,7 @@ def test_in_the_shell(test):
     """The trace then has the script's lines. So has the script for the program, if the program knows them."""
     session, replies = run_session(lines_of(test.script))
     assert replies == test.replies.decode().splitlines()
-    made = [text_of(command) for command in session.commands]
+    made = [line_of(command) for command in session.commands]
     assert " ".join(made).split() == test.script.decode().lower().split()
     if test.by_program == test:
         assert said_by(session, b"script") == made

@@ -11,7 +11,7 @@ from harness import ROOT
 from support import run
 
 from superio.recording import entries_of, picture, replay
-from superio.script import BadLine, text_of
+from superio.script import BadLine, line_of
 from superio.view import _PLACES, Viewer, table
 
 RECORDING = ROOT / "examples" / "linux-boot" / "boot.recording.xz"
@@ -84,7 +84,7 @@ def test_each_piece_begins_on_a_fresh_board():
 def test_short_forms():
     steps = steps_of(b'sent "Hi"\npolled "!"\nso "Hi!"\nsq "ab"  02\nreceived "ab"\n2 sr 05  60\n')
     lines = "sw 00 48,sw 00 69,sr 05,sw 00 21,so,sq 6162,sr 05,sr 00,sr 05,sr 00,sr 05,sr 05"
-    assert ",".join(text_of(step.call.command) for step in steps) == lines
+    assert ",".join(line_of(step.call.command) for step in steps) == lines
     assert not any(step.differs for step in steps)
 
 

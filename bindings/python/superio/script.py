@@ -10,7 +10,7 @@ from .board import BYTES, FURTHER_LINES, LINES, MASK, MOMENT, Command, Field, Va
 from .registers import byte_string
 
 __all__ = ["BYTES", "BadLine", "Command", "FURTHER_LINES", "Field", "LINES", "LINE_FIELDS", "MASK", "MOMENT",
-           "ScriptError", "Value", "parse", "reason_of", "shown", "syntax_of", "text_of"]
+           "ScriptError", "Value", "line_of", "parse", "reason_of", "shown", "syntax_of"]
 
 _CACHED = 4096  # lines
 
@@ -87,7 +87,7 @@ def _parse(line: bytes, is_first: bool) -> Command:
                                for field, digits in zip(LINE_FIELDS[name], found.groups()) if digits))
 
 
-def text_of(command: Command) -> str:
+def line_of(command: Command) -> str:
     """The line of a command, as a file has it."""
     texts = [value.hex() if isinstance(value, bytes) else f"{value:0{field.digits}x}"
              for field, value in zip(LINE_FIELDS[command.name], command.values)]

@@ -9,7 +9,7 @@ from .board import FURTHER_LINES, PROGRAM_LINES, Board, Call, Command, Line
 from .program import LONGEST
 from .prompt import Help, Prompt, write_text
 from .registers import CLOCK, SERIAL
-from .script import LINE_FIELDS, BadLine, ScriptError, parse, syntax_of, text_of
+from .script import LINE_FIELDS, BadLine, ScriptError, line_of, parse, syntax_of
 from .tell import Story, changes, clock_registers, expected_size, registers, told, turn
 from .words import Speaker, UsageError
 
@@ -162,7 +162,7 @@ class Session(Prompt):
         self._note_for_script(call)
         self._story.note(call)
         if self._shows_calls:
-            self.say(text_of(command))
+            self.say(line_of(command))
         if call.reply is not None:
             self.say(call.reply if is_short else told(call), *(expected_size(call) if self._explains else ()))
 
@@ -170,7 +170,7 @@ class Session(Prompt):
         """Keeps what a script for the program has. A further line that changed nothing, such as a load that was
         refused, can be left out of it."""
         if call.command.name not in FURTHER_LINES:
-            self._script.append(text_of(call.command))
+            self._script.append(line_of(call.command))
         elif call.before != call.after:
             self._outside = self._outside or call
 
@@ -209,7 +209,7 @@ class Session(Prompt):
         if self.last is None:
             raise ScriptError("no call was made yet")
         rows = changes(self.last) or ["nothing changed"]
-        self.say(text_of(self.last.command), *("  " + row for row in rows))
+        self.say(line_of(self.last.command), *("  " + row for row in rows))
 
     def do_save(self, rest: str) -> None:
         path = _path(rest)
@@ -236,7 +236,7 @@ class Session(Prompt):
             self._shows_calls = rest == "on"
             self.say(f"trace is {rest}")
         else:
-            lines = [text_of(command) for command in self.commands]
+            lines = [line_of(command) for command in self.commands]
             self._tell_lines(rest, lines, "the calls since the last reset are")
 
     def do_script(self, rest: str) -> None:

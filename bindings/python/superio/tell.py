@@ -9,7 +9,7 @@ from .devices import Rtc, Serial
 from .library import RTC_SAVED_SIZE, SERIAL_SAVED_MAX
 from .registers import (CLOCK, CLOCK_KEPT, FIELDS, FIFO_BITS, FIFO_SIZE, LOOPBACK, SERIAL, Register, RtcState,
                         SerialState, bit_names, bits_by_name)
-from .script import text_of
+from .script import line_of
 
 CONDITIONS = bits_by_name(SERIAL["IIR"])
 """The interrupt conditions, each with its bit of IIR."""
@@ -230,7 +230,7 @@ def changes(call: Call) -> List[str]:
 
 def turn(call: Call) -> str:
     """Which call of a session it is, as a sentence names it."""
-    line = text_of(call.command)
+    line = line_of(call.command)
     return f"call {call.number}, {line if len(line) <= 24 else line[:22] + '..'}"
 
 

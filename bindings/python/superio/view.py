@@ -9,7 +9,7 @@ from typing import IO, Callable, Dict, List, Optional, Sequence
 from .prompt import Help, Prompt, write_text
 from .recording import Step, picture, replay
 from .registers import CLOCK, SERIAL
-from .script import ScriptError, shown, text_of
+from .script import ScriptError, line_of, shown
 from .tell import CONDITIONS, changes, clock_registers, plural, raised, registers, told
 from .words import UsageError
 
@@ -18,7 +18,7 @@ def row_of(number: int, step: Step) -> str:
     """A call as a row of the table: its number, line, reply, and what it changed."""
     reply = step.call.reply or ""
     note = f"  recorded: {step.recorded}" if step.differs else ""
-    return f"{number:>7}  {text_of(step.call.command):<24}  {reply:<8}  {', '.join(changes(step.call))}".rstrip() + note
+    return f"{number:>7}  {line_of(step.call.command):<24}  {reply:<8}  {', '.join(changes(step.call))}".rstrip() + note
 
 
 def table(steps: Sequence[Step]) -> str:
@@ -94,7 +94,7 @@ class Viewer(Prompt):
         if place >= len(self._steps):
             raise ScriptError("there is no call further on")
         self._place, step = place, self._steps[place]
-        line = f"{text_of(step.call.command)}  {step.call.reply or ''}".rstrip()
+        line = f"{line_of(step.call.command)}  {step.call.reply or ''}".rstrip()
         name, words = step.call.register.name if step.call.register else "", told(step.call)
         self.say(f"call {place + 1} of {len(self._steps)}, piece {step.piece}: {line}",
                  f"  {words}" if words.startswith(name) else f"  {name}: {words}",

@@ -15,7 +15,7 @@ from superio import Command, Rtc, Serial
 from superio.board import LINES
 from superio.prompt import Leave, write_text
 from superio.registers import CLOCK, SERIAL
-from superio.script import ScriptError, reason_of, shown, text_of
+from superio.script import ScriptError, line_of, reason_of, shown
 from superio.session import Session
 from superio.tell import quoted
 from superio.words import characters
@@ -496,7 +496,7 @@ class WordsAfterLoad(FolderTest):
                 session = Session(io.StringIO(), host_time=lambda: NOW)
                 for one in [*USED, f"sl {PORT.hex()}", f"cl {CLOCK_SAVED.hex()}", line]:
                     session.carry_out(one.encode())
-                self.assertEqual(meaning, text_of(session.commands[-1]), line)
+                self.assertEqual(meaning, line_of(session.commands[-1]), line)
 
 
 class Documents(unittest.TestCase):

@@ -18,7 +18,7 @@ use Rattle.superio_script.specs.SerialScript.{Outcome, outcomes_of, all_short, t
 use Rattle.superio_script.specs.ClockScript.{clock_after, access_of_line, clock_replies}
 use Rattle.superio_script.specs.Board.{Devices, IsAfter, IsFresh, IsLineStep}
 use Rattle.superio_script.specs.ControllerScript.{controller_replies}
-use Rattle.superio_script.specs.Script.{has_syntax, until_bad, good_commands, first_bad_line, serial_lines, clock_lines, controller_lines, replies_in_order, text_from, text_of, PrintsLines, StopsWithoutMemory}
+use Rattle.superio_script.specs.Script.{has_syntax, until_bad, good_commands, first_bad_line, serial_lines, clock_lines, controller_lines, replies_in_order, text_from, script_text, PrintsLines, StopsWithoutMemory}
 use Rattle.superio_script.proofs.SerialScriptLemmas.{outcomes_taken, printed_taken, first-replies, outcomes-after_line}
 
 -- ---- a line of the board
@@ -122,7 +122,7 @@ pub record HasCarriedOut (mask : ℕ) (start : Option (List ℕ)) (all rest : Li
   pub so_far : List ℕ
   pub written : Appends start before so_far
   pub text : (lines : List (List ℕ)) (more : List Outcome) (more_printed : List (List ℕ))
-      → text_of mask (earlier ++ lines) (outcomes_of trace ++ more) (printed ++ more_printed)
+      → script_text mask (earlier ++ lines) (outcomes_of trace ++ more) (printed ++ more_printed)
       ≡ so_far ++ text_from mask trace accesses (good_commands lines) more more_printed
 
 abbrev pub HasCarriedOut-at_start : {mask : ℕ} (start : Option (List ℕ)) (all : List (List ℕ)) {board : Devices} → IsFresh mask board → HasCarriedOut mask start all all start board
@@ -160,9 +160,9 @@ module _ {mask : ℕ} {start before : Option (List ℕ)} {all rest : List (List 
         printed = carried.printed;
         short = carried.short;
         written = subst (Appends start before) (sym (
-            ap (λ lines. text_of mask lines outcomes carried.printed) split
-            ∙ ap (λ outcomes. text_of mask (carried.earlier ++ others) outcomes carried.printed) (sym (append-nil outcomes))
-            ∙ ap (text_of mask (carried.earlier ++ others) (outcomes ++ [])) (sym (append-nil carried.printed))
+            ap (λ lines. script_text mask lines outcomes carried.printed) split
+            ∙ ap (λ outcomes. script_text mask (carried.earlier ++ others) outcomes carried.printed) (sym (append-nil outcomes))
+            ∙ ap (script_text mask (carried.earlier ++ others) (outcomes ++ [])) (sym (append-nil carried.printed))
             ∙ carried.text others [] []
             ∙ ap (λ commands. carried.so_far ++ text_from mask carried.trace carried.accesses commands [] []) none
             ∙ append-nil carried.so_far
@@ -186,16 +186,16 @@ module _ {mask : ℕ} {start before : Option (List ℕ)} {all rest : List (List 
 
       -- the text so far, then the reply, and then what follows
       pub text-after : (lines : List (List ℕ)) (more : List Outcome) (more_printed : List (List ℕ))
-          → text_of mask ((carried.earlier ++ line ∷ []) ++ lines) (outcomes_of leads-here.next ++ more) ((carried.printed ++ leads-here.printed) ++ more_printed)
+          → script_text mask ((carried.earlier ++ line ∷ []) ++ lines) (outcomes_of leads-here.next ++ more) ((carried.printed ++ leads-here.printed) ++ more_printed)
           ≡ (carried.so_far ++ reply) ++ text_from mask leads-here.next leads-here.next_accesses (good_commands lines) more more_printed
       text-after lines more more_printed =
           let leads = leads-here in
           let outcomes = outcomes_of carried.trace in
           let earlier = carried.earlier ++ line ∷ lines in
-          ap (λ lines. text_of mask lines (outcomes_of leads.next ++ more) ((carried.printed ++ leads.printed) ++ more_printed)) (append_assoc carried.earlier (line ∷ []) lines)
-          ∙ ap (λ taken. text_of mask earlier (taken ++ more) ((carried.printed ++ leads.printed) ++ more_printed)) leads.added
-          ∙ ap (λ taken. text_of mask earlier taken ((carried.printed ++ leads.printed) ++ more_printed)) (append_assoc outcomes leads.outcomes more)
-          ∙ ap (text_of mask earlier (outcomes ++ (leads.outcomes ++ more))) (append_assoc carried.printed leads.printed more_printed)
+          ap (λ lines. script_text mask lines (outcomes_of leads.next ++ more) ((carried.printed ++ leads.printed) ++ more_printed)) (append_assoc carried.earlier (line ∷ []) lines)
+          ∙ ap (λ taken. script_text mask earlier (taken ++ more) ((carried.printed ++ leads.printed) ++ more_printed)) leads.added
+          ∙ ap (λ taken. script_text mask earlier taken ((carried.printed ++ leads.printed) ++ more_printed)) (append_assoc outcomes leads.outcomes more)
+          ∙ ap (script_text mask earlier (outcomes ++ (leads.outcomes ++ more))) (append_assoc carried.printed leads.printed more_printed)
           ∙ carried.text (line ∷ lines) (leads.outcomes ++ more) (leads.printed ++ more_printed)
           ∙ ap (λ text. carried.so_far ++ text) (leads.text lines more more_printed)
           ∙ sym (append_assoc carried.so_far reply (text_from mask leads.next leads.next_accesses (good_commands lines) more more_printed))
@@ -255,5 +255,5 @@ PrintsLines-kept {mask} {lines} before middle after printed kept = record {
   within_room = printed.within_room;
   printed = printed.printed;
   short = printed.short;
-  written = Appends-then_kept before middle after (text_of mask lines printed.outcomes printed.printed) printed.written kept;
+  written = Appends-then_kept before middle after (script_text mask lines printed.outcomes printed.printed) printed.written kept;
 }

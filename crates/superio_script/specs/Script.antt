@@ -90,8 +90,8 @@ text_from mask trace accesses commands outcomes printed =
     (clock_replies accesses (clock_lines commands)) (controller_replies (controller_lines commands))
 
 -- the text of these lines: the replies to the good ones, from fresh devices
-abbrev pub text_of : (mask : ℕ) (lines : List (List ℕ)) (outcomes : List Outcome) (printed : List (List ℕ)) → List ℕ
-text_of mask lines outcomes printed = text_from mask [] [] (good_commands lines) outcomes printed
+abbrev pub script_text : (mask : ℕ) (lines : List (List ℕ)) (outcomes : List Outcome) (printed : List (List ℕ)) → List ℕ
+script_text mask lines outcomes printed = text_from mask [] [] (good_commands lines) outcomes printed
 
 -- the number of a script's first bad line, counted from 1, or `None` if every line is good
 abbrev pub first_bad_line_of : (script : List ℕ) → Option ℕ
@@ -106,7 +106,7 @@ pub record PrintsLines (mask : ℕ) (lines : List (List ℕ)) (before after : Op
   pub within_room : out_before_loss outcomes ≤ output_limit
   pub printed : List (List ℕ)
   pub short : IsTrue (all_short printed)
-  pub written : Appends before after (text_of mask lines outcomes printed)
+  pub written : Appends before after (script_text mask lines outcomes printed)
 
 -- how many bytes a script has at most
 abbrev pub script_limit : ℕ
