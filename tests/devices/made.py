@@ -172,7 +172,7 @@ def random_script(source, is_for_program=False):
 
 
 def broken_lines():
-    """A line of each syntax up to each character, and with each lost, doubled or another one. Some are good after all."""
+    """A line of each syntax up to each character, and with each lost, doubled or changed. Some are good after all."""
     for name in LINES:
         line = syntax_of(name).replace("..", "HH").replace("H", "0")
         for place, good in enumerate(f"{line} "):
