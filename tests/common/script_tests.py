@@ -104,11 +104,12 @@ def refused_scripts():
 
 
 def of_documents():
-    """The scripts that documents show with their replies."""
+    """The scripts that documents show with their replies, and perhaps with comments."""
     row = re.compile(rf"({'|'.join(LINES)})( [0-9A-Fa-f]+)*(  .*)?")
-    return [script for document in documents() for block in document.blocks
-            if block.lines and all(map(row.fullmatch, block.lines))
-            for script in of_block(f"{document}:{block.number}", block.lines)]
+    blocks = [(f"{document}:{block.number}", [line for line in block.lines if not line.startswith("#")])
+              for document in documents() for block in document.blocks]
+    return [script for place, rows in blocks if rows and all(map(row.fullmatch, rows))
+            for script in of_block(place, rows)]
 
 
 class BoardScript(NamedTuple):
