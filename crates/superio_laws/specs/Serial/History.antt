@@ -46,7 +46,21 @@ use Rattle.superio_laws.specs.Serial.{
   tx_lost_byte,
   in_buffer_empty,
 }
-pub use Rattle.superio_laws.specs.Serial.History.Registers.{decode_at, dlab_after, loopback_after, with_last_writes, accepted_by, held_bytes, read_out_bytes, value_written_at, last_found, read_out_by, remaining_bytes, accepted_bytes, ier_after}
+pub use Rattle.superio_laws.specs.Serial.History.Registers.{
+  decode_at,
+  dlab_after,
+  loopback_after,
+  with_last_writes,
+  accepted_by,
+  held_bytes,
+  read_out_bytes,
+  value_written_at,
+  last_found,
+  read_out_by,
+  remaining_bytes,
+  accepted_bytes,
+  ier_after,
+}
 pub use Rattle.superio_laws.specs.Serial.History.Interrupts.{
   is_pending,
   trigger_calls,
