@@ -74,7 +74,7 @@ WRONG += [(C_FUNCTIONS, old, new, {"Saved", "CFunctions"}) for old, new in [
     ("invalid_read: value.is_none()", "invalid_read: value.is_some()"),
     ("invalid_write: !is_taken", "invalid_write: is_taken"),
     ("SavedStateError::OtherDevice => 3", "SavedStateError::OtherDevice => 2"),
-    ("    port.read(offset)\n", "    port.read(1)\n"),
+    ("_ => port.read(offset)", "_ => port.read(1)"),
     ("const LOADED: u32 = 0", "const LOADED: u32 = 1"),
     ("const NEVER: u64 = u64::MAX", "const NEVER: u64 = 0"),
 ]]

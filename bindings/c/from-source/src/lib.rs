@@ -178,7 +178,12 @@ pub extern "C" fn superio_serial_new() -> Uart {
 
 #[no_mangle]
 pub extern "C" fn superio_serial_read(port: &mut Uart, offset: u8) -> ReadEffects {
-    port.read(offset)
+    // Only at 0 there are events. With an arm of its own for 0, rustc 1.95 puts no struct together for another offset,
+    // which is then the byte alone: a read of LSR takes 20 instructions, and 29 without.
+    match offset {
+        0 => port.read(0),
+        _ => port.read(offset),
+    }
 }
 
 #[no_mangle]
