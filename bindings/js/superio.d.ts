@@ -118,9 +118,9 @@ export interface SerialState {
 
 /** The state of a clock. */
 export interface RtcState {
-  /** RTCLR: the value that was loaded last, or 0. */
+  /** RTCLR, the last loaded value, or 0. */
   lr: number;
-  /** RTCMR: the guest time that an alarm waits for. */
+  /** RTCMR, the guest time that an alarm waits for. */
   mr: number;
   /** RTCIMSC, the interrupt mask. */
   imsc: number;

@@ -5,17 +5,13 @@ from functools import partial
 from struct import Struct
 
 import oracle
-from pages import CLOCK_FIELDS, FIFO_SIZE, FRESH, KINDS, MAGIC, VERSION
+from common.facts import ENCODING, FIFO_SIZE, KINDS, MAGIC, saved
+from facts import CLOCK_FIELDS, FRESH
 
 ROOM = 256                           # bytes that the output takes
 SERIAL, CLOCK = KINDS["serial port"], KINDS["clock"]
-REGISTERS = len(FRESH)
+REGISTERS, VERSION = len(FRESH), ENCODING["version"]
 CLOCK_CONTENTS = Struct("<" + "".join(CLOCK_FIELDS.values()))
-
-
-def saved(kind, contents):
-    """The saved state with these contents, by docs/SAVED-STATES.md."""
-    return MAGIC + bytes([kind, VERSION]) + len(contents).to_bytes(2, "little") + contents
 
 
 def header_checks(kind, data):

@@ -5,12 +5,13 @@ import random
 import re
 
 import model
-from board import REGISTERS, SERIAL, fault, header_checks, saved
+from board import REGISTERS, SERIAL, fault, header_checks
+from common.facts import CONSOLE_PREFIX as PREFIX   # flags, the dropped bytes, and those that wait
+from common.facts import KINDS, LOOPBACK, OUTPUT_SIZE, saved
+from facts import ENABLED_BY
 from made import port_state
-from pages import ENABLED_BY, KINDS
 
 KIND = KINDS["console"]            # of its saved states
-OUTPUT_SIZE, PREFIX = 4096, 11     # the output that waits at most; flags, the dropped bytes, and those that wait
 FLAGS = ("polled", "ready", "asleep", "refused")
 RDA, THRE = ENABLED_BY.values()    # in IER
 PORT_SIZE, MOST = 75, 2 ** 64 - 1  # of the port's struct, and of the number of dropped bytes
@@ -56,7 +57,7 @@ class Console:
 
     def room(self):
         is_open = (self.ready or self.polled) and not self.asleep
-        return self.port.room() if is_open and not self.port.registers["MCR"] & model.LOOPBACK else 0
+        return self.port.room() if is_open and not self.port.registers["MCR"] & LOOPBACK else 0
 
     def wants(self):
         has_input = self.port.held() and self.port.registers["IER"] & RDA

@@ -4,8 +4,9 @@ differ. A call is a name of board.Board and its arguments."""
 import random
 from functools import partial
 
-from board import BYTES, CLOCK, CLOCK_CONTENTS, FIFO_SIZE, REGISTERS, SERIAL, saved
-from pages import CLOCK_AT, CLOCK_FIELDS
+from board import BYTES, CLOCK, CLOCK_CONTENTS, REGISTERS, SERIAL
+from common.facts import FIFO_SIZE, saved
+from facts import CLOCK_AT, CLOCK_FIELDS
 from script import LINES, PROGRAM_LINES, line_of, script_of, syntax_of
 from seeds import random_source
 

@@ -2,15 +2,15 @@
 """The devices in plain Python, step by step, as docs/DEVICES.md has them: fast, and easy to read.
 
 Its port and its clock have the calls of those in oracle.py, which search the past instead. It is written from the page,
-from which pages.py reads the map of registers, and not from the code.
+and not from the code. The map of registers is that of interface.toml, by facts.py.
 """
-import pages
-from pages import (BITS, BY_OFFSET, CLOCK_AT, CLOCK_FIELDS, CONSTANTS, DLAB, FIFO_BITS, FIFO_SIZE, FRESH,
-                   IDENTIFICATION, IER_MASK, KEPT, LOOPBACK, LOOPED, READ_ONLY)
+import facts
+from common.facts import DLAB, FIFO_BITS, FIFO_SIZE, LOOPBACK
+from facts import BITS, BY_OFFSET, CLOCK_AT, CLOCK_FIELDS, CONSTANTS, FRESH, ID_AT, IER_MASK, KEPT, LOOPED, READ_ONLY
 
 RDA, THRE, NONE = BITS["IIR"].values()
 READY = BITS["LSR"]["READY"]
-ENABLED_BY = {BITS["IIR"][name]: bit for name, bit in pages.ENABLED_BY.items()}
+ENABLED_BY = {BITS["IIR"][name]: bit for name, bit in facts.ENABLED_BY.items()}
 
 
 class Port:
@@ -137,7 +137,7 @@ class Clock:
             fields.update(armed=0, RIS=fields["RIS"] | 1)
         if value is None:
             shown = {**fields, **CONSTANTS, "DR": time, "MIS": fields["RIS"] & fields["IMSC"]}
-            return shown.get(name, IDENTIFICATION.get(offset))
+            return shown.get(name, ID_AT.get(offset))
         if name is None or name in READ_ONLY:
             return None
         if name == "MR":

@@ -4,12 +4,13 @@
 There are no registers, and no rule is shared with the definitions that the proofs use. Of each call a fact is kept:
 what it wrote, raised and acknowledged, and which bytes were accepted and read out. What a call shows is found by a
 search of the facts before it. A search ends at the latest at the newest start state, a fact of the past too.
-docs/DEVICES.md has the rules, and the map of registers and bits, which pages.py reads there.
+docs/DEVICES.md has the rules. The map of registers and bits is that of interface.toml, by facts.py.
 """
 from typing import NamedTuple
 
-from pages import (BITS, BY_OFFSET, CLOCK_AT, CLOCK_FIELDS, CONSTANTS, DLAB, ENABLED_BY, FIFO_BITS, FIFO_SIZE, FRESH,
-                   IDENTIFICATION, IER_MASK, KEPT, LOOPBACK, LOOPED, READ_ONLY)
+from common.facts import DLAB, FIFO_BITS, FIFO_SIZE, LOOPBACK
+from facts import (BITS, BY_OFFSET, CLOCK_AT, CLOCK_FIELDS, CONSTANTS, ENABLED_BY, FRESH, ID_AT, IER_MASK, KEPT, LOOPED,
+                   READ_ONLY)
 
 
 class Fact(NamedTuple):
@@ -197,7 +198,7 @@ class Clock(Device):
             self.past.append(Fact(found))
             state = self.state()
             shown = {**state, **CONSTANTS, "DR": guest_time, "MIS": state["RIS"] & state["IMSC"]}
-            return shown.get(name, IDENTIFICATION.get(offset))
+            return shown.get(name, ID_AT.get(offset))
         writes = {
             "MR": {"MR": value, "armed": int(value > guest_time)} | ({"RIS": 1} if value == guest_time else {}),
             "LR": {"LR": value, "offset": value - time},

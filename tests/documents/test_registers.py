@@ -1,17 +1,17 @@
 # SPDX-License-Identifier: Apache-2.0 OR BSD-3-Clause
-"""The registers of the Python package against those of the definitions, of superio.h and of DEVICES.md."""
+"""The registers of interface.toml, as the Python package has them, against those of the definitions of which the proofs
+speak, of superio.h, and of what DEVICES.md says in sentences."""
 import re
 
-import pages
 import pytest
-from documents import table
+from common.facts import CLOCK as CLOCK_FACTS
+from common.facts import PORT_REGISTERS, SERIAL as SERIAL_FACTS
+from documents import Document
 from harness import ROOT, at_least
-from pages import numbers
 from superio import registers
-from superio.registers import CLOCK, DLAB, FIELDS, FIFO_BITS, IDENTIFICATION, LOOPBACK, SERIAL
+from superio.registers import CLOCK, DLAB, FIELDS, FIFO_BITS, FIFO_SIZE, IDENTIFICATION, LOOPBACK, SERIAL
 
 SPECS = ROOT / "crates" / "superio_core" / "specs"
-HEX = re.compile(r"\b0x([0-9A-Fa-f]+)\b")
 FRESH = registers.SerialState()
 
 
@@ -19,75 +19,96 @@ def read(path):
     return " ".join(path.read_text(encoding="utf-8").split())
 
 
+def numbers(text):
+    return [int(digits, 16) for digits in re.findall(r"0x([0-9A-Fa-f]+)", text)]
+
+
+REGISTER_MAP, STATE, STEP, RTC = (read(SPECS / name) for name in (
+    "Serial/RegisterMap.antt", "Serial.antt", "Serial/Step.antt", "Rtc.antt"))
+HEADER, PAGE = read(ROOT / "bindings" / "c" / "superio.h"), " ".join(Document("docs/DEVICES.md").text.split())
+
+
 def compare(what, *values):
     """What `what` is in several places: the package's value, and the value of each place."""
     return pytest.param(*values[:1], values[1:], id=what)
 
 
-def serial_results(devices):
-    """Offsets, states of a new port, and bits."""
-    register_map, state, header = (read(path) for path in (
-        SPECS / "Serial" / "RegisterMap.antt", SPECS / "Serial.antt", ROOT / "bindings" / "c" / "superio.h"))
+def port_registers():
+    """Offsets, what reads show and writes change, and the states of a new port."""
     variants = {(int(offset), is_latched): latched if is_latched and latched else clear or only
                 for offset, latched, clear, only in re.findall(
-                    r"offset == (\d) then (?:\(if dlab then (\w+) else (\w+)\)|(\w+))", register_map)
+                    r"offset == (\d) then (?:\(if dlab then (\w+) else (\w+)\)|(\w+))", REGISTER_MAP)
                 for is_latched in (False, True)}
-    shown = {(offset, dlab): row for offset, dlab, *row in table(devices, "Offset | DLAB |")}
+    yield compare("how many registers an access reaches", {(it.offset, latched) for it in SERIAL.values()
+                                                          for latched in (False, True)}, {*variants})
+    written = {*re.findall(r"\bwrite_step (\w+) \w+", STEP)} - {"_"}
     for name, (_, offset, _, bits, latched, access, ignored) in SERIAL.items():
-        place = str(offset), {None: "any", False: "clear", True: "set"}[latched]
-        reads, writes, fresh = shown.get(place, ["none", "none", "none"])
-        if "r" in access:
-            variant = {"RBR": "Data"}.get(name, name.capitalize())
-            yield compare(f"the register at {offset}", variant, variants.get((offset, bool(latched))))
-            yield compare(f"what is read at {offset}", name, re.match(r"\w+", reads)[0])
-        if "w" in access:
-            yield compare(f"what is written at {offset}", "ignored" if ignored else name, re.match(r"\w+", writes)[0])
+        variant = {"RBR": "Data", "THR": "Data", "FCR": "Iir"}.get(name, name.capitalize())
+        yield compare(f"{name} at {offset}", variant, variants.get((offset, bool(latched))))
+        yield compare(f"what is read of {name}", "r" in access, name not in ("THR", "FCR"))
+        yield compare(f"whether a write of {name} counts", "w" in access and not ignored,
+                      variant in written and name != "RBR")
         if name in FIELDS:
             field, value = FIELDS[name], getattr(FRESH, FIELDS[name])
-            yield compare(f"{name} of a new port", value, (numbers(fresh) or [None])[0],
-                          int(re.search(rf"{field} = 0x(\w+);", state)[1], 16))
-            comment = re.search(rf"\b{field};\s*/\*(.*?)\*/", header)[1]
-            stated = {*numbers(comment), *numbers(pages.BIT_ROWS.get(name, ""))}
+            yield compare(f"{name} of a new port", value, int(re.search(rf"{field} = 0x(\w+);", STATE)[1], 16))
+            stated = {*numbers(re.search(rf"\b{field};\s*/\*(.*?)\*/", HEADER)[1])}
             stated -= {FRESH.interrupt_identification, FIFO_BITS}
             yield compare(f"bits of {name} beside those of the texts", set(), stated - {bit for bit, _ in bits})
-    yield compare("the bits of FIFOs", FIFO_BITS, pages.FIFO_BITS,
-                  int(re.search(r"iir_fifo_bits = 0x(\w+)", register_map)[1], 16))
+    yield compare("the size of the FIFO", FIFO_SIZE, int(re.search(r"min fifo\.len (\d+)", STATE)[1]),
+                  int(re.search(r"a receive FIFO of (\d+) bytes", PAGE)[1]))
+
+
+def port_bits():
+    """Each bit that the definitions name, and the words of DEVICES.md about them."""
+    yield compare("the bits of FIFOs", FIFO_BITS, int(re.search(r"iir_fifo_bits = 0x(\w+)", REGISTER_MAP)[1], 16))
     named = {**{(register.name, name): bit for register in SERIAL.values() for bit, name in register.bits},
              ("LCR", "DLAB"): DLAB, ("MCR", "LOOP"): LOOPBACK}
-    stated = re.findall(r"(\w+?)_(\w+)_bit = 0x(\w+)", register_map)
-    stated += re.findall(r"(\w+)_bit (\w+) = 0x(\w+)", register_map)
+    stated = re.findall(r"(\w+?)_(\w+)_bit = 0x(\w+)", REGISTER_MAP)
+    stated += re.findall(r"(\w+)_bit (\w+) = 0x(\w+)", REGISTER_MAP)
     for register, name, digits in stated:
-        register, name, bit = register.upper(), name.upper(), int(digits, 16)
-        yield compare(f"bit {name} of {register}", named[register, name], bit)
-        yield compare(f"bit 0x{digits} of {register} in DEVICES.md", True, f"0x{digits}" in pages.BIT_ROWS[register])
+        register, name = register.upper(), name.upper()
+        yield compare(f"bit {name} of {register}", named[register, name], int(digits, 16))
+        yield compare(f"bit {name} of {register} in DEVICES.md", True, f"{{{name}}}" in PORT_REGISTERS[register]["told"])
+    yield compare("the bits that IER keeps", sum(bit for bit, _ in SERIAL["IER"].bits),
+                  int(re.search(r"ier_bits = 0x(\w+)", REGISTER_MAP)[1], 16))
+    for bit, name in SERIAL["IER"].bits:
+        yield compare(f"bit {name} of IER in DEVICES.md", True, f"{{{name}}}" in PORT_REGISTERS["IER"]["told"])
+    outputs = re.findall(r"mcr_(\w+)_bit then msr_(\w+)_bit", REGISTER_MAP)
+    yield compare("what loopback shows", SERIAL_FACTS["loopback"], {out.upper(): it.upper() for out, it in outputs},
+                  dict(re.findall(r"(\w+) as (\w+)", re.search(r"the outputs of MCR above them: (.*?)\.", PAGE)[1])))
 
 
-def clock_results(devices):
-    """Offsets, accesses, and the bytes of the identification."""
-    text = read(SPECS / "Rtc.antt")
-    variants = {int(offset, 16): name for offset, name in re.findall(r"offset == 0x(\w+) then (\w+)", text)}
-    shown = {int(offset, 16): row for offset, *row in table(devices, "Offset | Register |") if HEX.fullmatch(offset)}
-    accesses = {letter: dict(re.findall(rf"is_{kind} (\w+) = (true|false)", text))
+def clock_results():
+    """Offsets, accesses, the bytes of the identification, and a new clock."""
+    variants = {int(offset, 16): name for offset, name in re.findall(r"offset == 0x(\w+) then (\w+)", RTC)}
+    yield compare("the offsets of registers", {it["offset"] for it in CLOCK_FACTS["registers"]}, {*variants})
+    accesses = {letter: dict(re.findall(rf"is_{kind} (\w+) = (true|false)", RTC))
                 for letter, kind in (("r", "readable"), ("w", "writable"))}
+    shown = dict(re.findall(r"clock_register_read (\w+) guest state = (?:Some )?(\S+)", RTC))
     for name, register in CLOCK.items():
         if not name.startswith("ID"):
             variant = variants.get(register.offset, "Reserved")
             yield compare(f"the register at {register.offset}", name, variant.upper())
-            title, *effects = shown.get(register.offset, ["no register", "is invalid", "is invalid"])
-            yield compare(f"the register at {register.offset}", f"RTC{name}", title.split(",")[0])
-            for letter, effect in zip("rw", effects):
+            for letter in "rw":
                 stated = accesses[letter].get(variant, accesses[letter]["_"]) == "true"
-                yield compare(f"{letter} of {name}", letter in register.access, stated, effect != "is invalid")
+                yield compare(f"{letter} of {name}", letter in register.access, stated)
+            words = next(it for it in CLOCK_FACTS["registers"] if it["name"] == name).get("read", "None").strip("`")
+            yield compare(f"what {name} shows", {"guest time": "guest", "ris & imsc": "(bit_and"}.get(words, words),
+                          shown[variant].removeprefix("state."))
     first = next(register.offset for name, register in CLOCK.items() if name == "ID0")
-    yield compare("the first identification", first, pages.ID_FIRST,
-                  int(re.search(r"nat_le 0x(\w+) offset", text)[1], 16))
-    yield compare("the identification", IDENTIFICATION, pages.ID_BYTES,
-                  bytes(numbers(re.search(r"identification_bytes = (.*?) \[\]", text)[1])))
+    yield compare("the first identification", first, int(re.search(r"nat_le 0x(\w+) offset", RTC)[1], 16))
+    yield compare("the last identification", first + 4 * len(IDENTIFICATION) - 1,
+                  int(re.search(r"nat_le offset 0x(\w+)", RTC)[1], 16))
+    yield compare("the identification", IDENTIFICATION,
+                  bytes(numbers(re.search(r"identification_bytes = (.*?) \[\]", RTC)[1])))
+    fresh = re.search(r"fresh_clock = record \{ (.*?) \}", RTC)[1].replace("pos ", "").replace("false", "0")
+    yield compare("a new clock", registers.RtcState(),
+                  registers.RtcState(**{name: int(value) for name, value in re.findall(r"(\w+) = (\d+)", fresh)}))
 
 
-RESULTS = [*serial_results(pages.DEVICES), *clock_results(pages.DEVICES)]
+RESULTS = [*port_registers(), *port_bits(), *clock_results()]
 
 
-@pytest.mark.parametrize("value, others", at_least(113, RESULTS))
+@pytest.mark.parametrize("value, others", at_least(124, RESULTS))
 def test_register(value, others):
     assert all(other == value for other in others)

@@ -1,24 +1,44 @@
 # SPDX-License-Identifier: Apache-2.0 OR BSD-3-Clause
-"""The numbers of docs/SAVED-STATES.md are those of what devices save: how long it is, where each field is, and which
-flags and errors there are. Each number of a table is read here, so that another one there fails."""
+"""The encoding and the errors of interface.toml are those of the definitions of which the proofs speak. The numbers of
+docs/SAVED-STATES.md are those of what devices save: how long it is, where each field is, and which flags and errors
+there are. Each number of a table is read here, so that another one there fails."""
 import re
 from dataclasses import fields, replace
 
 import pytest
+from common.facts import BYTES, CLOCK, CONSOLE, ENCODING, ERRORS, FIFO_SIZE, HEADER_SIZE, KINDS, MAGIC, OUTPUT_SIZE, SERIAL
+from common.facts import PORT_FIELDS, told, word_of
 from documents import Document
+from harness import ROOT, at_least
 from superio import Console, ConsoleState, Rtc, RtcState, SavedStateError, Serial, SerialState
 from superio.saved import SAVED_STATE_ERRORS
 
 PAGE = Document("docs/SAVED-STATES.md").text
-HEADER, FIFO, OUTPUT = 8, 64, 4096
-FULL_PORT = SerialState(in_buffer=b"x" * FIFO)
+FULL_PORT = SerialState(in_buffer=b"x" * FIFO_SIZE)
 # The least and the most that a device saves.
 STATES = {
     "A serial port": (Serial(), Serial.from_state(FULL_PORT)),
     "A clock": (Rtc(), Rtc()),
-    "A console": (Console(), Console.from_state(ConsoleState(port=FULL_PORT, output=b"y" * OUTPUT))),
+    "A console": (Console(), Console.from_state(ConsoleState(port=FULL_PORT, output=b"y" * OUTPUT_SIZE))),
 }
-ERRORS = re.findall(r"^\| `(\w+)` \| (\d+) \| `([a-z ]+)` \|", PAGE, re.M)
+SHOWN = re.findall(r"^\| `(\w+)` \| (\d+) \| `([a-z ]+)` \|", PAGE, re.M)
+
+
+CRATES = ROOT / "crates"
+CORE, CONSOLE_CRATE = CRATES / "superio_core", CRATES / "superio_console"
+
+
+def words(path):
+    """The words of a file of a crate."""
+    return " ".join(path.read_text(encoding="utf-8").split())
+
+
+SPECS, DECLARED = words(CORE / "specs/Saved.antt"), (CORE / "src/saved.rt").read_text(encoding="utf-8")
+
+
+def definition(name, text=SPECS):
+    """What stands behind the sign of a definition, up to the next one."""
+    return re.search(rf"\b{name}(?: \w+)* = (.*?)(?: -- | abbrev | pub record |$)", text)[1]
 
 
 def section(title):
@@ -42,15 +62,15 @@ def test_sizes(title):
     sizes = [len(device.to_bytes()) for device in STATES[title]]
     sentence = r"^The encoding has ([\d,]+)(?: to ([\d,]+))? bytes\. The length in the header is (\d+)\b"
     least, most, length = re.search(sentence, section(title), re.M).groups()
-    assert [number(least), number(most or least)] == sizes and number(length) == sizes[0] - HEADER
+    assert [number(least), number(most or least)] == sizes and number(length) == sizes[0] - HEADER_SIZE
     table = rows(title)
-    assert [HEADER + sum(row[which] for row in table) for which in (1, 2)] == sizes
+    assert [HEADER_SIZE + sum(row[which] for row in table) for which in (1, 2)] == sizes
 
 
 @pytest.mark.parametrize("title", ["The header", *STATES])
 def test_places(title):
     """A field begins where the one before ends."""
-    end = 0 if title == "The header" else HEADER
+    end = 0 if title == "The header" else HEADER_SIZE
     for place, least, most, _ in rows(title):
         assert place == (f"{end}" if end is not None else "after the output")
         end = end + least if end is not None and least == most else None
@@ -81,12 +101,12 @@ def test_header(kind, title):
 def test_flags():
     flags = [int(one, 16) for one in re.findall(r"^\| 0x(\w\w) \|", section("A console"), re.M)]
     names = ["is_polled", "is_ready", "is_asleep", "is_refused"]
-    assert flags == [Console.from_state(ConsoleState(**{name: True})).to_bytes()[HEADER] for name in names]
+    assert flags == [Console.from_state(ConsoleState(**{name: True})).to_bytes()[HEADER_SIZE] for name in names]
 
 
 def test_errors():
-    assert [(int(status), reason) for _, status, reason in ERRORS] == [*enumerate(SAVED_STATE_ERRORS, 1)]
-    assert [name.lower() for name, *_ in ERRORS] == [reason.replace(" ", "") for reason in SAVED_STATE_ERRORS]
+    assert [(int(status), reason) for _, status, reason in SHOWN] == [*enumerate(SAVED_STATE_ERRORS, 1)]
+    assert [name.lower() for name, *_ in SHOWN] == [reason.replace(" ", "") for reason in SAVED_STATE_ERRORS]
 
 
 def reason_of(kind, length, place=0, value=0):
@@ -111,5 +131,58 @@ def test_lengths():
     of_console = r"^\| A console \| At least (\d+) \+ n, where n, the number at offset (\d+), is at most ([\d,]+) \|"
     fixed, place, most = map(number, re.search(of_console, text, re.M).groups())
     for waiting, reason in ((0, "too short"), (most, "too short"), (most + 1, "wrong length")):   # without a port
-        assert [reason_of(Console, fixed + waiting + more, place - HEADER, waiting) for more in (-1, 0)] == [
+        assert [reason_of(Console, fixed + waiting + more, place - HEADER_SIZE, waiting) for more in (-1, 0)] == [
             "wrong length", reason]
+
+
+# ---- The table, and the definitions
+
+def test_header_of_definitions():
+    assert bytes(int(it, 16) for it in re.findall(r"0x(\w\w)", definition("magic"))) == MAGIC
+    assert int(definition("version")) == ENCODING["version"]
+    kinds = [int(definition(f"{name}_kind")) for name in ("serial", "clock", "console")]
+    assert kinds == [KINDS[name] for name in ("serial port", "clock", "console")]
+    assert int(re.search(r"HEADER_SIZE: usize = (\d+);", DECLARED)[1]) == HEADER_SIZE
+
+
+def test_fields_of_definitions():
+    """Their order, and the width of each number."""
+    of_port = definition("register_bytes", words(CORE / "specs/Serial.antt"))
+    assert re.findall(r"\bs\.(\w+) ∷", of_port) == [it["name"] for it in PORT_FIELDS.values()]
+    assert [it["name"] for it in SERIAL["fields"]] == [*(it["name"] for it in PORT_FIELDS.values()), "in_buffer"]
+    of_clock = re.findall(r"(?:to_le_bytes w(\d+)|(flag)) \(?(?:cast_unsigned w\d+ )?state\.(\w+)", definition("clock_contents"))
+    assert [(name, 1 if flag else int(bits) // 8) for bits, flag, name in of_clock] == [
+        (it["name"], BYTES[it["type"]]) for it in CLOCK["fields"]]
+    signed = [name for name in re.findall(r"cast_unsigned w\d+ state\.(\w+)", definition("clock_contents"))]
+    assert signed == [it["name"] for it in CLOCK["fields"] if it["type"] == "i64"]
+
+
+def test_struct_of_the_clock():
+    """It has the fields of the table, in their order, with their types in the struct."""
+    source = (CORE / "src/rtc_pl031.rt").read_text(encoding="utf-8")
+    struct = re.search(r"^pub struct Pl031 \{\n(.*?)^\}", source, re.M | re.S)[1]
+    assert re.findall(r"^    pub (\w+): (\w+),$", struct, re.M) == [
+        (it["name"], it.get("in_struct", it["type"])) for it in CLOCK["fields"]]
+
+
+def test_struct_of_the_console():
+    source = (CONSOLE_CRATE / "src/lib.rt").read_text(encoding="utf-8")
+    struct = re.search(r"^pub struct Console \{\n(.*?)^\}", source, re.M | re.S)[1]
+    kept = [it for it in CONSOLE["fields"] if it["type"] in BYTES]
+    assert re.findall(r"^    pub (\w+): (u\d+),$", struct, re.M) == [
+        (it["name"], it["type"].replace("bool", "u8")) for it in kept]
+    assert OUTPUT_SIZE == int(re.search(r"OUTPUT_SIZE: usize = (\d+);", words(CONSOLE_CRATE / "src/output_ring.rt"))[1])
+
+
+def test_flags_of_definitions():
+    flags = re.findall(r"bit_if c\.(\w+) (\d+)", definition("flags_of", words(CONSOLE_CRATE / "specs/Saved.antt")))
+    assert flags == [(it["name"], str(it["flag"])) for it in CONSOLE["fields"] if "flag" in it]
+
+
+def test_errors_of_definitions():
+    """Their cases, what they hold, and their texts, in the order of their numbers."""
+    cases = re.search(r"^pub enum SavedStateError \{\n(.*?)^\}", DECLARED, re.M | re.S)[1]
+    assert re.findall(r"^    (\w+)(?:\((\w+)\))?,$", cases, re.M) == [(it["case"], it.get("holds", "")) for it in ERRORS]
+    texts = re.findall(r'saved_state_error_text \(?(\w+)(?: _\))? = Some \(codes "(.*?)"\)', SPECS)
+    assert texts == [(it["case"], told(it["text"])) for it in at_least(8, ERRORS)]
+    assert [word_of(it) for it in ERRORS] == [*SAVED_STATE_ERRORS]

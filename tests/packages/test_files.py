@@ -4,24 +4,16 @@ import re
 
 import pytest
 from documents import BUILT
+from generators import facts
 from generators.interface import ABI, SYMBOLS, VERSION, debian_symbols, interface, kept, lost
 from harness import ROOT, at_least, check
 
-# The files that are used without VERSION, each with the form in which it has the version. Each form is there once.
+# What has the version, or the number of the binary interface, beside the places that the step facts writes: the form in
+# which it is there, once.
 PLACES = [
     ("CHANGELOG.md", r"\A(?s:.*?)^## (\d+\.\d+\.\d+) - .+$", VERSION),
-    ("bindings/js/package.json", r'^  "version": "(.+)",$', VERSION),
-    ("bindings/python/superio/__init__.py", r'^__version__ = "(.+)"$', VERSION),
-    ("bindings/superio/Cargo.toml", r'^version = "(.+)"$', VERSION),
-    ("bindings/rust/Cargo.toml", r'^superio = \{ version = "(.+?)"', VERSION),
-    ("bindings/c/from-source/Cargo.toml", r'^version = "(.+)"$', VERSION),
-    ("bindings/c/from-source/Cargo.toml", r'^superio = \{ version = "(.+?)"', VERSION),
     ("debian/changelog", r"\Asuperio \((.+)\+ds-\d+\) ", VERSION),
-    # The same for the number of the binary interface, which the name of the shared library ends with.
-    ("crates/superio_c/src/lib.rt", r"^const ABI: u32 = (\d+);$", ABI),
     ("bindings/js/module.mjs", r"^export const ABI = (\d+);$", ABI),
-    ("bindings/c/from-source/src/lib.rs", r"^const ABI: u32 = (\d+);$", ABI),
-    ("debian/control", r"^Package: libsuperio(\d+)$", ABI),
 ]
 # Copies that a package has for itself, of what stands elsewhere: a package takes no file from above it.
 COPIES = {
@@ -75,7 +67,7 @@ def test_release_has_a_date(heading):
     assert re.fullmatch(r"\d+\.\d+\.\d+ - \d{4}-\d\d-\d\d", dated)
 
 
-@pytest.mark.parametrize("name, form, wanted", at_least(12, PLACES))
+@pytest.mark.parametrize("name, form, wanted", at_least(25, [*PLACES, *facts.PLACES]))
 def test_number(name, form, wanted):
-    """A version, or the number of the binary interface, is the same in each file that repeats it."""
-    assert re.findall(form, (ROOT / name).read_text(encoding="utf-8"), re.M) == [wanted]
+    """A version, or the number of the binary interface, is the same in each file that repeats it, and so are sizes."""
+    assert re.findall(form, (ROOT / name).read_text(encoding="utf-8"), re.M) == [str(wanted)]

@@ -11,6 +11,7 @@ import rerun
 from common.cargo import BINDINGS, DEVICES
 from common.comparison import COMPARISON
 from generators import counts, libraries, module
+from generators.facts import MODULE
 from generators.page import PAGE
 from harness import ROOT, at_least, run
 
@@ -118,6 +119,7 @@ NAMED = {
                   *sources(*libraries.SOURCE_FOLDERS, ending=".rt")],
     "module": [libraries.PREBUILT / module.MODULE, module.EMBEDDED, module.DECLARED, libraries.INTERFACE,
                *sources(module.SOURCES, module.DEVICES), ROOT / "tools/generators/module.py",
+               ROOT / "interface.toml", ROOT / "tools/common/facts.py", ROOT / MODULE,
                *(ROOT / f"bindings/python/superio/{it}.py" for it in at_least(3, re.findall(
                    r"^from superio\.(\w+)", (ROOT / "tools/generators/module.py").read_text("utf-8"), re.M)))],
     "pictures": [PAGE, *(ROOT / "docs" / it for it in PICTURES)],

@@ -3,8 +3,8 @@
 beside the sources for Cargo.
 
 Nothing is written if something of superio.abi is gone while SUPERIO_ABI is the same: a program that was compiled before
-would go wrong. Then give a new number in crates/superio_c and in the places of tests/packages/test_files.py, and tell
-in CHANGELOG.md what changed. If no release had the number, remove superio.abi before.
+would go wrong. Then give a new number in interface.toml, and tell in CHANGELOG.md what changed. If no release had the
+number, remove superio.abi before.
 """
 import re
 import shutil

@@ -8,7 +8,6 @@ state. Needs Debian 12's rustc, libstd-rust-dev-wasm32 and lld.
 """
 import base64
 import ctypes
-import inspect
 import json
 import re
 import shutil
@@ -19,6 +18,7 @@ from pathlib import Path
 
 from common.cargo import DEBIAN_RUSTC
 from common.commands import ROOT, run
+from common.facts import CLOCK as CLOCK_FACTS, CONSOLE as CONSOLE_FACTS, SERIAL as SERIAL_FACTS, told_of_field
 from generators.libraries import PREBUILT, replace_lines, source_line, sums_of
 from superio.library import ABI, RTC_SAVED_SIZE, ConsoleStruct, RtcStruct
 from superio.registers import CLOCK, OUTPUT_SIZE, SERIAL, ConsoleState, RtcState, SerialState
@@ -40,9 +40,8 @@ MODULE_OPTIONS = """--crate-name superio_c --crate-type cdylib -C lto=fat -C str
     -C link-arg=-zstack-size=16384 -C link-arg=--initial-memory=131072""".split()
 # Kinds of numbers, as DataView names them, and types of fields, as TypeScript does.
 KINDS = {ctypes.c_uint8: "Uint8", ctypes.c_uint32: "Uint32", ctypes.c_int64: "BigInt64", ctypes.c_uint64: "BigUint64"}
-TYPES = {"int": "number", "bool": "boolean", "bytes": "Uint8Array", "SerialState": "SerialState"}
-# A field of a state in registers.py: its name, type and default, and the comment.
-FIELD = re.compile(r"^    (\w+): (\w+) = ([^#\n]*)(?:# (.*))?$", re.M)
+TYPES = {"u8": "number", "u32": "number", "u64": "bigint", "i64": "bigint", "bool": "boolean", "bytes": "Uint8Array",
+         "port": "SerialState"}
 
 
 def has_compiler():
@@ -113,13 +112,12 @@ def registers_by_type():
 def declared():
     """The text of superio.d.ts, with the registers, the fields of states and the reasons by the Python package."""
     text = DECLARED.read_text(encoding="utf-8")
-    for state in (SerialState, RtcState, ConsoleState):
+    for state, facts in ("SerialState", SERIAL_FACTS), ("RtcState", CLOCK_FACTS), ("ConsoleState", CONSOLE_FACTS):
         lines = []
-        for name, kind, default, comment in FIELD.findall(inspect.getsource(state)):
-            lines += [f"  /** {comment[0].upper()}{comment[1:]}. */"] if comment else []
-            is_big = kind == "int" and "int64" in default
-            lines.append(f"  {camel(name)}: {'bigint' if is_big else TYPES[kind]};")
-        text = re.sub(rf"(?<=interface {state.__name__} {{\n)[^}}]*", "\n".join([*lines, ""]), text)
+        for field in facts["fields"]:
+            about = told_of_field(field)
+            lines += [f"  /** {about[0].upper()}{about[1:]}. */", f"  {camel(field['name'])}: {TYPES[field['type']]};"]
+        text = re.sub(rf"(?<=interface {state} {{\n)[^}}]*", "\n".join([*lines, ""]), text)
     for name, registers in registers_by_type().items():
         union = textwrap.indent(textwrap.fill(" | ".join(f'"{it}"' for it in registers), 110), "  ")
         text = re.sub(rf"(?<=export type {name} =)[^;]*", f"\n{union}", text)

@@ -8,6 +8,7 @@ import assert from "node:assert/strict";
 import test from "node:test";
 import { Board, LINES, bytesOf, hex, hexOf, parse, programLines, runScript, syntaxOf } from "../../../web/board.mjs";
 import { Boot } from "../../../web/boot.mjs";
+import { Rtc, Serial } from "../superio.mjs";
 import {
   CONDITIONS, dateOf, lineFormat, plural, quoted, ruleOf, short, shownRegisters, storyOf, told,
 } from "../../../web/why.mjs";
@@ -106,8 +107,8 @@ const valuesOf = (board) =>
 
 test("a new board has called nothing, and has sent and received nothing", () => {
   assert.deepEqual(valuesOf(new Board()), {
-    serial: "53494f53010109000c000001036008b000", clock: hexOf(new Board().clock.toBytes()), mask: 0n, refuses: false,
-    fails: false, asked: 0, output: "", counts: { bufferRead: 0, outByte: 0, txLostByte: 0, inBufferEmpty: 0 },
+    serial: hexOf(new Serial().toBytes()), clock: hexOf(new Rtc().toBytes()), mask: 0n, refuses: false, fails: false,
+    asked: 0, output: "", counts: { bufferRead: 0, outByte: 0, txLostByte: 0, inBufferEmpty: 0 },
     readOut: "", head: 0, answers: [], isLost: false, isReadEmpty: false,
   });
 });
@@ -290,7 +291,9 @@ function toldOf(...lines) {
 }
 
 /** A load of a port that holds a byte, and has these bits of IER and of IIR, whether they fit together or not. */
-const savedPort = (enabled, pending) => `sl 53494f5301010a000c00${hex(enabled, 2)}${hex(pending, 2)}036108b00061`;
+const savedPort = (interruptEnable, interruptIdentification) => `sl ${hexOf(Serial.fromState({
+  ...new Serial().state, interruptEnable, interruptIdentification, lineStatus: 0x61, inBuffer: Uint8Array.of(0x61),
+}).toBytes())}`;
 
 test("each access in words, and its rule", () => {
   const kept = "The register shows what was written last.";

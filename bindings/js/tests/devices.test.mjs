@@ -50,7 +50,7 @@ const CLOCK = Object.fromEntries(Array.from(CLOCK_TEXT.matchAll(/^\| (\d+) \| (\
 const [, CONSOLE_SHOWN] = CONSOLE_TEXT.match(/^(\w{30,})$/m);
 const CONSOLE = { port: PORT, output: Uint8Array.of(0xb1, 0xb2), dropped: 0x0102030405060708n, isPolled: true,
   isReady: false, isAsleep: true, isRefused: false };
-const CONSOLE_HEADER = "53494f530301";
+const CONSOLE_HEADER = CONSOLE_SHOWN.slice(0, 12);
 const savedConsole = (flags) => `${CONSOLE_HEADER}2100${flags}08070605040302010200b1b2${PORT_SAVED}`;
 
 test("each field of a state has its place", () => {
@@ -158,7 +158,7 @@ test("saved bytes that are refused say why", () => {
   const withLength = (contents) => `${CONSOLE_HEADER}${Buffer.of(contents.length / 2, 0).toString("hex")}${contents}`;
   for (const [encoding, reason] of [
     [whole.slice(0, 14), "too short"], [`54${whole.slice(2)}`, "not a saved state"], [PORT_SAVED, "other device"],
-    [`53494f530302${whole.slice(12)}`, "unknown version"], [`${whole}00`, "wrong length"],
+    [`${whole.slice(0, 10)}fe${whole.slice(12)}`, "unknown version"], [`${whole}00`, "wrong length"],
     [whole.slice(0, -2), "wrong length"], [withLength("00".repeat(10)), "wrong length"],
     [withLength(`${"00".repeat(9)}0300b1b2`), "wrong length"],               // fewer bytes than wait
     [`${CONSOLE_HEADER}0c10${"00".repeat(9)}0110${"00".repeat(4097)}`, "wrong length"], // more than may wait

@@ -2,28 +2,30 @@
 """The registers of the serial port and of the clock, by names, offsets and bits, the states of the devices, and how
 numbers and bytes for them are checked."""
 import reprlib
-from ctypes import c_int64, c_uint8, c_uint32, c_uint64, sizeof
-from dataclasses import dataclass, field, fields
+from ctypes import c_int64, sizeof
+from dataclasses import dataclass, fields
 from functools import lru_cache
 from operator import index
 from typing import Any, Dict, List, Mapping, NamedTuple, Optional, Tuple, Type, TypeVar
 
-FIFO_SIZE = 64
+from . import _facts
+
+FIFO_SIZE = _facts.FIFO_SIZE
 """How many received bytes a serial port holds at most."""
 
-OUTPUT_SIZE = 4096
+OUTPUT_SIZE = _facts.OUTPUT_SIZE
 """How many bytes of output wait in a console at most."""
 
-DLAB = 0x80
+DLAB = _facts.DLAB
 """The bit of LCR that puts the divisor at the offsets 0 and 1."""
 
-LOOPBACK = 0x10
+LOOPBACK = _facts.LOOPBACK
 """The bit of MCR that connects the port's output with its input."""
 
-FIFO_BITS = 0xC0
+FIFO_BITS = _facts.FIFO_BITS
 """The bits of IIR that a read shows beside the conditions: FIFOs are enabled."""
 
-IDENTIFICATION = bytes.fromhex("31 10 04 00 0d f0 05 b1")
+IDENTIFICATION = _facts.IDENTIFICATION
 """The bytes of the clock's registers ID0 to ID7."""
 
 
@@ -85,42 +87,10 @@ class Register(NamedTuple):
     """Whether a write that reaches it is ignored: it succeeds, and changes nothing."""
 
 
-_IER_BITS = ((0x01, "RDA"), (0x02, "THRE"), (0x04, "RLS"), (0x08, "MS"))
-_IIR_BITS = ((0x04, "RDA"), (0x02, "THRE"))
-_LCR_BITS = ((0x40, "BREAK"), (DLAB, "DLAB"))
-_MCR_BITS = ((0x01, "DTR"), (0x02, "RTS"), (0x04, "OUT1"), (0x08, "OUT2"), (LOOPBACK, "LOOP"))
-_LSR_BITS = ((0x01, "DR"), (0x02, "OE"), (0x04, "PE"), (0x08, "FE"), (0x10, "BI"), (0x20, "THRE"), (0x40, "TEMT"))
-_MSR_BITS = ((0x10, "CTS"), (0x20, "DSR"), (0x40, "RI"), (0x80, "DCD"))
-_ALARM = ((0x01, "ALARM"),)
-
-SERIAL: Dict[str, Register] = {register.name: register for register in (
-    Register("RBR", 0, "receiver buffer: reads the oldest received byte out", (), False, "r"),
-    Register("THR", 0, "transmitter holding: sends a byte", (), False, "w"),
-    Register("DLL", 0, "divisor latch, low byte", (), True),
-    Register("IER", 1, "interrupt enable", _IER_BITS, False),
-    Register("DLM", 1, "divisor latch, high byte", (), True),
-    Register("IIR", 2, "interrupt identification: a read acknowledges", _IIR_BITS, None, "r"),
-    Register("FCR", 2, "FIFO control: a write is ignored", (), None, "w", True),
-    Register("LCR", 3, "line control", _LCR_BITS),
-    Register("MCR", 4, "modem control", _MCR_BITS),
-    Register("LSR", 5, "line status", _LSR_BITS, ignored=True),
-    Register("MSR", 6, "modem status", _MSR_BITS, ignored=True),
-    Register("SCR", 7, "scratch"),
-)}
+SERIAL: Dict[str, Register] = {row[0]: Register(*row) for row in _facts.SERIAL}
 """The registers of the serial port by name."""
 
-CLOCK: Dict[str, Register] = {register.name: register for register in (
-    Register("DR", 0x000, "data: guest time", (), None, "r"),
-    Register("MR", 0x004, "match: sets the alarm"),
-    Register("LR", 0x008, "load: sets guest time"),
-    Register("CR", 0x00C, "control: 1 resets the clock"),
-    Register("IMSC", 0x010, "interrupt mask", _ALARM),
-    Register("RIS", 0x014, "raw interrupt status", _ALARM, None, "r"),
-    Register("MIS", 0x018, "masked interrupt status", _ALARM, None, "r"),
-    Register("ICR", 0x01C, "interrupt clear", _ALARM, None, "w"),
-    *(Register(f"ID{index}", 0xFE0 + 4 * index, "identification", (), None, "r")
-      for index in range(len(IDENTIFICATION))),
-)}
+CLOCK: Dict[str, Register] = {row[0]: Register(*row) for row in _facts.CLOCK}
 """The registers of the clock by name, each without the `RTC` that the data sheet begins it with."""
 
 
@@ -193,11 +163,6 @@ class AlarmIsSetError(ValueError):
     """An alarm is set, which the five fields of vm-superio's state of a clock cannot hold."""
 
 
-def _kept(kind: Any, default: Any = 0) -> Any:
-    """A field of a state, of this kind in the struct of superio.h, whose fields have the same order."""
-    return field(default=default, metadata={"kind": kind})
-
-
 class State:
     """The state of a device, whose fields are checked."""
 
@@ -250,23 +215,12 @@ class MovableState(State):
 
 
 @dataclass(frozen=True)
-class SerialState(MovableState):
+class SerialState(MovableState, _facts.SerialFields):
     """The state of a serial port: nine registers, and the bytes that it received and the guest has not read.
 
     The defaults are those of a new port. `dataclasses.replace` makes a changed copy. `docs/SAVED-STATES.md` has the
     meaning of each field.
     """
-
-    baud_divisor_low: int = _kept(c_uint8, 0x0C)          # DLL
-    baud_divisor_high: int = _kept(c_uint8, 0x00)         # DLM
-    interrupt_enable: int = _kept(c_uint8, 0x00)          # IER: 0x01 enables RDA, 0x02 THRE
-    interrupt_identification: int = _kept(c_uint8, 0x01)  # IIR without 0xC0: 0x04 RDA, 0x02 THRE, 0x01 nothing pending
-    line_control: int = _kept(c_uint8, 0x03)              # LCR: 0x80 is DLAB
-    line_status: int = _kept(c_uint8, 0x60)               # LSR: 0x01 is data ready
-    modem_control: int = _kept(c_uint8, 0x08)             # MCR: 0x10 is loopback
-    modem_status: int = _kept(c_uint8, 0xB0)              # MSR
-    scratch: int = _kept(c_uint8, 0x00)                   # SCR
-    in_buffer: bytes = b""  # the received bytes, oldest first: at most 64
 
     def __post_init__(self) -> None:
         super().__post_init__()
@@ -275,23 +229,16 @@ class SerialState(MovableState):
             raise ValueError(f"in_buffer has {len(self.in_buffer)} bytes, and a port holds at most {FIFO_SIZE}")
 
 
-FIELDS = dict(zip(("DLL", "DLM", "IER", "IIR", "LCR", "LSR", "MCR", "MSR", "SCR"), SerialState.kinds()))
+FIELDS = _facts.FIELDS
 """The registers that a serial port keeps, in the order of its saved state, each with its field there."""
 
 
 @dataclass(frozen=True)
-class RtcState(MovableState):
+class RtcState(MovableState, _facts.RtcFields):
     """The state of a clock.
 
     The defaults are those of a new one. `docs/SAVED-STATES.md` has the meaning of each field.
     """
-
-    lr: int = _kept(c_uint32)     # RTCLR: the value that was loaded last, or 0
-    mr: int = _kept(c_uint32)     # RTCMR: the guest time that an alarm waits for
-    imsc: int = _kept(c_uint32)   # RTCIMSC, the interrupt mask
-    ris: int = _kept(c_uint32)    # RTCRIS, the raw interrupt status
-    offset: int = _kept(c_int64)  # how far guest time is ahead of the host's, in seconds
-    armed: bool = _kept(c_uint64, False)  # whether an alarm is set
 
     @classmethod
     def _moved(cls) -> List[str]:
@@ -303,19 +250,13 @@ CLOCK_KEPT = tuple(name for name in CLOCK if name.lower() in RtcState.kinds())
 
 
 @dataclass(frozen=True)
-class ConsoleState(State):
+class ConsoleState(State, _facts.ConsoleFields):
     """The state of a console: its port, the output that waits, and what it knows of its guest.
 
     The defaults are those of a new one. `docs/SAVED-STATES.md` has the meaning of each field.
     """
 
-    port: SerialState = SerialState()  # the port
-    output: bytes = b""  # the output that waits for its reader, oldest first: at most 4,096 bytes
-    dropped: int = _kept(c_uint64)            # how many bytes of output were dropped
-    is_polled: bool = _kept(c_uint8, False)   # whether the guest polls, so that input goes in before a driver is ready
-    is_ready: bool = _kept(c_uint8, False)    # whether a driver has shown that it is ready
-    is_asleep: bool = _kept(c_uint8, False)   # whether the guest sleeps in memory
-    is_refused: bool = _kept(c_uint8, False)  # whether an interrupt was refused, and none was asked for since
+    port: SerialState = SerialState()
 
     def __post_init__(self) -> None:
         check_kind("port", self.port, SerialState)

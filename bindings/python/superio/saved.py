@@ -3,30 +3,21 @@
 from ctypes import byref, c_uint8
 from typing import Any, Callable, Tuple, Type, TypeVar
 
+from . import _facts
 from .library import load
 from .registers import byte_string
 
 _Device = TypeVar("_Device", bound="Saved")
 
 
-SAVED_STATE_ERRORS = {
-    "too short": "Too short for a saved state",
-    "not a saved state": "Not a saved state",
-    "other device": "The saved state of another device",
-    "unknown version": "A saved state of an unknown version",
-    "wrong length": "A saved state of the wrong length",
-    "too many bytes": "More than 64 received bytes",
-    "invalid armed": "An alarm that is neither set nor clear",
-    "invalid flags": "A flag that no console has",
-}
+SAVED_STATE_ERRORS = _facts.SAVED_STATE_ERRORS
 """Why bytes are no saved state, in the words of a script, each with its text in every language. The order is that of
 the checks, and so of `enum superio_saved_state_error`, which begins with 1."""
 
 
 class SavedStateError(ValueError):
-    """Bytes are not the saved state of this device. `reason` is the reason, as a script replies it: "too short",
-    "not a saved state", "other device", "unknown version", "wrong length", "too many bytes", "invalid armed" or
-    "invalid flags".
+    """Bytes are not the saved state of this device. `reason` is the reason, as a script replies it: one of those in
+    `superio.saved.SAVED_STATE_ERRORS`.
     """
 
     def __init__(self, reason: str) -> None:

@@ -24,8 +24,9 @@ OUT_OF_BYTE = -1, 256, 1 << 64
 # A console of which each field has a value of its own, and its saved state.
 PORT = SerialState(0x11, 0x22, 0x03, 0x06, 0x44, 0x61, 0x08, 0xB5, 0x77, b"\xa1\xa2\xa3")
 STATE = ConsoleState(PORT, b"\xb1\xb2", 0x0102030405060708, is_polled=True, is_asleep=True)
-PORT_SAVED = bytes.fromhex("53494f53 01 01 0c00 11 22 03 06 44 61 08 b5 77 a1a2a3")
-SAVED = bytes.fromhex("53494f53 03 01 2100 05 0807060504030201 0200 b1b2") + PORT_SAVED
+VERSION = Serial().to_bytes()[5:6]
+PORT_SAVED = b"SIOS\x01" + VERSION + bytes.fromhex("0c00 11 22 03 06 44 61 08 b5 77 a1a2a3")
+SAVED = b"SIOS\x03" + VERSION + bytes.fromhex("2100 05 0807060504030201 0200 b1b2") + PORT_SAVED
 
 
 def ready(**options):
@@ -107,7 +108,7 @@ class States(unittest.TestCase):
         eleven = bytes(11)
         for data, reason in (
                 (b"", "too short"), (SAVED[:7], "too short"), (b"T" + SAVED[1:], "not a saved state"),
-                (PORT_SAVED, "other device"), (SAVED[:5] + b"\x02" + SAVED[6:], "unknown version"),
+                (PORT_SAVED, "other device"), (SAVED[:5] + b"\xfe" + SAVED[6:], "unknown version"),
                 (SAVED + b"\0", "wrong length"), (SAVED[:-1], "wrong length"), (saved(bytes(10)), "wrong length"),
                 (saved(bytes(9) + b"\x03\x00ab"), "wrong length"),              # fewer bytes than wait
                 (saved(bytes(9) + b"\x01\x10" + bytes(4097)), "wrong length"),  # more than may wait

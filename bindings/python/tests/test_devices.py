@@ -290,8 +290,9 @@ class States(unittest.TestCase):
             self.assertRaises(error, kind.from_vm_superio, named)
 
     def test_offsets_of_the_clock(self):
-        self.assertEqual({name: 4 * place for place, name in enumerate("DR MR LR CR IMSC RIS MIS ICR".split())},
-                         {name: it.offset for name, it in registers.CLOCK.items() if it.offset < 0xFE0})
+        """Those of the data sheet."""
+        names = "DR MR LR CR IMSC RIS MIS ICR".split()
+        self.assertEqual([4 * place for place in range(8)], [registers.CLOCK[name].offset for name in names])
 
     def test_what_is_shown(self):
         for value, name in FORMATS.items():

@@ -11,7 +11,7 @@ from unittest import mock
 
 from support import PACKAGE, ROOT, FolderTest, run
 
-from superio import Command, Rtc, Serial
+from superio import Command, Rtc, Serial, SerialState
 from superio.board import LINES
 from superio.prompt import Leave, write_text
 from superio.registers import CLOCK, SERIAL
@@ -161,7 +161,8 @@ DIALOGUES = [
 
 # What a prompt says of lines that load a saved state, below the reply.
 PORT, CLOCK_SAVED = Serial().to_bytes(), Rtc().to_bytes()
-FOR_PORT, FOR_CLOCK = "a saved serial port has 17 to 81", "a saved clock has 33"
+CLOCK_SIZE = len(CLOCK_SAVED)
+FOR_PORT, FOR_CLOCK = "a saved serial port has 17 to 81", f"a saved clock has {CLOCK_SIZE}"
 LOADS = [
     ("sl", b"", ["too short", f"0 bytes came, and {FOR_PORT}"]),
     ("sl", PORT[:16], ["wrong length", f"16 bytes came, and {FOR_PORT}"]),
@@ -171,8 +172,8 @@ LOADS = [
     ("sl", CLOCK_SAVED, ["other device"]),
     ("sl", bytes(17), ["not a saved state"]),
     ("cl", CLOCK_SAVED[:1], ["too short", f"1 byte came, and {FOR_CLOCK}"]),
-    ("cl", CLOCK_SAVED[:-1], ["wrong length", f"32 bytes came, and {FOR_CLOCK}"]),
-    ("cl", CLOCK_SAVED + b"a", ["wrong length", f"34 bytes came, and {FOR_CLOCK}"]),
+    ("cl", CLOCK_SAVED[:-1], ["wrong length", f"{CLOCK_SIZE - 1} bytes came, and {FOR_CLOCK}"]),
+    ("cl", CLOCK_SAVED + b"a", ["wrong length", f"{CLOCK_SIZE + 1} bytes came, and {FOR_CLOCK}"]),
     ("cl", CLOCK_SAVED, ["ok"]),
 ]
 
@@ -224,6 +225,9 @@ USES = [
 
 NEITHER = "is not pending: no call has raised it. IER does not enable it"
 NO_RDA, NO_THRE = f"RDA {NEITHER}.", f"THRE {NEITHER}."
+# It holds a byte, and RDA is pending and enabled.
+WAITING = Serial.from_state(SerialState(interrupt_enable=0x01, interrupt_identification=0x04, line_status=0x61,
+                                        in_buffer=b"a"))
 ENDS_RDA, ENDS_THRE = "A read of IIR or of RBR acknowledges it.", "A read of IIR acknowledges it."
 
 
@@ -243,7 +247,7 @@ ASKED = [
     (["refuse 1", "sw 01 01", "sq 61", "ss", "why"], [raised("RDA", "4, ss", ENDS_RDA), NO_THRE]),
     (["sq 61", "sw 01 03", "sw 01 02", "ss", "why"],
      [raised("RDA", "2, sw 01 03", "IER does not enable it now."), raised("THRE", "4, ss", ENDS_THRE)]),
-    (["refuse 2", "sw 01 03", "sl 53494f5301010a000c000104036108b00061", "why"],
+    (["refuse 2", "sw 01 03", f"sl {WAITING.to_bytes().hex()}", "why"],
      [NO_RDA.replace("IER does not enable it", "The next byte raises it"), raised("THRE", "2, sw 01 03", ENDS_THRE)]),
     (["refuse 2", "sq 61", "sw 01 03", "why"],
      [raised("RDA", "3, sw 01 03", ENDS_RDA), raised("THRE", "3, sw 01 03", ENDS_THRE, "refused")]),

@@ -1,0 +1,75 @@
+# SPDX-License-Identifier: Apache-2.0 OR BSD-3-Clause
+"""Each file that repeats a fact of interface.toml has it as tools/generate writes it, and no other word of it changes."""
+import re
+
+import pytest
+from common.facts import ERRORS
+from generators import facts, facts_of_pages
+from harness import ROOT, at_least
+
+FLOOD, NUMBER = {"case": "Flood", "holds": "u8", "text": "A flood"}, len(ERRORS) + 1
+RUST, PRINTED = f"        SavedStateError::Flood(_) => {NUMBER},\n", 'SavedStateError::Flood(_) => f.write_str("A flood"),\n'
+ADDED = {
+    "crates/superio_core/src/saved/error_text.rt":
+        '            SavedStateError::Flood(_) => write!(f, "A flood"),\n',
+    "crates/superio_c/src/saved.rt": RUST,
+    "crates/superio_c/specs/Saved.antt": f"load_status (Some (Flood _)) = {NUMBER}\n",
+    "bindings/superio/src/printed.rs": f"            {PRINTED}",
+    "recheck/left-out.rs": f"            {PRINTED}",
+    "bindings/c/from-source/src/lib.rs": RUST,
+    "recheck/Calls.v": f"  | SavedStateError_Flood _ => {NUMBER}\n",
+    "tests/recheck/differential/main.rs":
+        f"            SavedStateError::Flood(value) => {NUMBER} + 100 * u64::from(value),\n",
+    "tests/recheck/differential/Differential.v": f"    | SavedStateError_Flood value => {NUMBER} + 100 * value\n",
+    "tests/c/replay.c": f'        "flood", /* {NUMBER} */\n',
+}
+
+
+def text_of(name):
+    return (ROOT / name).read_text(encoding="utf-8")
+
+
+MADE = facts.made(text_of)
+
+
+@pytest.mark.parametrize("name", at_least(20, MADE))
+def test_is_made(name):
+    assert text_of(name) == MADE[name], "run tools/generate facts"
+
+
+@pytest.mark.parametrize("name", facts.ROWS)
+def test_rows(name):
+    """A further error gets a row below the others, and nothing else changes."""
+    text, template = text_of(name), facts.ROWS[name]
+    form = facts.rows_of(template)
+    rows = re.search(form, text, re.M)[0]
+    assert rows.count("\n") == len(ERRORS)
+    assert facts.replaced(text, form, facts.rows(template, [*ERRORS, FLOOD])) == text.replace(rows, rows + ADDED[name])
+
+
+@pytest.mark.parametrize("name, form, value", at_least(22, facts.PLACES))
+def test_place(name, form, value):
+    """Another value takes the place of this one, and nothing else changes."""
+    text = text_of(name)
+    other = facts.replaced(text, form, "7")
+    assert other != text and facts.replaced(other, form.replace(r"(\d+)", "(7)"), str(value)) == text
+
+
+@pytest.mark.parametrize("text", ["none\n", 2 * '  | SavedStateError_TooShort => 1\n\n'])
+def test_file_without_its_place(text):
+    with pytest.raises(ValueError):
+        facts.replaced(text, facts.rows_of(facts.ROWS["recheck/Calls.v"]), "")
+
+
+def test_parts():
+    """Each part of the pages stands below one mark."""
+    marks = [mark[1] for name in facts.PAGES for mark in facts.MARK.finditer(text_of(name))]
+    assert sorted(marks) == sorted(facts_of_pages.PARTS)
+
+
+def test_comments():
+    """Comments stand in one column, and end before the 81st."""
+    assert "".join(facts.commented([("    a;", "one"), ("    longer;", " ".join(["two"] * 20))])) == (
+        "    a;      /* one */\n"
+        "    longer; /* two two two two two two two two two two two two two two two two\n"
+        "               two two two two */\n")

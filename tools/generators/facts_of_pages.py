@@ -1,0 +1,186 @@
+# SPDX-License-Identifier: Apache-2.0 OR BSD-3-Clause
+"""What docs/DEVICES.md and docs/SAVED-STATES.md have of interface.toml: their parts by the words of their marks, each as
+lines."""
+from common.facts import (BYTES, CLOCK, CLOCK_CONTENTS, CLOCK_SAVED, CONSOLE, CONSOLE_PREFIX, CONSOLE_SAVED, ENCODING,
+                          ERRORS, FIFO_SIZE, HEADER_SIZE, IDENTIFICATION, KINDS, MAGIC, OUTPUT_SIZE, PORT_FIELDS,
+                          PORT_REGISTERS, PORT_SAVED, SERIAL, saved, told, told_of_port, word_of)
+
+
+def table(heads, rows):
+    lines = [f"| {' | '.join(cells)} |" for cells in (heads, *rows)]
+    return [lines[0], f"|{'---|' * len(heads)}", *lines[1:]]
+
+
+def hexes(numbers):
+    return " ".join(f"0x{number:02X}" for number in numbers)
+
+
+# ---- docs/DEVICES.md
+
+def fresh_of(register):
+    """What a register holds in a new port, and what is read of it if that is something else."""
+    if register["name"] not in PORT_FIELDS:
+        return register["fresh"]
+    fresh = PORT_FIELDS[register["name"]]["fresh"]
+    read = f", read as {hexes([fresh | register['always']])}" if "always" in register else ""
+    return hexes([fresh]) + read
+
+
+def port_registers():
+    """A row for each offset and state of DLAB: the register that a read reaches, and the one that a write does."""
+    rows = []
+    for read in (it for it in SERIAL["registers"] if "read" in it):
+        place = read["offset"], read.get("dlab", "any")
+        write, = (it["write"] for it in SERIAL["registers"]
+                  if (it["offset"], it.get("dlab", "any")) == place and "write" in it)
+        rows.append([*map(str, place), told_of_port(read["read"], read["name"]), write, fresh_of(read)])
+    most = max(it["offset"] for it in SERIAL["registers"])
+    heads = ["Offset", "DLAB", "Read", "Write", "In a new port"]
+    lines = table(heads, sorted(rows, key=lambda row: row[0]))
+    return [*lines, f"| {most + 1} to 0xFF | any | 0 | ignored | |"]
+
+
+def port_bits():
+    return table(["Register", "Bits"], [[name, told_of_port(it["told"], name)]
+                                        for name, it in PORT_REGISTERS.items() if "told" in it])
+
+
+def clock_registers():
+    first = CLOCK["identification"]["first"]
+    rows = [[f"0x{it['offset']:03X}", f"RTC{it['name']}, {it['about'].split(':')[0]}", it.get("read", "is invalid"),
+             it.get("write", "is invalid")] for it in CLOCK["registers"]]
+    last = first + 4 * len(IDENTIFICATION) - 1
+    return table(["Offset", "Register", "A read shows", "A write of v"], [
+        *rows, [f"0x{first:03X} to 0x{last:03X}", "identification", "one byte, then three zero bytes", "is invalid"],
+        ["every other", "no register", "is invalid", "is invalid"]])
+
+
+def identification():
+    first, count = CLOCK["identification"]["first"], len(IDENTIFICATION)
+    last = first + 4 * count
+    return [f"The identification bytes are {hexes(IDENTIFICATION)}, each at four offsets: 0x{first:03X} to "
+            f"0x{first + 3:03X} show the first and 0x{last - 4:03X} to 0x{last - 1:03X} the last."]
+
+
+# ---- docs/SAVED-STATES.md
+
+def header():
+    kinds = ", ".join(f"{kind} for a {name}" for name, kind in KINDS.items())
+    rows = [(len(MAGIC), f"the magic, the letters `{MAGIC.decode()}`: {hexes(MAGIC)}"),
+            (1, f"the kind of the device: {kinds}"),
+            (1, f"the version of the encoding: {ENCODING['version']}"), (2, "the length of what follows")]
+    return places(rows, 0)
+
+
+def places(rows, start=HEADER_SIZE):
+    """A table of what begins where: the rows have the bytes of each, or the least and the most, and the words."""
+    lines, place = [], start
+    for size, words in rows:
+        least, most = size if isinstance(size, tuple) else (size, size)
+        lines.append([str(place), f"{least:,}" if least == most else f"{least:,} to {most:,}", words])
+        place = place + least if least == most else "after the output"
+    return table(["Offset", "Size", "Contents"], lines)
+
+
+def saved_words(it, prefix=""):
+    """What a field of a saved state is."""
+    words = it.get("saved") or f"`{it['name']}`, {prefix}{it['register']}"
+    return told_of_port(words, it["register"]) if it.get("register") in PORT_FIELDS else told(words, ",")
+
+
+def port_contents():
+    return places([(BYTES.get(it["type"], (0, FIFO_SIZE)), saved_words(it)) for it in SERIAL["fields"]])
+
+
+def clock_contents():
+    return places([(BYTES[it["type"]], saved_words(it, "RTC")) for it in CLOCK["fields"]])
+
+
+def console_contents():
+    sizes = {"output": (0, OUTPUT_SIZE), "port": PORT_SAVED}
+    return places([(sizes.get(it["bytes"], it["bytes"]), told(it["words"], ",")) for it in CONSOLE["saved"]])
+
+
+def flags():
+    return table(["Flag", "Meaning"], [[hexes([it["flag"]]), it["saved"]] for it in CONSOLE["fields"] if "flag" in it])
+
+
+def sizes(least, most, more=""):
+    """The sentences about the sizes of a saved device."""
+    size = f"{least:,}" if least == most else f"{least:,} to {most:,}"
+    return [f"The encoding has {size} bytes. The length in the header is {least - HEADER_SIZE}{more}."]
+
+
+def errors():
+    return table(["Error", "C returns", "Reason", "What is checked"], [
+        [f"`{it['case']}`", str(number), f"`{word_of(it)}`", told(it["checked"], ",")]
+        for number, it in enumerate(ERRORS, 1)])
+
+
+def lengths():
+    least, most = (size - HEADER_SIZE for size in PORT_SAVED)
+    return table(["Device", "The length that fits"], [
+        ["A port", f"At least {least} (a length above {most} gives `TooManyBytes`)"],
+        ["A clock", f"Exactly {CLOCK_CONTENTS}"],
+        ["A console", f"At least {CONSOLE_PREFIX} + n, where n, the number at offset {HEADER_SIZE + CONSOLE_PREFIX - 2}, "
+                      f"is at most {OUTPUT_SIZE:,}"]])
+
+
+# ---- The examples there
+
+def saved_port(held, **changed):
+    """A port with these registers, where they are not those of a new port."""
+    registers = bytes(changed.get(name, it["fresh"]) for name, it in PORT_FIELDS.items())
+    return saved(KINDS["serial port"], registers + held)
+
+
+def saved_clock(**numbers):
+    """A clock with these numbers, and else zeros."""
+    return saved(KINDS["clock"], b"".join(
+        numbers.get(it["name"], 0).to_bytes(BYTES[it["type"]], "little", signed=it["type"][0] == "i")
+        for it in CLOCK["fields"]))
+
+
+def block(*rows):
+    """A block of lines, with what stands after each at the same column."""
+    column = max(len(line) for line, *_ in rows) + 3
+    return ["```text", *("".join([line.ljust(column), *reply]) if reply else line for line, *reply in rows), "```"]
+
+
+PORT = saved_port(b"ab", IER=0x01, IIR=0x04, LSR=0x61, SCR=0x5A)
+CLOCK_SET = saved_clock(lr=0x65920080, mr=0x659200BC, imsc=1, offset=-3600, armed=1)
+CONSOLE_READY = saved(KINDS["console"], bytes([2]) + bytes(8) + b"\2\0ok" + saved_port(b"x", IER=1, IIR=4, LSR=0x61))
+
+
+def port_session():
+    after = saved_port(b"b", IER=0x01, LSR=0x61, SCR=0x5A)
+    return block((f"sl {PORT.hex()}", "ok"), ("sr 00", "61"), ("sb", after.hex()))
+
+
+def clock_session():
+    return block((f"cl {CLOCK_SET.hex()}", "ok"), ("cr 0000000065920ecc 0000", "659200bc"),
+                 ("cr 0000000065920ecc 0018", "00000001"))
+
+
+PARTS = {
+    "registers of the port": port_registers,
+    "bits": port_bits,
+    "registers of the clock": clock_registers,
+    "identification": identification,
+    "header": header,
+    "size of a port": lambda: sizes(*PORT_SAVED, " plus the number of held bytes"),
+    "port": port_contents,
+    "saved port": lambda: block((PORT.hex(),)),
+    "session with the port": port_session,
+    "size of a clock": lambda: sizes(CLOCK_SAVED, CLOCK_SAVED),
+    "clock": clock_contents,
+    "saved clock": lambda: block((CLOCK_SET.hex(),)),
+    "session with the clock": clock_session,
+    "size of a console": lambda: sizes(*CONSOLE_SAVED, ", plus the number of bytes of output that wait, plus the number "
+                                                       "of bytes that the port holds"),
+    "console": console_contents,
+    "flags": flags,
+    "saved console": lambda: block((CONSOLE_READY.hex(),)),
+    "errors": errors,
+    "lengths": lengths,
+}

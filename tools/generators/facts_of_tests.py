@@ -1,0 +1,72 @@
+# SPDX-License-Identifier: Apache-2.0 OR BSD-3-Clause
+"""The saved states in the data of tests. A file NAME.in has them as expressions, and NAME.txt, which is made of it, as
+bytes, in hexadecimal digits. tests/page/features.txt has expressions too.
+
+An expression stands between < and >, and may have others in it. It begins with the device: `port`, `clock` or
+`console`. These words may follow, each number in hexadecimal digits:
+
+- NAME=NUMBER, for a register of a port, a field of a clock, or `flags` and `dropped` of a console. Otherwise it is that of
+  a new device. output=BYTES is the output of a console, and count=NUMBER another number for how many bytes it is;
+- BYTES, which come after those: what a port holds, or the port of a console;
+- less=NUMBER, if so many bytes are missing at the end of what follows the header, and the length says so;
+- magic=BYTES, kind=NUMBER, version=NUMBER and length=NUMBER, for another header. version=+1 is the next version;
+- cut=NUMBER, if so many bytes are missing at the end, and first=NUMBER, if only so many are there.
+"""
+import re
+
+from common.facts import BYTES, CLOCK, ENCODING, KINDS, MAGIC, PORT_FIELDS
+
+TEMPLATES = ["tests/c/console.in", "tests/c/shared.in", "tests/data/further/saved_states.in"]
+EXPRESSION = re.compile(r"<(port|clock|console)((?: [^\s<>]+)*)>")
+MADE = "# Made by tools/generate from {} and interface.toml.\n"
+
+
+def port_contents(words):
+    registers = {name: it["fresh"] for name, it in PORT_FIELDS.items()}
+    return bytes(int(words.pop(name), 16) if name in words else fresh for name, fresh in registers.items())
+
+
+def clock_contents(words):
+    return b"".join(int(words.pop(it["name"], "0"), 16).to_bytes(BYTES[it["type"]], "little", signed=it["type"] == "i64")
+                    for it in CLOCK["fields"])
+
+
+def console_contents(words):
+    output = bytes.fromhex(words.pop("output", ""))
+    count = int(words.pop("count", f"{len(output):x}"), 16)
+    flags, dropped = (int(words.pop(name, "0"), 16) for name in ("flags", "dropped"))
+    return bytes([flags]) + dropped.to_bytes(8, "little") + count.to_bytes(2, "little") + output
+
+
+CONTENTS = {"port": ("serial port", port_contents), "clock": ("clock", clock_contents),
+            "console": ("console", console_contents)}
+
+
+def encoded(found):
+    """The digits of an expression."""
+    device, (kind, contents_of) = found[1], CONTENTS[found[1]]
+    words = dict(word.split("=") for word in found[2].split() if "=" in word)
+    contents = contents_of(words) + bytes.fromhex("".join(word for word in found[2].split() if "=" not in word))
+    contents = contents[:len(contents) - int(words.pop("less", "0"), 16)]
+    version, now = words.pop("version", "+0"), ENCODING["version"]
+    head = bytes([int(words.pop("kind", f"{KINDS[kind]:x}"), 16), int(version, 16) + now * (version[0] == "+")])
+    length = int(words.pop("length", f"{len(contents):x}"), 16)
+    whole = bytes.fromhex(words.pop("magic", MAGIC.hex())) + head + length.to_bytes(2, "little") + contents
+    whole = whole[:int(words.pop("first", f"{len(whole):x}"), 16)]
+    whole = whole[:len(whole) - int(words.pop("cut", "0"), 16)]
+    if words:
+        raise ValueError(f"a {device} has no {', '.join(words)}: {found[0]}")
+    return whole.hex()
+
+
+def expanded(text):
+    """A text with the digits of its expressions, the inner ones first."""
+    count = 1
+    while count:
+        text, count = EXPRESSION.subn(encoded, text)
+    return text
+
+
+def made_of(template, text):
+    """What is made of a template's text."""
+    return MADE.format(template.rpartition("/")[2]) + expanded(text)
