@@ -25,9 +25,11 @@ LOOPED = {MCR[output]: MSR[shown] for output, shown in SERIAL["loopback"].items(
 CLOCK_AT = {it["offset"]: it["name"] for it in CLOCK["registers"]}
 READ_ONLY = {it["name"] for it in CLOCK["registers"] if "write" not in it}
 # Those that always show one number.
-CONSTANTS = {it["name"]: int(it["read"], 0) for it in CLOCK["registers"] if re.fullmatch(r"\d+|0x\w+", it.get("read", ""))}
+CONSTANTS = {it["name"]: int(it["read"], 0) for it in CLOCK["registers"]
+             if re.fullmatch(r"\d+|0x\w+", it.get("read", ""))}
 # The fields of a clock, in their order, each with the format of its number, as struct has it.
-CLOCK_FIELDS = {it.get("register", it["name"]): {"bool": "b", "u32": "I", "i64": "q"}[it["type"]] for it in CLOCK["fields"]}
+CLOCK_FIELDS = {it.get("register", it["name"]): {"bool": "b", "u32": "I", "i64": "q"}[it["type"]]
+                for it in CLOCK["fields"]}
 # What a read shows at each offset of the identification.
 ID_FIRST = CLOCK["identification"]["first"]
 ID_AT = {ID_FIRST + place: IDENTIFICATION[place // 4] for place in range(4 * len(IDENTIFICATION))}

@@ -58,6 +58,11 @@ def port_registers():
                   int(re.search(r"a receive FIFO of (\d+) bytes", PAGE)[1]))
 
 
+def is_told(bit, register):
+    """Whether DEVICES.md tells what a bit means."""
+    return f"{{{bit}}}" in PORT_REGISTERS[register]["told"]
+
+
 def port_bits():
     """Each bit that the definitions name, and the words of DEVICES.md about them."""
     yield compare("the bits of FIFOs", FIFO_BITS, int(re.search(r"iir_fifo_bits = 0x(\w+)", REGISTER_MAP)[1], 16))
@@ -68,11 +73,11 @@ def port_bits():
     for register, name, digits in stated:
         register, name = register.upper(), name.upper()
         yield compare(f"bit {name} of {register}", named[register, name], int(digits, 16))
-        yield compare(f"bit {name} of {register} in DEVICES.md", True, f"{{{name}}}" in PORT_REGISTERS[register]["told"])
+        yield compare(f"bit {name} of {register} in DEVICES.md", True, is_told(name, register))
     yield compare("the bits that IER keeps", sum(bit for bit, _ in SERIAL["IER"].bits),
                   int(re.search(r"ier_bits = 0x(\w+)", REGISTER_MAP)[1], 16))
     for bit, name in SERIAL["IER"].bits:
-        yield compare(f"bit {name} of IER in DEVICES.md", True, f"{{{name}}}" in PORT_REGISTERS["IER"]["told"])
+        yield compare(f"bit {name} of IER in DEVICES.md", True, is_told(name, "IER"))
     outputs = re.findall(r"mcr_(\w+)_bit then msr_(\w+)_bit", REGISTER_MAP)
     yield compare("what loopback shows", SERIAL_FACTS["loopback"], {out.upper(): it.upper() for out, it in outputs},
                   dict(re.findall(r"(\w+) as (\w+)", re.search(r"the outputs of MCR above them: (.*?)\.", PAGE)[1])))

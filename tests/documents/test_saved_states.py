@@ -6,8 +6,8 @@ import re
 from dataclasses import fields, replace
 
 import pytest
-from common.facts import BYTES, CLOCK, CONSOLE, ENCODING, ERRORS, FIFO_SIZE, HEADER_SIZE, KINDS, MAGIC, OUTPUT_SIZE, SERIAL
-from common.facts import PORT_FIELDS, told, word_of
+from common.facts import (BYTES, CLOCK, CONSOLE, ENCODING, ERRORS, FIFO_SIZE, HEADER_SIZE, KINDS, MAGIC, OUTPUT_SIZE,
+                          PORT_FIELDS, SERIAL, told, word_of)
 from documents import Document
 from harness import ROOT, at_least
 from superio import Console, ConsoleState, Rtc, RtcState, SavedStateError, Serial, SerialState
@@ -150,11 +150,11 @@ def test_fields_of_definitions():
     of_port = definition("register_bytes", words(CORE / "specs/Serial.antt"))
     assert re.findall(r"\bs\.(\w+) ∷", of_port) == [it["name"] for it in PORT_FIELDS.values()]
     assert [it["name"] for it in SERIAL["fields"]] == [*(it["name"] for it in PORT_FIELDS.values()), "in_buffer"]
-    of_clock = re.findall(r"(?:to_le_bytes w(\d+)|(flag)) \(?(?:cast_unsigned w\d+ )?state\.(\w+)", definition("clock_contents"))
+    contents = definition("clock_contents")
+    of_clock = re.findall(r"(?:to_le_bytes w(\d+)|(flag)) \(?(?:cast_unsigned w\d+ )?state\.(\w+)", contents)
     assert [(name, 1 if flag else int(bits) // 8) for bits, flag, name in of_clock] == [
         (it["name"], BYTES[it["type"]]) for it in CLOCK["fields"]]
-    signed = [name for name in re.findall(r"cast_unsigned w\d+ state\.(\w+)", definition("clock_contents"))]
-    assert signed == [it["name"] for it in CLOCK["fields"] if it["type"] == "i64"]
+    assert re.findall(r"cast_unsigned w\d+ state\.(\w+)", contents) == [it["name"] for it in CLOCK["fields"] if it["type"] == "i64"]
 
 
 def test_struct_of_the_clock():
@@ -182,7 +182,8 @@ def test_flags_of_definitions():
 def test_errors_of_definitions():
     """Their cases, what they hold, and their texts, in the order of their numbers."""
     cases = re.search(r"^pub enum SavedStateError \{\n(.*?)^\}", DECLARED, re.M | re.S)[1]
-    assert re.findall(r"^    (\w+)(?:\((\w+)\))?,$", cases, re.M) == [(it["case"], it.get("holds", "")) for it in ERRORS]
+    assert re.findall(r"^    (\w+)(?:\((\w+)\))?,$", cases, re.M) == [
+        (it["case"], it.get("holds", "")) for it in ERRORS]
     texts = re.findall(r'saved_state_error_text \(?(\w+)(?: _\))? = Some \(codes "(.*?)"\)', SPECS)
     assert texts == [(it["case"], told(it["text"])) for it in at_least(8, ERRORS)]
     assert [word_of(it) for it in ERRORS] == [*SAVED_STATE_ERRORS]

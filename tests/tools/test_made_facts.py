@@ -1,21 +1,22 @@
 # SPDX-License-Identifier: Apache-2.0 OR BSD-3-Clause
-"""Each file that repeats a fact of interface.toml has it as tools/generate writes it, and no other word of it changes."""
+"""Each file that repeats a fact of interface.toml has it as tools/generate writes it, and nothing else of it changes."""
 import re
 
 import pytest
 from common.facts import ERRORS
-from generators import facts, facts_of_pages
+from generators import facts, facts_of_pages, facts_of_tests
 from harness import ROOT, at_least
 
 FLOOD, NUMBER = {"case": "Flood", "holds": "u8", "text": "A flood"}, len(ERRORS) + 1
-RUST, PRINTED = f"        SavedStateError::Flood(_) => {NUMBER},\n", 'SavedStateError::Flood(_) => f.write_str("A flood"),\n'
+RUST = f"        SavedStateError::Flood(_) => {NUMBER},\n"
+PRINTED = '            SavedStateError::Flood(_) => f.write_str("A flood"),\n'
 ADDED = {
     "crates/superio_core/src/saved/error_text.rt":
         '            SavedStateError::Flood(_) => write!(f, "A flood"),\n',
     "crates/superio_c/src/saved.rt": RUST,
     "crates/superio_c/specs/Saved.antt": f"load_status (Some (Flood _)) = {NUMBER}\n",
-    "bindings/superio/src/printed.rs": f"            {PRINTED}",
-    "recheck/left-out.rs": f"            {PRINTED}",
+    "bindings/superio/src/printed.rs": PRINTED,
+    "recheck/left-out.rs": PRINTED,
     "bindings/c/from-source/src/lib.rs": RUST,
     "recheck/Calls.v": f"  | SavedStateError_Flood _ => {NUMBER}\n",
     "tests/recheck/differential/main.rs":
@@ -59,6 +60,19 @@ def test_place(name, form, value):
 def test_file_without_its_place(text):
     with pytest.raises(ValueError):
         facts.replaced(text, facts.rows_of(facts.ROWS["recheck/Calls.v"]), "")
+
+
+def test_expressions():
+    """Each word of an expression, and one that is none."""
+    for text, made in {
+            "<port first=4>": "53494f53", "<port magic=00 kind=7 version=fe length=102 first=5>": "0007fe0201",
+            "<clock cut=1>": facts_of_tests.expanded("<clock>")[:-2], "a <port>!": f"a {facts_of_tests.expanded('<port>')}!",
+            "<console less=a first=9>": facts_of_tests.expanded("<console less=a>")}.items():
+        assert facts_of_tests.expanded(text) == made, text
+    assert facts_of_tests.expanded("<port <clock>>").endswith(facts_of_tests.expanded("<clock>"))
+    for text in "<clock nothing=1>", "<port mr=1>":
+        with pytest.raises(ValueError):
+            facts_of_tests.expanded(text)
 
 
 def test_parts():

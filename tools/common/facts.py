@@ -28,7 +28,7 @@ CONSOLE_PREFIX = sum(it["bytes"] for it in CONSOLE["saved"] if it["bytes"] not i
 # The least and the most bytes of a saved state.
 PORT_SAVED = HEADER_SIZE + len(PORT_FIELDS), HEADER_SIZE + len(PORT_FIELDS) + FIFO_SIZE
 CLOCK_SAVED = HEADER_SIZE + CLOCK_CONTENTS
-CONSOLE_SAVED = tuple(HEADER_SIZE + CONSOLE_PREFIX + waiting + port for waiting, port in zip((0, OUTPUT_SIZE), PORT_SAVED))
+CONSOLE_SAVED = tuple(HEADER_SIZE + CONSOLE_PREFIX + sum(parts) for parts in zip((0, OUTPUT_SIZE), PORT_SAVED))
 
 
 def word_of(error):

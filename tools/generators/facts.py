@@ -2,8 +2,9 @@
 """Writes the facts of interface.toml, and the version, into each file that repeats one.
 
 Python's module _facts.py is made whole, and so is the data of tests that has saved states. A page has its parts below
-marks, whose words name them. In other files these are made: the rows that there are one of for each error, in ROWS; what a number or a name stands for, in PLACES; and the
-body of a struct and of an enum, in BODIES. The changelogs tell of releases, so they have their versions by hand.
+marks, whose words name them. In other files these are made: the rows that there are one of for each error, in ROWS;
+what a number or a name stands for, in PLACES; and the body of a struct and of an enum, in BODIES. The changelogs tell of
+releases, so they have their versions by hand.
 """
 import re
 import sys

@@ -1,9 +1,10 @@
 # SPDX-License-Identifier: Apache-2.0 OR BSD-3-Clause
-"""What docs/DEVICES.md and docs/SAVED-STATES.md have of interface.toml: their parts by the words of their marks, each as
+"""What docs/DEVICES.md and docs/SAVED-STATES.md have of interface.toml: their parts by the words of their marks, as
 lines."""
 from common.facts import (BYTES, CLOCK, CLOCK_CONTENTS, CLOCK_SAVED, CONSOLE, CONSOLE_PREFIX, CONSOLE_SAVED, ENCODING,
                           ERRORS, FIFO_SIZE, HEADER_SIZE, IDENTIFICATION, KINDS, MAGIC, OUTPUT_SIZE, PORT_FIELDS,
-                          PORT_REGISTERS, PORT_SAVED, SERIAL, saved, told, told_of_port, word_of)
+                          PORT_REGISTERS, PORT_SAVED, SERIAL, told, told_of_port, word_of)
+from generators.facts_of_tests import expanded
 
 
 def table(heads, rows):
@@ -122,24 +123,11 @@ def lengths():
     return table(["Device", "The length that fits"], [
         ["A port", f"At least {least} (a length above {most} gives `TooManyBytes`)"],
         ["A clock", f"Exactly {CLOCK_CONTENTS}"],
-        ["A console", f"At least {CONSOLE_PREFIX} + n, where n, the number at offset {HEADER_SIZE + CONSOLE_PREFIX - 2}, "
-                      f"is at most {OUTPUT_SIZE:,}"]])
+        ["A console", f"At least {CONSOLE_PREFIX} + n, where n, the number at offset "
+                      f"{HEADER_SIZE + CONSOLE_PREFIX - 2}, is at most {OUTPUT_SIZE:,}"]])
 
 
 # ---- The examples there
-
-def saved_port(held, **changed):
-    """A port with these registers, where they are not those of a new port."""
-    registers = bytes(changed.get(name, it["fresh"]) for name, it in PORT_FIELDS.items())
-    return saved(KINDS["serial port"], registers + held)
-
-
-def saved_clock(**numbers):
-    """A clock with these numbers, and else zeros."""
-    return saved(KINDS["clock"], b"".join(
-        numbers.get(it["name"], 0).to_bytes(BYTES[it["type"]], "little", signed=it["type"][0] == "i")
-        for it in CLOCK["fields"]))
-
 
 def block(*rows):
     """A block of lines, with what stands after each at the same column."""
@@ -147,18 +135,17 @@ def block(*rows):
     return ["```text", *("".join([line.ljust(column), *reply]) if reply else line for line, *reply in rows), "```"]
 
 
-PORT = saved_port(b"ab", IER=0x01, IIR=0x04, LSR=0x61, SCR=0x5A)
-CLOCK_SET = saved_clock(lr=0x65920080, mr=0x659200BC, imsc=1, offset=-3600, armed=1)
-CONSOLE_READY = saved(KINDS["console"], bytes([2]) + bytes(8) + b"\2\0ok" + saved_port(b"x", IER=1, IIR=4, LSR=0x61))
+PORT = expanded("<port IER=01 IIR=04 LSR=61 SCR=5a 6162>")
+CLOCK_SET = expanded("<clock lr=65920080 mr=659200bc imsc=1 offset=-e10 armed=1>")
+CONSOLE_READY = expanded("<console flags=02 output=6f6b <port IER=01 IIR=04 LSR=61 78>>")
 
 
 def port_session():
-    after = saved_port(b"b", IER=0x01, LSR=0x61, SCR=0x5A)
-    return block((f"sl {PORT.hex()}", "ok"), ("sr 00", "61"), ("sb", after.hex()))
+    return block((f"sl {PORT}", "ok"), ("sr 00", "61"), ("sb", expanded("<port IER=01 LSR=61 SCR=5a 62>")))
 
 
 def clock_session():
-    return block((f"cl {CLOCK_SET.hex()}", "ok"), ("cr 0000000065920ecc 0000", "659200bc"),
+    return block((f"cl {CLOCK_SET}", "ok"), ("cr 0000000065920ecc 0000", "659200bc"),
                  ("cr 0000000065920ecc 0018", "00000001"))
 
 
@@ -170,17 +157,17 @@ PARTS = {
     "header": header,
     "size of a port": lambda: sizes(*PORT_SAVED, " plus the number of held bytes"),
     "port": port_contents,
-    "saved port": lambda: block((PORT.hex(),)),
+    "saved port": lambda: block((PORT,)),
     "session with the port": port_session,
     "size of a clock": lambda: sizes(CLOCK_SAVED, CLOCK_SAVED),
     "clock": clock_contents,
-    "saved clock": lambda: block((CLOCK_SET.hex(),)),
+    "saved clock": lambda: block((CLOCK_SET,)),
     "session with the clock": clock_session,
-    "size of a console": lambda: sizes(*CONSOLE_SAVED, ", plus the number of bytes of output that wait, plus the number "
-                                                       "of bytes that the port holds"),
+    "size of a console": lambda: sizes(*CONSOLE_SAVED, ", plus the number of bytes of output that wait, plus the "
+                                                       "number of bytes that the port holds"),
     "console": console_contents,
     "flags": flags,
-    "saved console": lambda: block((CONSOLE_READY.hex(),)),
+    "saved console": lambda: block((CONSOLE_READY,)),
     "errors": errors,
     "lengths": lengths,
 }

@@ -5,8 +5,8 @@ bytes, in hexadecimal digits. tests/page/features.txt has expressions too.
 An expression stands between < and >, and may have others in it. It begins with the device: `port`, `clock` or
 `console`. These words may follow, each number in hexadecimal digits:
 
-- NAME=NUMBER, for a register of a port, a field of a clock, or `flags` and `dropped` of a console. Otherwise it is that of
-  a new device. output=BYTES is the output of a console, and count=NUMBER another number for how many bytes it is;
+- NAME=NUMBER, for a register of a port, a field of a clock, or `flags` and `dropped` of a console. Otherwise it is that
+  of a new device. output=BYTES is the output of a console, and count=NUMBER another number for how many bytes it is;
 - BYTES, which come after those: what a port holds, or the port of a console;
 - less=NUMBER, if so many bytes are missing at the end of what follows the header, and the length says so;
 - magic=BYTES, kind=NUMBER, version=NUMBER and length=NUMBER, for another header. version=+1 is the next version;
@@ -27,8 +27,8 @@ def port_contents(words):
 
 
 def clock_contents(words):
-    return b"".join(int(words.pop(it["name"], "0"), 16).to_bytes(BYTES[it["type"]], "little", signed=it["type"] == "i64")
-                    for it in CLOCK["fields"])
+    numbers = ((int(words.pop(it["name"], "0"), 16), it["type"]) for it in CLOCK["fields"])
+    return b"".join(number.to_bytes(BYTES[kind], "little", signed=kind == "i64") for number, kind in numbers)
 
 
 def console_contents(words):

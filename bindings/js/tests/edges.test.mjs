@@ -71,7 +71,8 @@ test("a clock shows each value of 32 bits, and the low 32 bits of any moment", (
     clock.write("LR", value, 5);
     clock.write("MR", value, 5);
     assert.deepEqual(["LR", "MR", "DR"].map((name) => clock.read(name, 5).value), [value, value, value]);
-    const state = { lr: value, mr: MOST_32 - value, imsc: value, ris: MOST_32 - value, armed: true };
+    const numbers = { lr: value, mr: MOST_32 - value, imsc: value, ris: MOST_32 - value };
+    const state = { ...new Rtc().state, ...numbers, armed: true };
     for (const offset of [-(2n ** 63n), -(2n ** 32n), -1n, 0n, 2n ** 31n, 2n ** 32n, MOST_63]) {
       assert.deepEqual(Rtc.fromState({ ...state, offset }).state, { ...state, offset });
     }

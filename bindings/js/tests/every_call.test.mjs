@@ -282,7 +282,7 @@ test("saved bytes that are cut, longer or changed in a bit are refused, or are a
 });
 
 test("the longest bytes whose header has their length hold too many, and longer ones have another length", () => {
-  const header = [0x53, 0x49, 0x4f, 0x53, 1, 1, 0xff, 0xff];
+  const header = [...new Serial().toBytes().subarray(0, 6), 0xff, 0xff];
   for (const [count, reason] of [[0xfffe, "wrong length"], [0xffff, "too many bytes"], [0x10000, "wrong length"],
     [0x1ffff, "wrong length"]]) {
     const bytes = Uint8Array.from([...header, ...new Uint8Array(count)]);
