@@ -67,7 +67,7 @@ def test_release_has_a_date(heading):
     assert re.fullmatch(r"\d+\.\d+\.\d+ - \d{4}-\d\d-\d\d", dated)
 
 
-@pytest.mark.parametrize("name, form, wanted", at_least(25, [*PLACES, *facts.PLACES]))
+@pytest.mark.parametrize("name, form, wanted", at_least(26, [*PLACES, *facts.PLACES]))
 def test_number(name, form, wanted):
     """A version, or the number of the binary interface, is the same in each file that repeats it, and so are sizes."""
     assert re.findall(form, (ROOT / name).read_text(encoding="utf-8"), re.M) == [str(wanted)]

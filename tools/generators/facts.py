@@ -11,8 +11,8 @@ import sys
 import textwrap
 
 from common.commands import ROOT
-from common.facts import (ABI, CLOCK, CLOCK_CONTENTS, CLOCK_SAVED, CONSOLE_SAVED, ERRORS, FIFO_SIZE, HEADER_SIZE,
-                          OUTPUT_SIZE, PORT_SAVED, VERSION, told, word_of)
+from common.facts import (ABI, CLOCK, CLOCK_SAVED, CONSOLE_SAVED, ENCODING, ERRORS, FIFO_SIZE, OUTPUT_SIZE, PORT_SAVED,
+                          VERSION, told, word_of)
 from generators.facts_of_pages import PARTS
 from generators.facts_of_python import module
 from generators.facts_of_tests import TEMPLATES, made_of
@@ -66,6 +66,8 @@ PLACES = [
     (C_HEADER, r"^#define SUPERIO_SERIAL_SAVED_MAX (\d+)$", PORT_SAVED[1]),
     (C_HEADER, r"^#define SUPERIO_CONSOLE_SAVED_MAX (\d+)$", CONSOLE_SAVED[1]),
     (C_HEADER, r"^#define SUPERIO_RTC_SAVED_SIZE (\d+)$", CLOCK_SAVED),
+    # The version of the encoding.
+    ("bindings/superio/tests/all/console_calls.rs", r"^const VERSION: u8 = (\d+);$", ENCODING["version"]),
     # The names of the errors.
     ("crates/superio_c/specs/Saved.antt", r"\.SavedStateError\.TheVariants\.\{(.+)\}$",
      ", ".join(it["case"] for it in ERRORS)),

@@ -237,14 +237,17 @@ fn example() -> Console {
     console
 }
 
+/// The version of the encoding, which `tools/generate` writes here.
+const VERSION: u8 = 1;
+
 #[rustfmt::skip] // a part a line
 const EXAMPLE: &[u8] = &[
-    b'S', b'I', b'O', b'S', 3, 1, 33, 0,
+    b'S', b'I', b'O', b'S', 3, VERSION, 33, 0,
     2 | 8,
     8, 7, 6, 5, 4, 3, 2, 1,
     3, 0,
     b'o', b'u', b't',
-    b'S', b'I', b'O', b'S', 1, 1, 11, 0,
+    b'S', b'I', b'O', b'S', 1, VERSION, 11, 0,
     12, 0, 1, 4, 3, 0x61, 8, 0xB0, 0,
     b'i', b'n',
 ];
@@ -319,7 +322,7 @@ fn refused() -> Vec<(Vec<u8>, SavedStateError)> {
     list.extend((0..8).map(|count| (EXAMPLE[..count].to_vec(), TooShort)));
     list.extend((0..4).map(|place| (with(place, b'?'), NotASavedState)));
     list.extend([0, 1, 2, 4].map(|kind| (with(4, kind), OtherDevice)));
-    list.extend([0, 2, 255].map(|version| (with(5, version), UnknownVersion(version))));
+    list.extend([0, VERSION + 1, 255].map(|version| (with(5, version), UnknownVersion(version))));
     // The length in the header.
     list.extend([0, 32, 34].map(|length| (with(6, length), WrongLength)));
     list.push((with(7, 1), WrongLength));
@@ -339,7 +342,7 @@ fn refused() -> Vec<(Vec<u8>, SavedStateError)> {
     list.extend((0..8).map(|count| (with_port(&whole[..count]), TooShort)));
     list.push((with_port(&[b"?", &whole[1..]].concat()), NotASavedState));
     list.push((with_port(&EXAMPLE[..8]), OtherDevice));
-    list.push((with_port(&[&whole[..5], &[2], &whole[6..]].concat()), UnknownVersion(2)));
+    list.push((with_port(&[&whole[..5], &[VERSION + 1], &whole[6..]].concat()), UnknownVersion(VERSION + 1)));
     list.push((with_port(&whole[..18]), WrongLength));
     list.push((with_port(&[&whole[..6], &[8, 0], &whole[8..16]].concat()), WrongLength));
     list.push((with_port(&port(65)), TooManyBytes));
