@@ -158,11 +158,13 @@ def test_fields_of_definitions():
 
 
 def test_struct_of_the_clock():
-    """It has the fields of the table, in their order, with their types in the struct."""
+    """It has the fields of the table, in the order of its struct, with their types there."""
     source = (CORE / "src/rtc_pl031.rt").read_text(encoding="utf-8")
     struct = re.search(r"^pub struct Pl031 \{\n(.*?)^\}", source, re.M | re.S)[1]
+    kinds = {it["name"]: it.get("in_struct", it["type"]) for it in CLOCK["fields"]}
     assert re.findall(r"^    pub (\w+): (\w+),$", struct, re.M) == [
-        (it["name"], it.get("in_struct", it["type"])) for it in CLOCK["fields"]]
+        (name, kinds.pop(name)) for name in CLOCK["struct"]["fields"]]
+    assert not kinds
 
 
 def test_struct_of_the_console():

@@ -85,8 +85,10 @@ def commented(rows):
 def clock_struct():
     """The fields of the clock's struct."""
     kinds = {"u32": "uint32_t", "i64": "int64_t", "u64": "uint64_t"}
+    fields = {it["name"]: it for it in CLOCK["fields"]}
     return "".join(commented([(f"    {kinds[it.get('in_struct', it['type'])]} {it['name']};",
-                               it.get("about_in_struct", it["about"])) for it in CLOCK["fields"]]))
+                               it.get("about_in_struct", it["about"]))
+                              for it in map(fields.get, CLOCK["struct"]["fields"])]))
 
 
 def error_enum():
