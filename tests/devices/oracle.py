@@ -187,6 +187,16 @@ class Clock(Device):
     def state(self):
         return {name: self.raw_status() if name == "RIS" else self.last(name) for name in CLOCK_FIELDS}
 
+    def shown(self, name, guest_time):
+        """What a read of a register shows, or None if it cannot be read."""
+        if name == "DR":
+            return guest_time
+        if name == "MIS":
+            return self.raw_status() & self.last("IMSC")
+        if name == "RIS":
+            return self.raw_status()
+        return self.last(name) if name in CLOCK_FIELDS else CONSTANTS.get(name)
+
     def access(self, moment, offset, value=None):
         """Makes an access. Returns the number that a read shows, 0 for a write, or None for an invalid access."""
         time = moment % 2**32
@@ -196,9 +206,7 @@ class Clock(Device):
         name, found = CLOCK_AT.get(offset), {"RIS": 1, "armed": 0} if is_reached else {}
         if value is None:
             self.past.append(Fact(found))
-            state = self.state()
-            shown = {**state, **CONSTANTS, "DR": guest_time, "MIS": state["RIS"] & state["IMSC"]}
-            return shown.get(name, ID_AT.get(offset))
+            return self.shown(name, guest_time) if name else ID_AT.get(offset)
         writes = {
             "MR": {"MR": value, "armed": int(value > guest_time)} | ({"RIS": 1} if value == guest_time else {}),
             "LR": {"LR": value, "offset": value - time},
