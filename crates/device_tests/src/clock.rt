@@ -391,7 +391,54 @@ fn writes_to_no_register_change_nothing_and_are_reported(rt: HostRuntime) {
     assert!(rt; clock.state() == RtcState::default());
 }
 
+/// Bytes that no read at moment 1,000 of a new clock gives.
+const UNREAD: [u8; 4] = [0x7B, 0, 0, 0];
+
+/// Whether a read at this offset either gives the value that `other` reads there, or leaves the bytes and is reported.
+fn is_read_or_reported(clock: &mut Rtc<Counts>, other: &mut Rtc<NoEvents>, offset: u16) -> bool {
+    let before = clock.events().invalid_read_count();
+    let mut bytes = UNREAD;
+    clock.read(offset, &mut bytes, 1_000);
+    let reported = clock.events().invalid_read_count().wrapping_sub(before);
+    match other.read_value(offset, 1_000) {
+        Some(value) => bytes == value.to_le_bytes() && bytes != UNREAD && reported == 0,
+        None => bytes == UNREAD && reported == 1,
+    }
+}
+
+/// Whether a write of 2 at this offset is reported if `other` takes no such write, and only then.
+fn is_written_or_reported(clock: &mut Rtc<Counts>, other: &mut Rtc<NoEvents>, offset: u16) -> bool {
+    let before = clock.events().invalid_write_count();
+    clock.write(offset, &[2, 0, 0, 0], 1_000);
+    let reported = clock.events().invalid_write_count().wrapping_sub(before);
+    reported == u64::from(!other.write_value(offset, 2, 1_000))
+}
+
+/// `tests/devices/test_every_access.py` has which offsets are invalid.
+#[test]
+fn each_offset_is_valid_or_reported(rt: HostRuntime) {
+    let (mut clock, mut other) = (fresh(), Rtc::new());
+    for offset in 0..=0xFFFFu16 {
+        assert!(rt;
+            is_read_or_reported(&mut clock, &mut other, offset),
+            "{offset:#x}"
+        );
+    }
+    for offset in 0..=0xFFFFu16 {
+        assert!(rt;
+            is_written_or_reported(&mut clock, &mut other, offset),
+            "{offset:#x}"
+        );
+    }
+    assert!(rt; clock.state() == other.state());
+}
+
 // ---- states
+
+/// A clock of this state that counts its own events.
+fn remade(state: &RtcState) -> Rtc<Counts> {
+    Rtc::from_state(state, Counts::new())
+}
 
 /// `test_state`
 #[test]
@@ -406,16 +453,20 @@ fn a_restored_clock_has_the_state_and_its_own_events_object(rt: HostRuntime) {
     make(
         &rt,
         &mut clock,
+        &[
+            Read(1_000, RTCLR, 1_100),
+            Write(1_000, 0x1003, 123),
+            Read(1_002, RTCDR, 1_102),
+        ],
+    );
+    let mut restored = remade(&state);
+    let is_same = restored.state() == state && state.lr == 1_100 && reports(&restored, 0, 0);
+    make(
+        &rt,
+        &mut restored,
         &[Read(1_000, RTCLR, 1_100), Write(1_000, 0x1003, 123)],
     );
-    assert!(rt; reports(&clock, 0, 1));
-    let mut restored = Rtc::from_state(&state, Counts::new());
-    assert!(rt; restored.state() == state && state.lr == 1_100);
-    make(&rt, &mut clock, &[Read(1_002, RTCDR, 1_102)]);
-    make(&rt, &mut restored, &[Read(1_000, RTCLR, 1_100)]);
-    assert!(rt; reports(&restored, 0, 0));
-    make(&rt, &mut restored, &[Write(1_000, 0x1003, 123)]);
-    assert!(rt; reports(&restored, 0, 1));
+    assert!(rt; is_same && reports(&clock, 0, 1) && reports(&restored, 0, 1));
     let again = Rtc::from_state(&restored.state(), *restored.events());
     assert!(rt; reports(&again, 0, 1));
 }

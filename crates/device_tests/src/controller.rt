@@ -34,3 +34,34 @@ fn a_refusal_of_the_reset_line_is_returned(rt: HostRuntime) {
     assert!(rt; device.write(4, 0xFE) == Ok(()));
     assert!(rt; device.reset_evt().calls() == 2);
 }
+
+/// Whether a write succeeds, and calls the reset line if it is the command to reset, and only then.
+fn is_right(device: &mut I8042Device<Line>, offset: u8, value: u8) -> bool {
+    let before = device.reset_evt().calls();
+    let resets = (offset, value) == (4, 0xFE);
+    device.write(offset, value).is_ok()
+        && device.reset_evt().calls() == before.saturating_add(u64::from(resets))
+}
+
+/// The first value whose write at this offset does something else.
+fn first_wrong(device: &mut I8042Device<Line>, offset: u8) -> Option<u8> {
+    for value in 0..=255u8 {
+        if !is_right(device, offset, value) {
+            return Some(value);
+        }
+    }
+    None
+}
+
+#[test]
+fn one_of_all_writes_resets_and_all_reads_give_0(rt: HostRuntime) {
+    let mut device = controller(0);
+    for offset in 0..=255u8 {
+        let wrong = first_wrong(&mut device, offset);
+        assert!(rt;
+            wrong.is_none() && device.read(offset) == 0,
+            "{offset} {wrong:?}"
+        );
+    }
+    assert!(rt; device.reset_evt().calls() == 1);
+}

@@ -5,7 +5,7 @@ use crate::serial_objects::Step::{
     WriteRefused, Written,
 };
 use crate::serial_objects::{
-    IER, IIR, LSR, MCR, Narrow, RBR, THR, TestSerial, fresh_shows, made, takes_sixty_four,
+    IER, IIR, LSR, MCR, Narrow, RBR, Step, THR, TestSerial, fresh_shows, made, takes_sixty_four,
 };
 
 // ---- received bytes
@@ -132,14 +132,27 @@ fn gives_sixty_four(port: &mut TestSerial<Narrow>) -> bool {
     true
 }
 
+/// Whether loopback gives back each byte, with RDA enabled.
+fn loops_back_each(port: &mut TestSerial<Narrow>) -> bool {
+    port.write(MCR, 0x10).is_ok()
+        && port.write(IER, 0x01).is_ok()
+        && gives_back_each(port)
+        && port.read(LSR) == 0x60
+}
+
+/// Whether loopback then takes 64 bytes for one interrupt, and gives them back.
+fn loops_back_all(port: &mut TestSerial<Narrow>) -> bool {
+    takes_sixty_four(port)
+        && port.fifo_capacity() == 0
+        && port.interrupt_evt().calls() == 65
+        && gives_sixty_four(port)
+        && port.read(LSR) == 0x60
+}
+
 #[test]
 fn loopback_gives_back_each_byte_and_sixty_four_at_once(rt: HostRuntime) {
     let mut port = made(&rt, rt.alloc(), 0, Narrow::with_room(256));
-    assert!(rt; port.write(MCR, 0x10).is_ok() && port.write(IER, 0x01).is_ok());
-    assert!(rt; gives_back_each(&mut port) && port.read(LSR) == 0x60);
-    assert!(rt; takes_sixty_four(&mut port) && port.fifo_capacity() == 0);
-    assert!(rt; port.interrupt_evt().calls() == 65);
-    assert!(rt; gives_sixty_four(&mut port) && port.read(LSR) == 0x60);
+    assert!(rt; loops_back_each(&mut port) && loops_back_all(&mut port));
 }
 
 // ---- the transmitter
@@ -330,4 +343,35 @@ fn a_character_timeout_raises_rda_for_bytes_left_after_iir(rt: HostRuntime) {
             Read(RBR, 0x61),
         ],
     );
+}
+
+/// Steps that call the trigger five times.
+static ASKING: [Step; 10] = [
+    Write(IER, 0x03),
+    Enqueue(b"a", 1),
+    Write(THR, b'A'),
+    Read(IIR, 0xC6),
+    Enqueue(b"b", 1),
+    Write(IER, 0x03),
+    Read(RBR, b'a'),
+    Write(IER, 0x03),
+    Read(IIR, 0xC6),
+    Calls(5),
+];
+
+#[test]
+fn a_refused_call_changes_one_answer_and_no_read(rt: HostRuntime) {
+    // The place of each step that calls the trigger, and what it shows if that call is refused.
+    static REFUSED: [(usize, Step); 5] = [
+        (0, WriteRefused(IER, 0x03)),
+        (1, EnqueueRefused(b"a")),
+        (4, EnqueueRefused(b"b")),
+        (5, WriteRefused(IER, 0x03)),
+        (7, WriteRefused(IER, 0x03)),
+    ];
+    for (number, (place, refused)) in (0u32..).zip(REFUSED) {
+        let mut steps = ASKING;
+        steps[place.min(9)] = refused;
+        fresh_shows(&rt, 1 << number.min(9), &steps);
+    }
 }

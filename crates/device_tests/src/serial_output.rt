@@ -3,21 +3,39 @@
 use crate::serial_objects::Step::{
     Calls, Enqueue, Events, Read, Write, WriteFails, WriteRefused, Written,
 };
-use crate::serial_objects::{IER, IIR, Narrow, RBR, THR, fresh_over_shows, made};
+use crate::serial_objects::{IER, IIR, Narrow, RBR, THR, TestSerial, fresh_over_shows, made};
 use std::alloc::{AllocError, Global};
 use std::io;
 use std::io::ErrorKind;
 use superio_script::LineRefused;
 use vm_superio::serial::Error;
 
+/// Whether each of these bytes is sent, IIR then shows this, and the vector has them all.
+fn sends_each(port: &mut TestSerial<Vec<u8>>, bytes: &[u8], iir: u8) -> bool {
+    for byte in bytes {
+        if port.write(THR, *byte).is_err() || port.read(IIR) != iir {
+            return false;
+        }
+    }
+    port.writer().as_slice() == bytes
+}
+
 #[test]
 fn sent_bytes_reach_a_vector_without_interrupt(rt: HostRuntime) {
     let mut port = made(&rt, rt.alloc(), 0, Vec::new(rt.alloc()));
-    for byte in [0x61, 0x62, 0x63] {
-        assert!(rt; port.write(THR, byte).is_ok());
-    }
-    assert!(rt; port.writer().as_slice() == [0x61, 0x62, 0x63].as_slice());
-    assert!(rt; port.interrupt_evt().calls() == 0);
+    assert!(rt; sends_each(&mut port, b"abc", 0xC1) && port.interrupt_evt().calls() == 0);
+}
+
+/// Whether IER comes to enable THRE, which IIR then shows.
+fn enables_thre(port: &mut TestSerial<Vec<u8>>) -> bool {
+    port.write(IER, 0x02).is_ok() && port.read(IIR) == 0xC2
+}
+
+#[test]
+fn bytes_that_reach_a_vector_raise_thre_each(rt: HostRuntime) {
+    let mut port = made(&rt, rt.alloc(), 0, Vec::new(rt.alloc()));
+    assert!(rt; enables_thre(&mut port) && sends_each(&mut port, b"AAA", 0xC2));
+    assert!(rt; port.interrupt_evt().calls() == 4);
 }
 
 #[test]
@@ -117,19 +135,26 @@ fn text_of_writer(alloc: Global, fault: io::Error) -> Result<String, AllocError>
     format!(in alloc; "Couldn't write/flush to the given destination: {fault}")
 }
 
+/// Whether an error with this fault of a writer displays it.
+fn displays_fault(alloc: Global, fault: io::Error) -> bool {
+    match text_of_writer(alloc, fault) {
+        Ok(text) => displays(alloc, &Error::IOError(fault), text.as_str()),
+        Err(_) => false,
+    }
+}
+
 #[test]
 fn an_error_displays_what_failed_and_why(rt: HostRuntime) {
-    let refused = Error::Trigger(LineRefused);
-    assert!(rt;
-        displays(
-            rt.alloc(),
-            &refused,
-            "Failed to trigger interrupt: line refused"
-        )
-    );
-    let fault = io::Error::from(ErrorKind::WriteZero);
-    let text = text_of_writer(rt.alloc(), fault).ok().expect(&rt, "a text");
-    assert!(rt; displays(rt.alloc(), &Error::IOError(fault), text.as_str()));
-    assert!(rt; displays(rt.alloc(), &Error::FullFifo, "No space left in FIFO"));
-    assert!(rt; displays(rt.alloc(), &Error::Memory, "Out of memory"));
+    let rows = [
+        (
+            Error::Trigger(LineRefused),
+            "Failed to trigger interrupt: line refused",
+        ),
+        (Error::FullFifo, "No space left in FIFO"),
+        (Error::Memory, "Out of memory"),
+    ];
+    for (error, text) in rows {
+        assert!(rt; displays(rt.alloc(), &error, text), "{text}");
+    }
+    assert!(rt; displays_fault(rt.alloc(), io::Error::from(ErrorKind::WriteZero)));
 }

@@ -110,6 +110,62 @@ fn a_data_write_turns_to_the_writer_then_events_then_trigger(rt: HostRuntime) ->
     Ok(())
 }
 
+/// A writer that takes each byte, fails each `write` or fails each `flush`.
+fn writer(way: u8) -> Writing {
+    let fault = io::Error::from(io::ErrorKind::BrokenPipe);
+    match way {
+        0 => Writing::takes(),
+        1 => Writing::failing(fault),
+        _ => Writing {
+            flush: Some(fault),
+            ..Writing::takes()
+        },
+    }
+}
+
+/// What a data write calls over such a writer: the writer, then the events object, then the trigger.
+fn data_write_calls(way: u8) -> u64 {
+    match way {
+        0 => in_order(b"WFoT"),
+        1 => in_order(b"WlT"),
+        _ => in_order(b"WFlT"),
+    }
+}
+
+#[test]
+fn a_writer_that_fails_changes_no_read_and_no_trigger_call(rt: HostRuntime) -> Result<(), Fail> {
+    for ways in all_threes() {
+        let log = Log::new();
+        let mut serial = port(rt.alloc(), &log)?;
+        assert!(rt; serial.write(1, 0x02).is_ok() && serial.read(2) == 0xC2);
+        let mut flushes = 0u64;
+        for way in ways {
+            log.writing.set(writer(way));
+            log.order.set(0);
+            let sent = serial.write(0, b'A');
+            assert!(rt; sent.is_ok() == (way == 0), "{ways:?}");
+            assert!(rt;
+                matches!(sent, Err(Error::IOError(_))) == (way != 0),
+                "{ways:?}"
+            );
+            assert!(rt; log.order.get() == data_write_calls(way), "{ways:?}");
+            assert!(rt; serial.read(2) == 0xC2, "{ways:?}");
+            flushes = flushes.saturating_add(u64::from(way != 1));
+        }
+        assert!(rt; log.calls() == [4, 3, 3, flushes], "{ways:?}");
+    }
+    Ok(())
+}
+
+/// All lists of three of these ways.
+fn all_threes() -> [[u8; 3]; 27] {
+    let mut all = [[0; 3]; 27];
+    for index in 0..27u8 {
+        all[usize::from(index)] = [index / 9, index / 3 % 3, index % 3];
+    }
+    all
+}
+
 /// It stops at the first refusal.
 #[test]
 fn a_retry_calls_the_trigger_once_for_each_interrupt_due(rt: HostRuntime) -> Result<(), Fail> {
