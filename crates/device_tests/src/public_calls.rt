@@ -158,14 +158,25 @@ fn lends_its_writer(port: &mut Port) -> bool {
     lent_writer(port).push(b'x').is_ok() && port.writer().as_slice() == b"x".as_slice()
 }
 
+/// Whether a port keeps what is written to SCR, and takes a byte.
+fn is_used(port: &mut FirstPort) -> bool {
+    write_at(port, 7, 0x12).is_ok()
+        && read_at(port, 7) == 0x12
+        && enqueue(port, b"a").ok() == Some(1)
+        && room_in(port) == 63
+}
+
+/// Whether a port that holds a byte makes a run of two reads, and lends its writer.
+fn is_used_again(rt: &impl Abort, alloc: Global, port: &mut Port) -> bool {
+    records_of_reads(rt, alloc, port) == 2 && has_one_read(port) && lends_its_writer(port)
+}
+
 #[test]
 fn a_port_is_made_used_remade_and_taken_apart(rt: HostRuntime) {
     let mut first = first_port(&rt, rt.alloc());
-    assert!(rt; write_at(&mut first, 7, 0x12).is_ok() && read_at(&mut first, 7) == 0x12);
-    assert!(rt; enqueue(&mut first, b"a").ok() == Some(1) && room_in(&first) == 63);
+    let is_used = is_used(&mut first);
     let mut second = remade(&rt, rt.alloc(), first);
-    assert!(rt; records_of_reads(&rt, rt.alloc(), &mut second) == 2);
-    assert!(rt; has_one_read(&second) && lends_its_writer(&mut second));
+    assert!(rt; is_used && is_used_again(&rt, rt.alloc(), &mut second));
 }
 
 /// A fresh port with an events object.
@@ -287,15 +298,21 @@ fn done(rt: &impl Abort, alloc: Global) -> Vec<Done<Line, Counts, Vec<u8>>> {
         .expect(rt, "records")
 }
 
+/// Whether there are seven records and seven acts, and each record is of the call of its act.
+fn are_records_of(alloc: Global, done: &[Done<Line, Counts, Vec<u8>>], acts: &[Act]) -> bool {
+    for (record, act) in done.iter().zip(acts.iter()) {
+        if !is_record_of(alloc, record, act) {
+            return false;
+        }
+    }
+    (done.len(), acts.len()) == (7, 7)
+}
+
 #[test]
 fn a_record_has_the_act_of_its_call(rt: HostRuntime) {
     let done = done(&rt, rt.alloc());
-    assert!(rt; done.len() == 7);
     let acts = acts(&rt, rt.alloc());
-    assert!(rt; acts.len() == 7);
-    for (record, act) in done.iter().zip(acts.iter()) {
-        assert!(rt; is_record_of(rt.alloc(), record, act));
-    }
+    assert!(rt; are_records_of(rt.alloc(), &done, &acts));
 }
 
 // ---- errors and states
@@ -313,10 +330,13 @@ fn number_of<E: Drop>(error: Error<E>) -> u8 {
 #[test]
 fn an_error_has_four_cases(rt: HostRuntime) {
     let fault = io::Error::from(io::ErrorKind::Other);
-    assert!(rt; number_of(Error::Trigger(LineRefused)) == 1);
-    assert!(rt; number_of::<LineRefused>(Error::IOError(fault)) == 2);
-    assert!(rt; number_of::<LineRefused>(Error::FullFifo) == 3);
-    assert!(rt; number_of::<LineRefused>(Error::Memory) == 4);
+    let numbers = [
+        number_of(Error::Trigger(LineRefused)),
+        number_of::<LineRefused>(Error::IOError(fault)),
+        number_of::<LineRefused>(Error::FullFifo),
+        number_of::<LineRefused>(Error::Memory),
+    ];
+    assert!(rt; numbers == [1, 2, 3, 4]);
 }
 
 /// Whether a value equals itself and prints some text for a programmer.
@@ -351,11 +371,8 @@ fn is_default(alloc: Global, state: &SerialState) -> bool {
     }
 }
 
-#[test]
-fn states_and_parts_of_records_are_compared_and_printed(rt: HostRuntime) {
-    let alloc = rt.alloc();
-    let state = state(alloc);
-    assert!(rt; is_default(alloc, &state) && is_compared_and_printed(alloc, &state));
+/// Whether the state of a clock with these fields is the default one, and is printed.
+fn is_clock_state_printed(alloc: Global) -> bool {
     let clock = RtcState {
         lr: 0,
         offset: 0,
@@ -365,11 +382,23 @@ fn states_and_parts_of_records_are_compared_and_printed(rt: HostRuntime) {
         armed: false,
         ..RtcState::default()
     };
-    assert!(rt; clock == RtcState::default() && clock == RtcState::from_five(0, 0, 0, 0, 0));
-    assert!(rt; is_compared_and_printed(alloc, &clock));
-    assert!(rt; is_compared_and_printed(alloc, &Act::Restore));
-    assert!(rt; is_compared_and_printed(alloc, &Asked::Took));
-    assert!(rt; is_compared_and_printed(alloc, &Sent::Out));
+    clock == RtcState::default()
+        && clock == RtcState::from_five(0, 0, 0, 0, 0)
+        && is_compared_and_printed(alloc, &clock)
+}
+
+/// Whether the parts of a record are compared and printed.
+fn are_parts_printed(alloc: Global) -> bool {
+    is_compared_and_printed(alloc, &Act::Restore)
+        && is_compared_and_printed(alloc, &Asked::Took)
+        && is_compared_and_printed(alloc, &Sent::Out)
+}
+
+#[test]
+fn states_and_parts_of_records_are_compared_and_printed(rt: HostRuntime) {
+    let state = state(rt.alloc());
+    assert!(rt; is_default(rt.alloc(), &state) && is_compared_and_printed(rt.alloc(), &state));
+    assert!(rt; is_clock_state_printed(rt.alloc()) && are_parts_printed(rt.alloc()));
 }
 
 // ---- the clock

@@ -160,6 +160,18 @@ fn first_wrong<W: io::Write>(done: &[Done<Line, Counts, W>], rows: &[Row]) -> Op
     None
 }
 
+/// Whether each record shows what it has to, there is no other, and the trigger was called so often.
+fn is_right<W: io::Write>(
+    done: &[Done<Line, Counts, W>],
+    rows: &[Row],
+    port: &TestSerial<W>,
+    calls: u64,
+) -> bool {
+    first_wrong(done, rows).is_none()
+        && done.len() == rows.len()
+        && port.interrupt_evt().calls() == calls
+}
+
 /// Runs the calls of these rows, and asserts that each record shows what it has to, that there is no other, and how
 /// often the trigger was called by then.
 fn recorded<W: io::Write + Drop>(
@@ -171,8 +183,11 @@ fn recorded<W: io::Write + Drop>(
     calls: u64,
 ) -> Vec<Done<Line, Counts, W>> {
     let done = records(alloc, port, rows, spare).ok().expect(rt, "records");
-    assert_eq!(rt; first_wrong(&done, rows), None);
-    assert!(rt; done.len() == rows.len() && port.interrupt_evt().calls() == calls);
+    assert!(rt;
+        is_right(&done, rows, port, calls),
+        "{:?}",
+        first_wrong(&done, rows)
+    );
     done
 }
 

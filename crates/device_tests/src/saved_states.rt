@@ -1,7 +1,7 @@
 // SPDX-License-Identifier: Apache-2.0 OR BSD-3-Clause
 //! Saved states go there and back, and each reason why bytes are refused. What the bytes are is in
 //! `tests/data/further/saved_states.txt`.
-use crate::serial_objects::{Fields, IER, SCR, made, state_of, state_with};
+use crate::serial_objects::{Fields, IER, SCR, TestSerial, made, state_of, state_with};
 use std::alloc::Global;
 use vm_superio::rtc_pl031::encoding::SAVED_SIZE;
 use vm_superio::saved::{LoadError, SavedStateError};
@@ -46,13 +46,19 @@ fn is_read(alloc: Global, bytes: &[u8], state: &SerialState) -> bool {
     }
 }
 
+/// Whether a port takes two writes and two bytes.
+fn is_used(port: &mut TestSerial<Vec<u8>>) -> bool {
+    port.write(IER, 0x01).is_ok()
+        && port.write(SCR, 0x5A).is_ok()
+        && port.enqueue_raw_bytes(b"ab").is_ok()
+}
+
 #[test]
 fn a_port_is_saved_and_read_back(rt: HostRuntime) {
     let mut port = made(&rt, rt.alloc(), 0, Vec::new(rt.alloc()));
-    assert!(rt; port.write(IER, 0x01).is_ok() && port.write(SCR, 0x5A).is_ok());
-    assert!(rt; port.enqueue_raw_bytes(b"ab").is_ok());
+    let is_used = is_used(&mut port);
     let state = state_of(&rt, rt.alloc(), &port);
-    assert!(rt; is_read_back(rt.alloc(), &state));
+    assert!(rt; is_used && is_read_back(rt.alloc(), &state));
 }
 
 #[test]
@@ -71,6 +77,9 @@ fn a_port_of_sixty_five_bytes_has_no_form(rt: HostRuntime) {
     let state = state_with(&rt, rt.alloc(), fields);
     assert!(rt; matches!(state.to_bytes(), Err(SavedStateError::TooManyBytes)));
 }
+
+/// Changes of a saved clock, how many of its bytes are read, and why they are refused.
+type Row = (&'static [(usize, u8)], usize, SavedStateError);
 
 /// The bytes of a saved clock, with these bytes at these places.
 fn clock_with(changes: &[(usize, u8)]) -> [u8; SAVED_SIZE] {
@@ -95,74 +104,85 @@ fn of_65_bytes() -> [u8; 82] {
     saved
 }
 
+/// Read as a port's bytes, these are its registers and some received bytes.
+static OF_NO_PORT: [Row; 7] = [
+    (&[(KIND, PORT)], 7, SavedStateError::TooShort),
+    (
+        &[(LETTER, b's'), (VERSION, UNKNOWN)],
+        SAVED_SIZE,
+        SavedStateError::NotASavedState,
+    ),
+    (
+        &[(VERSION, UNKNOWN)],
+        SAVED_SIZE,
+        SavedStateError::OtherDevice,
+    ),
+    (
+        &[(KIND, PORT), (VERSION, UNKNOWN), (LENGTH, 0)],
+        SAVED_SIZE,
+        SavedStateError::UnknownVersion(UNKNOWN),
+    ),
+    (
+        &[(KIND, PORT)],
+        SAVED_SIZE - 1,
+        SavedStateError::WrongLength,
+    ),
+    (
+        &[(KIND, PORT), (LENGTH, 8)],
+        16,
+        SavedStateError::WrongLength,
+    ),
+    (&[], SAVED_SIZE, SavedStateError::OtherDevice),
+];
+
+/// Whether the bytes of a row are no port's, for its reason.
+fn is_no_port(alloc: Global, row: &Row) -> bool {
+    let (changes, length, fault) = *row;
+    let read = fault_of_port(alloc, &clock_with(changes)[..length.min(SAVED_SIZE)]);
+    read == Some(LoadError::Invalid(fault))
+}
+
 #[test]
 fn bytes_of_no_port_are_refused_for_the_first_reason(rt: HostRuntime) {
-    // Changes of a saved clock, and how many of its bytes are read. Read as a port's bytes, these are its registers and
-    // some received bytes.
-    let rows: [(&[(usize, u8)], usize, SavedStateError); 7] = [
-        (&[(KIND, PORT)], 7, SavedStateError::TooShort),
-        (
-            &[(LETTER, b's'), (VERSION, UNKNOWN)],
-            SAVED_SIZE,
-            SavedStateError::NotASavedState,
-        ),
-        (
-            &[(VERSION, UNKNOWN)],
-            SAVED_SIZE,
-            SavedStateError::OtherDevice,
-        ),
-        (
-            &[(KIND, PORT), (VERSION, UNKNOWN), (LENGTH, 0)],
-            SAVED_SIZE,
-            SavedStateError::UnknownVersion(UNKNOWN),
-        ),
-        (
-            &[(KIND, PORT)],
-            SAVED_SIZE - 1,
-            SavedStateError::WrongLength,
-        ),
-        (
-            &[(KIND, PORT), (LENGTH, 8)],
-            16,
-            SavedStateError::WrongLength,
-        ),
-        (&[], SAVED_SIZE, SavedStateError::OtherDevice),
-    ];
-    for (changes, length, fault) in rows {
-        let read = fault_of_port(rt.alloc(), &clock_with(changes)[..length.min(SAVED_SIZE)]);
-        assert!(rt; read == Some(LoadError::Invalid(fault)), "{fault:?}");
+    for row in OF_NO_PORT.iter() {
+        assert!(rt; is_no_port(rt.alloc(), row), "{row:?}");
     }
     let read = fault_of_port(rt.alloc(), &of_65_bytes());
     assert!(rt; read == Some(LoadError::Invalid(SavedStateError::TooManyBytes)));
 }
 
+static OF_NO_CLOCK: [Row; 7] = [
+    (&[], 0, SavedStateError::TooShort),
+    (
+        &[(LETTER, b's'), (KIND, PORT)],
+        SAVED_SIZE,
+        SavedStateError::NotASavedState,
+    ),
+    (&[(KIND, PORT)], SAVED_SIZE, SavedStateError::OtherDevice),
+    (
+        &[(VERSION, UNKNOWN), (LENGTH, 1)],
+        SAVED_SIZE,
+        SavedStateError::UnknownVersion(UNKNOWN),
+    ),
+    (&[], SAVED_SIZE - 1, SavedStateError::WrongLength),
+    // No clock has one byte after the header.
+    (&[(LENGTH, 1)], 9, SavedStateError::WrongLength),
+    (
+        &[(SAVED_SIZE - 1, 2)],
+        SAVED_SIZE,
+        SavedStateError::InvalidArmed,
+    ),
+];
+
+/// Whether the bytes of a row are no clock's, for its reason.
+fn is_no_clock(row: &Row) -> bool {
+    let (changes, length, fault) = *row;
+    RtcState::from_bytes(&clock_with(changes)[..length.min(SAVED_SIZE)]) == Err(fault)
+}
+
 #[test]
 fn bytes_of_no_clock_are_refused_for_the_first_reason(rt: HostRuntime) {
-    // Changes of a saved clock, and how many of its bytes are read.
-    let rows: [(&[(usize, u8)], usize, SavedStateError); 7] = [
-        (&[], 0, SavedStateError::TooShort),
-        (
-            &[(LETTER, b's'), (KIND, PORT)],
-            SAVED_SIZE,
-            SavedStateError::NotASavedState,
-        ),
-        (&[(KIND, PORT)], SAVED_SIZE, SavedStateError::OtherDevice),
-        (
-            &[(VERSION, UNKNOWN), (LENGTH, 1)],
-            SAVED_SIZE,
-            SavedStateError::UnknownVersion(UNKNOWN),
-        ),
-        (&[], SAVED_SIZE - 1, SavedStateError::WrongLength),
-        // No clock has one byte after the header.
-        (&[(LENGTH, 1)], 9, SavedStateError::WrongLength),
-        (
-            &[(SAVED_SIZE - 1, 2)],
-            SAVED_SIZE,
-            SavedStateError::InvalidArmed,
-        ),
-    ];
-    for (changes, length, fault) in rows {
-        let read = RtcState::from_bytes(&clock_with(changes)[..length.min(SAVED_SIZE)]);
-        assert_eq!(rt; read, Err(fault));
+    for row in OF_NO_CLOCK.iter() {
+        assert!(rt; is_no_clock(row), "{row:?}");
     }
 }

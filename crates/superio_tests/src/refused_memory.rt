@@ -122,20 +122,38 @@ fn a_port_is_restored_or_its_objects_come_back(rt: HostRuntime) -> Result<(), Fa
     Ok(())
 }
 
+/// The state of a port, which is asked for again if memory was refused.
+fn taken(alloc: Global, serial: &TestSerial) -> Result<SerialState, AllocError> {
+    match serial.state(alloc) {
+        Ok(taken) => Ok(taken),
+        Err(AllocError) => serial.state(alloc),
+    }
+}
+
+/// A copy of a state, which is made again if memory was refused.
+fn copied(alloc: Global, state: &SerialState) -> Result<SerialState, AllocError> {
+    match state.clone(alloc) {
+        Ok(copy) => Ok(copy),
+        Err(AllocError) => state.clone(alloc),
+    }
+}
+
+/// Whether this state is taken of a port, and copied.
+fn is_taken_and_copied(
+    alloc: Global,
+    serial: &TestSerial,
+    state: &SerialState,
+) -> Result<bool, AllocError> {
+    let taken = taken(alloc, serial)?;
+    Ok(taken == *state && copied(alloc, &taken)? == *state)
+}
+
 #[test]
 fn a_state_is_taken_and_copied_or_nothing_changes(rt: HostRuntime) -> Result<(), Fail> {
     let alloc = rt.alloc();
     let state = state(alloc)?;
     let serial = port(alloc, &state)?;
-    let taken = match serial.state(alloc) {
-        Ok(taken) => taken,
-        Err(AllocError) => serial.state(alloc)?,
-    };
-    let copy = match taken.clone(alloc) {
-        Ok(copy) => copy,
-        Err(AllocError) => taken.clone(alloc)?,
-    };
-    assert!(rt; taken == state && copy == state);
+    assert!(rt; is_taken_and_copied(alloc, &serial, &state)?);
     assert!(rt; serial.interrupt_evt().calls() == 2 && serial.fifo_capacity() == 63);
     Ok(())
 }

@@ -15,14 +15,18 @@ type End = Result<(), ScriptFault>;
 /// What a script shows, the script, what it prints, and how it ends.
 type Row<'a> = (&'a str, &'a [u8], &'a [u8], End);
 
+/// Whether a script prints this and ends like this.
+fn prints(alloc: Global, script: &[u8], printed: &[u8], end: End) -> bool {
+    let mut reader = script;
+    let mut writer = Vec::new(alloc);
+    let ended = run_script(alloc, &mut reader, &mut writer);
+    ended == end && writer.as_slice() == printed
+}
+
 /// Runs scripts, and asserts what they print and how they end.
 fn check(rt: &impl Abort, alloc: Global, rows: &[Row]) {
     for (shows, script, printed, end) in rows {
-        let mut reader = *script;
-        let mut writer = Vec::new(alloc);
-        let ended = run_script(alloc, &mut reader, &mut writer);
-        assert!(rt; ended == *end, "{shows}: {ended:?}");
-        assert!(rt; writer.as_slice() == *printed, "{shows}: {writer:?}");
+        assert!(rt; prints(alloc, script, printed, *end), "{shows}");
     }
 }
 
@@ -41,7 +45,7 @@ fn joined(alloc: Global, pieces: &[(&[u8], usize)]) -> Result<Vec<u8>, AllocErro
 
 #[test]
 fn the_controller_reads_0_and_resets_at_one_command(rt: HostRuntime) {
-    let rows: [Row; 5] = [
+    static ROWS: [Row; 5] = [
         (
             "digits of either case",
             b"kr 0A\nkr ff\n",
@@ -68,7 +72,7 @@ fn the_controller_reads_0_and_resets_at_one_command(rt: HostRuntime) {
             Err(ScriptFault::Bad(2)),
         ),
     ];
-    check(&rt, rt.alloc(), &rows);
+    check(&rt, rt.alloc(), &ROWS);
 }
 
 #[test]
@@ -100,7 +104,7 @@ fn enqueues_fill_the_fifo_and_then_find_it_full(rt: HostRuntime) -> Result<(), F
 
 #[test]
 fn a_restored_port_goes_on_and_a_refusal_leaves_the_old_one(rt: HostRuntime) {
-    let rows: [Row; 2] = [
+    static ROWS: [Row; 2] = [
         (
             "a restore of a pending condition calls the line again",
             b"sw 01 01\nsq 616263\nss\nst\nsr 02\nsr 00\nsc\n",
@@ -114,12 +118,12 @@ fn a_restored_port_goes_on_and_a_refusal_leaves_the_old_one(rt: HostRuntime) {
             Ok(()),
         ),
     ];
-    check(&rt, rt.alloc(), &rows);
+    check(&rt, rt.alloc(), &ROWS);
 }
 
 #[test]
 fn refuse_is_a_first_line_alone_and_masks_the_port_alone(rt: HostRuntime) {
-    let rows: [Row; 4] = [
+    static ROWS: [Row; 4] = [
         (
             "a later refuse",
             b"sr 02\nrefuse 0000000000000001\n",
@@ -140,7 +144,7 @@ fn refuse_is_a_first_line_alone_and_masks_the_port_alone(rt: HostRuntime) {
         ),
         ("no further line", b"refuse 0000000000000001\n", b"", Ok(())),
     ];
-    check(&rt, rt.alloc(), &rows);
+    check(&rt, rt.alloc(), &ROWS);
 }
 
 #[test]
@@ -172,7 +176,7 @@ fn events_are_counted_a_field_each(rt: HostRuntime) {
 
 #[test]
 fn the_clock_is_reached_with_a_moment(rt: HostRuntime) {
-    let rows: [Row; 3] = [
+    static ROWS: [Row; 3] = [
         (
             "a load, and a read seven seconds later",
             b"cw 00000000000003e8 0008 00000064\ncr 00000000000003ef 0000\n",
@@ -195,7 +199,7 @@ fn the_clock_is_reached_with_a_moment(rt: HostRuntime) {
             Ok(()),
         ),
     ];
-    check(&rt, rt.alloc(), &rows);
+    check(&rt, rt.alloc(), &ROWS);
 }
 
 #[test]
@@ -223,21 +227,22 @@ fn a_driver_takes_all_bytes_unless_the_latch_hides_them(rt: HostRuntime) -> Resu
     Ok(())
 }
 
+/// Whether a driver takes these bytes of a port of this LSR that holds those, and leaves it with this room.
+fn drives(alloc: Global, lsr: u8, held: &[u8], taken: &[u8], room: usize) -> Result<bool, Fail> {
+    let mut state = SerialState::default(alloc);
+    state.line_status = lsr;
+    state.in_buffer = held.to_vec(alloc)?;
+    let made = Serial::from_state(alloc, &state, Line::new(0), Counts::new(), Output::new());
+    let mut serial = made.map_err(Refused::into_error)?;
+    let is_taken = drain(&mut serial).as_slice() == taken;
+    Ok(is_taken && serial.read(5) == 0x60 && serial.fifo_capacity() == room)
+}
+
 #[test]
 fn a_driver_trusts_the_line_status(rt: HostRuntime) -> Result<(), Fail> {
     let alloc = rt.alloc();
-    for (status, held, taken, after, room) in [
-        (0x61, b"".as_slice(), b"\x00".as_slice(), 0x60, 64),
-        (0x60, b"a".as_slice(), b"".as_slice(), 0x60, 63),
-    ] {
-        let mut state = SerialState::default(alloc);
-        state.line_status = status;
-        state.in_buffer = held.to_vec(alloc)?;
-        let made = Serial::from_state(alloc, &state, Line::new(0), Counts::new(), Output::new());
-        let mut serial = made.map_err(Refused::into_error)?;
-        assert!(rt; drain(&mut serial).as_slice() == taken);
-        assert!(rt; serial.read(5) == after && serial.fifo_capacity() == room);
-    }
+    assert!(rt; drives(alloc, 0x61, b"", b"\x00", 64)?);
+    assert!(rt; drives(alloc, 0x60, b"a", b"", 63)?);
     Ok(())
 }
 
@@ -264,12 +269,12 @@ fn a_script_has_at_most_65536_bytes(rt: HostRuntime) -> Result<(), Fail> {
 
 #[test]
 fn an_empty_script_is_good_and_an_empty_line_is_bad(rt: HostRuntime) {
-    let rows: [Row; 3] = [
+    static ROWS: [Row; 3] = [
         ("no byte", b"", b"", Ok(())),
         ("one LF", b"\n", b"", Err(ScriptFault::Bad(1))),
         ("two LF", b"kr 04\n\n", b"00\n", Err(ScriptFault::Bad(2))),
     ];
-    check(&rt, rt.alloc(), &rows);
+    check(&rt, rt.alloc(), &ROWS);
 }
 
 #[test]
@@ -299,66 +304,76 @@ fn a_script_that_is_cut_anywhere_runs_up_to_the_cut(rt: HostRuntime) {
 
 // ---- lines that have no form
 
+static FORMLESS: [&[u8]; 23] = [
+    b"",
+    b"kr 04\r",
+    b"kr 0\xFF",
+    b"\xFF",
+    b"kr 5",
+    b"kr 005",
+    b"kr  05",
+    b" kr 05",
+    b"kr 05 ",
+    b"kr\t05",
+    b"kr 0x",
+    b"kr",
+    b"kr 04 00",
+    b"kw 04",
+    b"KR 04",
+    b"sq 6",
+    b"sq ",
+    b"sc 00",
+    b"cr 00000000000003e8 000",
+    b"cr 000000000003e8 0000",
+    b"cw 00000000000003e8 0008 000064",
+    b"sx",
+    // Only a first line may have this syntax.
+    b"refuse 0000000000000001",
+];
+
+/// The first of these lines that a board does not find bad.
+fn first_good<'a>(alloc: Global, board: &mut Board, lines: &[&'a [u8]]) -> Option<&'a [u8]> {
+    for line in lines {
+        if board.line(alloc, line).err() != Some(LineFault::Bad) {
+            return Some(*line);
+        }
+    }
+    None
+}
+
+/// Whether a board goes on as before those lines, which it finds bad.
+fn is_unchanged(alloc: Global, board: &mut Board) -> bool {
+    replies(alloc, board, b"sq 61", b"01\n")
+        && first_good(alloc, board, &FORMLESS).is_none()
+        && replies(alloc, board, b"sc", b"3f\n")
+        && replies(alloc, board, b"st", b"0000000000000000\n")
+}
+
+/// Whether a board gives this reply.
+fn replies(alloc: Global, board: &mut Board, line: &[u8], reply: &[u8]) -> bool {
+    match board.line(alloc, line) {
+        Ok(found) => found.as_slice() == reply,
+        Err(_) => false,
+    }
+}
+
 #[test]
 fn a_line_without_a_form_is_bad_and_changes_nothing(rt: HostRuntime) -> Result<(), Fail> {
+    static ROWS: [Row; 2] = [
+        ("CR", b"kr 04\r\n", b"", Err(ScriptFault::Bad(1))),
+        ("a short field", b"kr 5\n", b"", Err(ScriptFault::Bad(1))),
+    ];
     let alloc = rt.alloc();
     let mut board = Board::new(alloc, 0)?;
-    board.line(alloc, b"sq 61").ok().expect(&rt, "a count");
-    for line in [
-        b"".as_slice(),
-        b"kr 04\r",
-        b"kr 0\xFF",
-        b"\xFF",
-        b"kr 5",
-        b"kr 005",
-        b"kr  05",
-        b" kr 05",
-        b"kr 05 ",
-        b"kr\t05",
-        b"kr 0x",
-        b"kr",
-        b"kr 04 00",
-        b"kw 04",
-        b"KR 04",
-        b"sq 6",
-        b"sq ",
-        b"sc 00",
-        b"cr 00000000000003e8 000",
-        b"cr 000000000003e8 0000",
-        b"cw 00000000000003e8 0008 000064",
-        b"sx",
-        // Only a first line may have this syntax.
-        b"refuse 0000000000000001",
-    ] {
-        assert!(rt;
-            board.line(alloc, line).err() == Some(LineFault::Bad),
-            "{line:?}"
-        );
-    }
-    for (line, reply) in [
-        (b"sc".as_slice(), b"3f\n".as_slice()),
-        (b"st", b"0000000000000000\n"),
-    ] {
-        let replied = board.line(alloc, line).ok().expect(&rt, "a reply");
-        assert!(rt; replied.as_slice() == reply);
-    }
-    check(
-        &rt,
-        rt.alloc(),
-        &[("CR", b"kr 04\r\n", b"", Err(ScriptFault::Bad(1)))],
-    );
-    check(
-        &rt,
-        rt.alloc(),
-        &[("a short field", b"kr 5\n", b"", Err(ScriptFault::Bad(1)))],
-    );
+    assert!(rt; is_unchanged(alloc, &mut board));
+    check(&rt, alloc, &ROWS);
     Ok(())
 }
 
 /// A script has no lines for saved states and character timeouts.
 #[test]
 fn lines_beyond_the_format_are_bad(rt: HostRuntime) {
-    let rows: [Row; 5] = [
+    static ROWS: [Row; 5] = [
         ("a timeout", b"si\n", b"", Err(ScriptFault::Bad(1))),
         ("a saved port", b"sb\n", b"", Err(ScriptFault::Bad(1))),
         ("a saved clock", b"cb\n", b"", Err(ScriptFault::Bad(1))),
@@ -370,18 +385,22 @@ fn lines_beyond_the_format_are_bad(rt: HostRuntime) {
             Err(ScriptFault::Bad(2)),
         ),
     ];
-    check(&rt, rt.alloc(), &rows);
+    check(&rt, rt.alloc(), &ROWS);
+}
+
+/// The length of the reply to `so` once the output is full.
+fn length_of_output(board: &mut Board, alloc: Global) -> Option<usize> {
+    for _ in 0..256u16 {
+        board.line(alloc, b"sw 00 41").ok()?;
+    }
+    let reply = board.line(alloc, b"so").ok()?;
+    Some(reply.len())
 }
 
 #[test]
 fn the_longest_reply_has_513_bytes(rt: HostRuntime) -> Result<(), Fail> {
     let alloc = rt.alloc();
-    let mut board = Board::new(alloc, 0)?;
-    for _ in 0..256u16 {
-        board.line(alloc, b"sw 00 41").ok().expect(&rt, "a reply");
-    }
-    let reply = board.line(alloc, b"so").ok().expect(&rt, "a reply");
-    assert!(rt; reply.len() == 513);
+    assert!(rt; length_of_output(&mut Board::new(alloc, 0)?, alloc) == Some(513));
     Ok(())
 }
 
