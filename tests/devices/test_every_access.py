@@ -7,6 +7,7 @@ to what a new one is. The search begins each case with a new device. After those
 """
 import subprocess
 from concurrent.futures import ThreadPoolExecutor
+from functools import cache
 from itertools import product
 
 import oracle
@@ -14,7 +15,7 @@ import pytest
 from board import Board
 from harness import LIMIT
 from pages import CLOCK_AT, FRESH
-from script import replies_of, script_of
+from script import line_of, replies_of
 from script_tests import Script, joined
 
 pytestmark = pytest.mark.needs("kit")
@@ -38,6 +39,7 @@ ACCESSES = [(0x000,), (0x004, 1_000), (0x004, 1_005), (0x004, 5_003), (0x008, 5_
             (0x00C, 1), (0x00C, 2), (0x010, 2**32 - 1), (0x010, 2**32 - 2), (0x01C, 1), (0x01C, 2**32 - 2), (0x01C,)]
 MOMENTS = [1_000, 1_003, 1_001, 4_294_968_301]
 CLOCK_READS = [("clock_read", 1_006, offset) for name, offset in OFFSETS.items() if name != "ICR"]
+line = cache(line_of)   # the same calls come again and again
 
 
 class Cases:
@@ -65,8 +67,8 @@ class Cases:
         assert self.board.clock.state() == NEW_CLOCK
 
     def script(self, place):
-        script = script_of([("refuse", self.board.mask), *self.calls])
-        return Script(str(place), script.encode(), joined(self.replies))
+        lines = [line(*call) for call in [("refuse", self.board.mask), *self.calls]]
+        return Script(str(place), joined(lines), joined(self.replies))
 
 
 def differences(program, scripts):
@@ -116,7 +118,7 @@ def refused(calls):
         if mask and made[without_last] < mask.bit_length():
             made[mask] = made[without_last]
         else:
-            made[mask] = cases.port([line for call in calls for line in (call, *PORT_SHOWN)], mask)
+            made[mask] = cases.port([it for call in calls for it in (call, *PORT_SHOWN)], mask)
     return cases.script(calls)
 
 
