@@ -5,6 +5,7 @@ ghost use Rattle.superio_c.specs.Saved.{load_status};
 ghost use Rattle.superio_core.specs.Rtc.{state_of_clock};
 ghost use Rattle.superio_core.specs.Serial.{state_of_uart, State};
 ghost use Rattle.superio_core.specs.Saved.{serial_fault, clock_fault, serial_encoding, clock_encoding};
+ghost use Rattle.superio_core.specs.Sizes.{fifo_size, serial_saved_max};
 
 use superio_core::rtc_pl031::encoding::SAVED_SIZE;
 use superio_core::rtc_pl031::{Pl031, RtcState};
@@ -35,7 +36,7 @@ pub(crate) fn load_status(error: SavedStateError) -> u32
 #[unsafe(no_mangle)]
 pub extern "C" fn superio_serial_save(port: &Uart, bytes: &mut [u8; SAVED_MAX]) -> usize
     ensures count { result ≡ length (serial_encoding (state_of_uart port.now)) }
-    ensures at_most_81 { result ≤ 81 }
+    ensures at_most_81 { result ≤ serial_saved_max }
     ensures encoding { take result bytes.new ≡ serial_encoding (state_of_uart port.now) }
     ensures rest_unchanged { drop result bytes.new ≡ drop result bytes.old }
 {
@@ -50,9 +51,9 @@ pub extern "C" fn superio_serial_save(port: &Uart, bytes: &mut [u8; SAVED_MAX]) 
 pub extern "C" fn superio_serial_load(port: &mut Uart, bytes: &[u8]) -> u32
     ensures status { result ≡ load_status (serial_fault bytes.now) }
     ensures loaded { result ≡ 0 → bytes.now ≡ serial_encoding (state_of_uart port.new) }
-    ensures read { (state : State) → length state.in_buffer ≤ 64 → bytes.now ≡ serial_encoding state →
+    ensures read { (state : State) → length state.in_buffer ≤ fifo_size → bytes.now ≡ serial_encoding state →
         result ≡ 0 × state_of_uart port.new ≡ state }
-    ensures at_most_64 { result ≡ 0 → port.new.in_buffer.len ≤ 64 }
+    ensures at_most_64 { result ≡ 0 → port.new.in_buffer.len ≤ fifo_size }
     ensures refused { result ≢ 0 → port.new ≡ port.old }
 {
     match Uart::from_bytes(bytes) {

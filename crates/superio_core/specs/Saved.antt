@@ -6,6 +6,7 @@ use Rattle.std.specs.Option.{option_or}
 use Rattle.std.specs.Str.{bytes_eq}
 use Rattle.superio_core.specs.declared.rtc_pl031.encoding.RtcState.{RtcState}
 use Rattle.superio_core.specs.Serial.{State, register_bytes, register_count}
+use Rattle.superio_core.specs.Sizes.{fifo_size, header_size}
 pub use Rattle.superio_core.specs.declared.saved.SavedStateError.{SavedStateError}
 pub use Rattle.superio_core.specs.declared.saved.SavedStateError.TheVariants.{TooShort, NotASavedState, OtherDevice, UnknownVersion, WrongLength, TooManyBytes, InvalidArmed, InvalidFlags}
 
@@ -88,10 +89,10 @@ header_fault kind _ = Some TooShort
 abbrev pub serial_contents_fault : (contents : List ℕ) → Option SavedStateError
 serial_contents_fault contents =
     if nat_lt (length contents) register_count then Some WrongLength
-    else (if nat_lt (register_count + 64) (length contents) then Some TooManyBytes else None)
+    else (if nat_lt (register_count + fifo_size) (length contents) then Some TooManyBytes else None)
 
 abbrev pub serial_fault : (bytes : List ℕ) → Option SavedStateError
-serial_fault bytes = option_or (header_fault serial_kind bytes) (serial_contents_fault (drop 8 bytes))
+serial_fault bytes = option_or (header_fault serial_kind bytes) (serial_contents_fault (drop header_size bytes))
 
 -- what follows the header of a clock: 25 bytes, the last of them 0 or 1
 abbrev pub clock_contents_fault : (contents : List ℕ) → Option SavedStateError
@@ -100,7 +101,7 @@ clock_contents_fault contents =
     else (if nat_le (slice_index contents 24) 1 then None else Some InvalidArmed)
 
 abbrev pub clock_fault : (bytes : List ℕ) → Option SavedStateError
-clock_fault bytes = option_or (header_fault clock_kind bytes) (clock_contents_fault (drop 8 bytes))
+clock_fault bytes = option_or (header_fault clock_kind bytes) (clock_contents_fault (drop header_size bytes))
 
 -- ---- what an error of a saved state prints
 
@@ -127,7 +128,7 @@ pub record IsClock (state : RtcState) : Type 0 where
 -- the encoding of a port that holds at most 64 bytes passes each check, whatever its registers hold. So does the
 -- encoding of a clock
 abbrev pub SerialEncodingLaw : Type 0
-SerialEncodingLaw = (state : State) → length state.in_buffer ≤ 64 → serial_fault (serial_encoding state) ≡ None
+SerialEncodingLaw = (state : State) → length state.in_buffer ≤ fifo_size → serial_fault (serial_encoding state) ≡ None
 
 abbrev pub ClockEncodingLaw : Type 0
 ClockEncodingLaw = (state : RtcState) → clock_fault (clock_encoding state) ≡ None

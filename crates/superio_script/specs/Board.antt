@@ -5,7 +5,7 @@ use Rattle.vm_superio.specs.Serial.{SerialView, Trace, fresh_state}
 use Rattle.superio_laws.specs.Serial.History.{state_of_history, none_lost, output, is_fitting}
 use Rattle.vm_superio.specs.Rtc.{ClockDevice}
 use Rattle.superio_laws.specs.Rtc.{RtcState, Access, fresh_clock}
-use Rattle.superio_script.specs.Objects.{fresh_interrupt_line, no_counts, written_bytes, Line, Counts, Output}
+use Rattle.superio_script.specs.Objects.{fresh_interrupt_line, no_counts, output_limit, written_bytes, Line, Counts, Output}
 use Rattle.superio_script.specs.SerialScript.{SerialCommand, calls_made, interrupt_line_after, events_reported, counts_of, Outcome, out_before_loss, outcomes_of, serial_reply, trace_after_line}
 use Rattle.superio_script.specs.ClockScript.{ClockCommand, clock_after, access_of_line, clock_reply}
 use Rattle.superio_script.specs.ControllerScript.{controller_reply}
@@ -25,7 +25,7 @@ pub record IsAfter (mask : ℕ) (trace : Trace) (port : SerialView Line Counts O
   pub counts : port.events ≡ counts_of (events_reported trace)
   pub output : IsTrue (none_lost trace) → written_bytes port.out ≡ output fresh_state [] trace
   pub fitting : IsTrue (is_fitting fresh_state trace)
-  pub within_room : out_before_loss (outcomes_of trace) ≤ 256
+  pub within_room : out_before_loss (outcomes_of trace) ≤ output_limit
 
 -- a board between two lines: some trace led to the serial port, and some accesses to the clock. The reset line was
 -- never called, since a fresh controller replaces one that was reset
@@ -54,7 +54,7 @@ pub record SerialLineStep
     Type 0 where
   pub outcome : Outcome
   pub printed : List ℕ
-  pub short : length printed ≤ 256
+  pub short : length printed ≤ output_limit
   pub replied : reply ≡ serial_reply mask trace outcome printed line
   pub after : IsAfter mask (trace_after_line mask trace outcome line) new
 

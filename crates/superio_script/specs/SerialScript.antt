@@ -4,11 +4,11 @@
 use Rattle.std.specs.Prelude.{ℕ, zero, suc, ◌+◌, ◌-◌, Bool, true, false, not, if◌then◌else◌, List, [], ◌∷◌, ◌++◌, length, drop, count_by, codes, nat_le}
 use Rattle.std.specs.Int.{w8}
 use Rattle.std.specs.List.{list_all}
-use Rattle.vm_superio.specs.Serial.{State, Asked, Sent, Op, Read, Write, Enqueue, Restore, TraceEntry, Trace, answer_count, ends_in_refusal, sent_by, Event, buffer_read, out_byte, tx_lost_byte, in_buffer_empty, fresh_state, not_empty}
+use Rattle.vm_superio.specs.Serial.{fifo_size, State, Asked, Sent, Op, Read, Write, Enqueue, Restore, TraceEntry, Trace, answer_count, ends_in_refusal, sent_by, Event, buffer_read, out_byte, tx_lost_byte, in_buffer_empty, fresh_state, not_empty}
 use Rattle.superio_core.specs.Serial.Operations.{Response, ByteRead, WriteOk, EnqueueOk, TimeoutOk, TriggerRefused, WriterFailed, FifoFull, OutOfMemory, NoResponse}
 use Rattle.superio_laws.specs.Serial.History.{decode_at, dlab_after, held_bytes, guest_read, none_lost, output, history_events, history_response, calls_due, conditions_due_after, state_of_history}
 use Rattle.superio_script.specs.Fields.{Syntax, number, bytes, end}
-use Rattle.superio_script.specs.Objects.{is_call_refused, saturated, Line, Counts}
+use Rattle.superio_script.specs.Objects.{is_call_refused, output_limit, saturated, Line, Counts}
 use Rattle.superio_script.specs.Reply.{with_lf, digits_reply, count_digits}
 pub use Rattle.superio_script.specs.declared.serial_lines.SerialCommand.{SerialCommand}
 use Rattle.superio_script.specs.declared.serial_lines.SerialCommand.TheVariants as serial
@@ -123,7 +123,7 @@ next_printed (bytes ∷ printed) = bytes
 
 -- each has at most as many bytes as fit in the output
 abbrev pub all_short : (printed : List (List ℕ)) → Bool
-all_short printed = list_all (λ bytes. nat_le (length bytes) 256) printed
+all_short printed = list_all (λ bytes. nat_le (length bytes) output_limit) printed
 
 -- ---- a call after a trace
 
@@ -184,7 +184,7 @@ is_restore_refused mask trace =
 -- what a line that makes no call shows: how many more bytes fit, how often the interrupt line was called, or the counts
 -- of events. For the other lines `serial_reply` says what they show
 abbrev pub shown : (line : SerialCommand) (state : State) (interrupt_line : Line) (counts : Counts) → List ℕ
-shown serial.Capacity state interrupt_line counts = digits_reply ((64 - length state.in_buffer) ∷ [])
+shown serial.Capacity state interrupt_line counts = digits_reply ((fifo_size - length state.in_buffer) ∷ [])
 shown serial.Calls state interrupt_line counts = with_lf (count_digits interrupt_line.calls)
 shown serial.Events state interrupt_line counts = counts_reply counts
 shown _ state interrupt_line counts = []
