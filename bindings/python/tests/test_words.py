@@ -14,7 +14,7 @@ from support import PACKAGE, ROOT, FolderTest, run
 from superio import Command, Rtc, Serial, SerialState
 from superio.board import LINES
 from superio.prompt import Leave, write_text
-from superio.registers import CLOCK, SERIAL
+from superio.registers import CLOCK, CLOCK_KEPT, SERIAL
 from superio.script import ScriptError, line_of, reason_of, shown
 from superio.session import Session
 from superio.tell import quoted
@@ -178,8 +178,7 @@ LOADS = [
 ]
 
 # Each command in each form of its usage, after lines, and what it says.
-NEW_CLOCK = ["  MR   0x00000000", "  LR   0x00000000", "  IMSC 0x00000000", "  RIS  0x00000000", "  no alarm is set",
-             "  interrupt line down"]
+NEW_CLOCK = [*(f"  {name:4} 0x00000000" for name in CLOCK_KEPT), "  no alarm is set", "  interrupt line down"]
 CLOCK_ROWS = ["clock, in UTC", "  DR   0x6553f100  2023-11-14 22:13:20", *NEW_CLOCK]
 PORT_ROWS = ["serial port", "  IER  0x00", "  IIR  0xc1  none", "  LCR  0x03  8N1", "  MCR  0x08  OUT2",
              "  LSR  0x60  THRE TEMT", "  MSR  0xb0  CTS DSR DCD", "  SCR  0x00", "  divisor 12, FIFO 0 of 64",
