@@ -14,6 +14,7 @@ import oracle
 import pytest
 from board import Board
 from harness import LIMIT
+from made import ENDS
 from pages import CLOCK_AT, FRESH
 from script import line_of, replies_of
 from script_tests import Script, joined
@@ -67,6 +68,8 @@ class Cases:
         assert self.board.clock.state() == NEW_CLOCK
 
     def script(self, place):
+        """The script of the cases, which at its end shows what was sent and told in all of them."""
+        self.make(ENDS)
         lines = [line(*call) for call in [("refuse", self.board.mask), *self.calls]]
         return Script(str(place), joined(lines), joined(self.replies))
 
