@@ -106,7 +106,7 @@ installcheck:
 	done
 
 # Tests that a program which depends on vm-superio 0.8 takes an installed crate by one line.
-CRATE = /usr/share/superio/rust
+CRATE = /usr/share/superio/vm-superio
 installcheck-rust:
 	@place=$$(mktemp -d)
 	trap 'rm -rf "$$place"' EXIT
@@ -162,7 +162,7 @@ dist:
 	    pack superio-$(version)-$$target
 	    _PYTHON_HOST_PLATFORM=linux-$${target%-linux} build build_wheel
 	done
-	cp -rL ../rust ../superio "$$place/$(crates)"
+	cp -rL ../../rust/vm-superio ../../rust/superio "$$place/$(crates)"
 	pack $(crates)
 	cd ../js
 	cp -r ../../LICENSE ../../LICENSES .

@@ -14,14 +14,14 @@ PACKAGE: dict[str, Any] = {"edition": "2021"} | dict.fromkeys(
      "publish", "repository", "documentation"), ANY)
 SUPERIO: dict[str, Any] = {"version": ANY, "path": "../superio"}
 MANIFESTS: dict[str, Any] = {
-    "bindings/superio": {"package": PACKAGE, "features": {"std": []}},
-    "bindings/rust": {
+    "rust/superio": {"package": PACKAGE, "features": {"std": []}},
+    "rust/vm-superio": {
         "package": PACKAGE, "lib": {"name": "vm_superio"}, "features": {"serde": ["dep:serde"]},
         "dependencies": {"serde": {"version": "1", "features": ["derive"], "optional": True},
                          "superio": SUPERIO | {"features": ["std"]}}},
     "bindings/c/from-source": {
         "package": PACKAGE, "lib": {"name": "superio_c", "crate-type": ["staticlib", "cdylib"], "test": False},
-        "dependencies": {"superio": SUPERIO | {"path": "../../superio"}}, "workspace": {},
+        "dependencies": {"superio": SUPERIO | {"path": "../../../rust/superio"}}, "workspace": {},
         "profile": {"dev": {"panic": "abort"},
                     "release": {"panic": "abort", "lto": True, "codegen-units": 1, "opt-level": 2}}},
 }
@@ -42,7 +42,7 @@ def check_manifests(root: Path, build_script: Any) -> None:
         for setting in SETTINGS[1:]:
             if (root / folder / setting).exists():
                 raise Refused(f"{folder}/{setting}")
-    for above in (root, root / "bindings", root / "bindings/c"):
+    for above in (root, root / "rust", root / "bindings", root / "bindings/c"):
         if any((above / setting).exists() for setting in SETTINGS):
             raise Refused(f"{above} has settings of Cargo")
     Parser((root / BUILD_SCRIPT).read_text(), BUILD_SCRIPT, build_script).file_items()

@@ -2,11 +2,11 @@
 // The items and methods that tools/recheck does not translate, word by word, without their comments. It refuses any other that
 // it cannot translate, and a crate that has not these.
 
-//: bindings/superio/src/lib.rs
+//: rust/superio/src/lib.rs
 #[cfg(feature = "std")]
 extern crate std;
 
-//: bindings/superio/src/printed.rs
+//: rust/superio/src/printed.rs
 use core::fmt;
 
 use crate::console::output_ring::OutputRing;
@@ -36,7 +36,7 @@ impl fmt::Display for SavedStateError {
 #[cfg(feature = "std")]
 impl std::error::Error for SavedStateError {}
 
-//: bindings/superio/src/console/saved.rs
+//: rust/superio/src/console/saved.rs
 impl PartialEq for Console {
     fn eq(&self, other: &Self) -> bool {
         let mut bytes = [0; CONSOLE_SAVED_MAX];
@@ -50,7 +50,7 @@ impl PartialEq for Console {
 impl Eq for Console {
 }
 
-//: bindings/superio/src/devices/rtc_pl031/encoding.rs
+//: rust/superio/src/devices/rtc_pl031/encoding.rs
 impl PartialEq for Pl031 {
     fn eq(&self, other: &Self) -> bool {
         self.state().to_bytes() == other.state().to_bytes()
@@ -59,7 +59,7 @@ impl PartialEq for Pl031 {
 
 impl Eq for Pl031 {}
 
-//: bindings/superio/src/devices/serial/encoding.rs
+//: rust/superio/src/devices/serial/encoding.rs
 impl PartialEq for SerialEncoding {
     fn eq(&self, other: &Self) -> bool {
         self.as_bytes() == other.as_bytes()
@@ -103,12 +103,12 @@ fn stop(_: &core::panic::PanicInfo) -> ! {
     }
 }
 
-//: bindings/rust/src/lib.rs
+//: rust/vm-superio/src/lib.rs
 pub mod sansio {
     pub use superio::*;
 }
 
-//: bindings/rust/src/rtc_pl031.rs
+//: rust/vm-superio/src/rtc_pl031.rs
 impl RtcEvents for NoEvents {
     fn invalid_read(&self) {}
 
@@ -167,7 +167,7 @@ mod tests {
     }
 }
 
-//: bindings/rust/src/serial.rs
+//: rust/vm-superio/src/serial.rs
 pub fn writer_mut(&mut self) -> &mut W {
     &mut self.out
 }
@@ -205,14 +205,14 @@ impl<E: fmt::Display> fmt::Display for Error<E> {
 
 impl<E: StdError> StdError for Error<E> {}
 
-//: bindings/rust/src/serial/state.rs
+//: rust/vm-superio/src/serial/state.rs
 impl Default for SerialState {
     fn default() -> Self {
         SerialState::of(&Uart::new())
     }
 }
 
-//: bindings/rust/src/serial/events.rs
+//: rust/vm-superio/src/serial/events.rs
 impl SerialEvents for NoEvents {
     fn buffer_read(&self) {}
 

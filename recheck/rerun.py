@@ -51,7 +51,7 @@ WORDS += [f"superio_console.{name}" for name in """Console.state_of Console.new_
 
 
 # The crates that are translated, and where their sources are.
-CRATES = {"core": "bindings/superio/src", "c": "bindings/c/from-source/src", "shell": "bindings/rust/src"}
+CRATES = {"core": "rust/superio/src", "c": "bindings/c/from-source/src", "shell": "rust/vm-superio/src"}
 
 
 def left_out() -> tuple[dict[str, dict[Path, Any]], Any]:

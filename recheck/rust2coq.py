@@ -196,7 +196,7 @@ class Writer(MatchWriter):
         return self.expr(node.value, env, turned)
 
 
-HEAD = "(* Made by recheck/rust2coq.py from bindings/superio/src. *)\n"
+HEAD = "(* Made by recheck/rust2coq.py from rust/superio/src. *)\n"
 
 
 def translate(crate: Crate, functions: Iterable[str]) -> tuple[str, str]:

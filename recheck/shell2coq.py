@@ -229,6 +229,6 @@ def translate(crate: ShellCrate, functions: Iterable[str], code: str) -> str:
     types, calls = writer.types(), writer.calls()
     for function in functions:
         writer.function(function)
-    head = ("(* Made by recheck/shell2coq.py from bindings/rust/src. *)\n"
+    head = ("(* Made by recheck/shell2coq.py from rust/vm-superio/src. *)\n"
             "Require Export Recheck.Prelude Recheck.Machine Recheck.Types Recheck.Code Recheck.Acts.\n")
     return "\n\n".join([head, types, calls, *writer.out]) + "\n"

@@ -1,7 +1,7 @@
 /* SPDX-License-Identifier: Apache-2.0 OR BSD-3-Clause */
 /*
  * Worlds of guests, event loops and interrupt controllers around consoles, over the C library: as those of
- * bindings/superio/tests/all/console.rs, whose settings these are. All comes to rest with nothing lost, whatever comes
+ * rust/superio/tests/all/console.rs, whose settings these are. All comes to rest with nothing lost, whatever comes
  * between: refusals, resets, suspends, saves and loads, slow readers, or another machine at the other end of the line.
  *
  * 1. At rest all input is read that a driver wants, all is sent that the guest has, and all output is taken, in order.

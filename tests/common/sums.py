@@ -4,7 +4,7 @@ out where something is not there that no package has. A run with --sums fails if
 from collections import defaultdict
 
 from common import rattle
-from common.cargo import BINDINGS, DEVICES
+from common.cargo import DROP_IN, DEVICES
 from harness import ROOT
 
 TABLE = ROOT / "tests" / "sums.txt"
@@ -36,7 +36,7 @@ def number_of_tests(crate):
 def of_sources():
     """What the sources have for Cargo and for rt, which have to try all of it."""
     numbers = {"must-fail edits of crates": rattle.number_of_edits(), "tests of crates": rattle.number_of_tests(),
-               **{f"tests of {it.relative_to(ROOT)}": number_of_tests(it) for it in (DEVICES, BINDINGS)}}
+               **{f"tests of {it.relative_to(ROOT)}": number_of_tests(it) for it in (DEVICES, DROP_IN)}}
     return {row: number for row, number in numbers.items() if number}
 
 

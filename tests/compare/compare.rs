@@ -1,5 +1,5 @@
 // SPDX-License-Identifier: Apache-2.0 OR BSD-3-Clause
-//! Makes the calls of standard input on the devices of bindings/rust, or of the Rust crate vm-superio 0.8.2, and prints
+//! Makes the calls of standard input on the devices of rust/vm-superio, or of the Rust crate vm-superio 0.8.2, and prints
 //! each with what it did. They are lines of text in the form of tests/README.md, of which what stands behind
 //! ` = ` does not count. What the crate does not have is `no call`.
 #[cfg(feature = "further")]

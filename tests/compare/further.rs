@@ -1,5 +1,5 @@
 // SPDX-License-Identifier: Apache-2.0 OR BSD-3-Clause
-//! The calls that bindings/rust has beside those of the Rust crate. tests/devices/test_calls.py makes each.
+//! The calls that rust/vm-superio has beside those of the Rust crate. tests/devices/test_calls.py makes each.
 use superio::rtc_pl031::{Rtc, RtcSnapshot};
 use superio::saved::SavedStateError;
 use superio::serial::SerialState;

@@ -64,7 +64,7 @@ def test_models_agree():
 
 @pytest.fixture(scope="module")
 def rust(tmp_path_factory):
-    """The program that makes calls over bindings/rust. Gives a function that makes calls, and returns what each did."""
+    """The program that makes calls over rust/vm-superio. Gives a function that makes calls, and returns what each did."""
     comparison = Comparison(tmp_path_factory.mktemp("rust"))
     built = comparison.build()
     assert built.returncode == 0, built.stdout

@@ -14,7 +14,7 @@ ORIGINAL = ROOT / "tests" / "compare" / "vm-superio-0.8.2.names"
 # The crate, and the place where superio_core has the clock's state.
 SOURCES = ("crates/vm_superio/src", "crates/superio_core/src/rtc_pl031")
 # What has to read alike, in Rattle and in Rust.
-SERIAL = "crates/vm_superio/src/serial.rt", "bindings/rust/src/serial.rs"
+SERIAL = "crates/vm_superio/src/serial.rt", "rust/vm-superio/src/serial.rs"
 # The declaration of a type, or an `impl`; and in it functions and types, fields, and cases.
 BLOCK = re.compile(r"^(?:pub (?:struct|enum|trait) (\w+)|impl([^{]*))[^{;]*(?:;|\{\}|\{.*?^\})", re.M | re.S)
 PART = re.compile(r"\b(?:fn|type) (\w+)|^    (?:pub (\w+):|([A-Z]\w*)[,({])", re.M)

@@ -28,8 +28,8 @@ KIT = re.compile(r"^(?:rt|tools/run)\b", re.M)
 PROGRAMS = {"cc": "cc", "cargo": "debian-rust", "git": "git", "make": "make", "npm": "npm", "pkg-config": "pkg-config",
             "venv": "pip", "pip": "pip"}
 PROMPT = re.compile(r"\w+> ")
-# At a terminal `./superio` is the shell. Here what is typed comes from a pipe.
-SHORTER = [(r"^\./superio$", "./superio --shell"), (r"^tools/((?:re)?check\b[^#\n]*)", r"tools/\1 --help "),
+# At a terminal `./shell` is the shell. Here what is typed comes from a pipe.
+SHORTER = [(r"^\./shell$", "./shell --shell"), (r"^tools/((?:re)?check\b[^#\n]*)", r"tools/\1 --help "),
            (r"^tools/generate$", "tools/generate facts rust interface page"),
            (r"^(python3 -m pytest)\b", r"\1 --collect-only -q --assert=plain")]
 BUILT = "crates/superio/out/superio"

@@ -275,7 +275,7 @@ def test_commands(tmp_path):
     with its license."""
     _, shown = (ROOT / "examples/console.c").read_text(encoding="utf-8").split("\n", 1)
     assert shown == code("docs/C.md", "c", "int main")
-    for name in ["bindings", "examples", "prebuilt"]:
+    for name in ["bindings", "examples", "prebuilt", "rust"]:
         (tmp_path / name).symlink_to(ROOT / name)
     [commands] = [block.commands for block in Document("docs/C.md").blocks if block.commands]
     for command, printed in commands:
@@ -304,7 +304,7 @@ def built(tmp_path_factory):
 def run_rust(program, printed, typed, built, folder):
     """Runs a program by the lines for Cargo.toml in README.md. The `Machine` of docs/PORT.md is around a guest."""
     (folder / "src").mkdir()
-    manifest = code("README.md", "toml", "bindings/superio" if "use superio::" in program else "patch")
+    manifest = code("README.md", "toml", "rust/superio" if "use superio::" in program else "patch")
     (folder / "Cargo.toml").write_text(PACKAGE + manifest.replace("CLONE", str(ROOT)), encoding="utf-8")
     if "fn main" not in program:
         (folder / "src" / "lib.rs").write_text(program, encoding="utf-8")
@@ -361,8 +361,8 @@ def test_rules_of_the_whole_monitor(built, tmp_path):
 
 @pytest.mark.needs("cargo")
 def test_rules_of_a_turn(built, tmp_path):
-    """The turn in the README of bindings/superio, around a guest and files that take and give something else each time."""
-    functions, _ = code("bindings/superio/README.md", "rust", "fn make_turn").split("\nlet mut console")
+    """The turn in the README of rust/superio, around a guest and files that take and give something else each time."""
+    functions, _ = code("rust/superio/README.md", "rust", "fn make_turn").split("\nlet mut console")
     program = edited(functions, [('println!("{work:?}");', "let _ = work;")])
     rules = (ROOT / "tests/documents/turn_rules.rs").read_text("utf-8")
     run_rust(program + rules, "each rule is kept\n", "", built, tmp_path)

@@ -1,5 +1,5 @@
 // SPDX-License-Identifier: Apache-2.0 OR BSD-3-Clause
-// The rules of the turn in the README of bindings/superio, below its functions and in place of its calls. Here stand a
+// The rules of the turn in the README of rust/superio, below its functions and in place of its calls. Here stand a
 // guest, a source that always has more than fits, and a sink that takes less than it is given.
 
 /// What is given counts up. Of three reads one finds nothing, and one is interrupted.

@@ -21,7 +21,7 @@ from monitors import build_monitor, rust_port
 
 IMAGES = ROOT / "out" / "linux"  # what examples/kvm/fetch gets
 # What a record is of: all that a guest's console and clock go through, and what looks at them.
-SOURCES = ["bindings/c/superio.h", "bindings/rust/src", "bindings/superio/src", "crates/superio_c/src",
+SOURCES = ["bindings/c/superio.h", "rust/vm-superio/src", "rust/superio/src", "crates/superio_c/src",
            "crates/superio_console/src", "crates/superio_core/src", "examples/kvm", "prebuilt/SHA256SUMS",
            "tests/kvm/booting.py", "tests/kvm/monitors.py", "tests/kvm/serial", "tests/kvm/test_linux.py",
            "tests/kvm/timeout.c"]

@@ -65,9 +65,9 @@ def installation(libraries, libdir="lib", docdir="share/doc/superio"):
     return {**made, f"{libdir}/libsuperio.so": SHARED}
 
 
-def crate_files(folders=("rust", "superio")):
+def crate_files(folders=("vm-superio", "superio")):
     """What the folders of crates have, beside each other, in the same form."""
-    top = ROOT / "bindings"
+    top = ROOT / "rust"
     paths = [path for name in folders for path in (top / name).rglob("*") if path.is_file()]
     places = {path.relative_to(top).as_posix(): path for path in paths if path.name != "Cargo.lock"}
     return {place: (0o644, path.read_bytes()) for place, path in places.items() if "/target/" not in place}

@@ -17,8 +17,8 @@ PLACES = [
 ]
 # Copies that a package has for itself, of what stands elsewhere: a package takes no file from above it.
 COPIES = {
-    **{f"bindings/{package}/LICENSE-{short}": f"LICENSES/{text}.txt"
-       for package in ("superio", "rust", "c/from-source", "python")
+    **{f"{package}/LICENSE-{short}": f"LICENSES/{text}.txt"
+       for package in ("rust/superio", "rust/vm-superio", "bindings/c/from-source", "bindings/python")
        for short, text in (("APACHE", "Apache-2.0"), ("BSD", "BSD-3-Clause"))},
     "bindings/c/from-source/superio.h": "bindings/c/superio.h",
 }

@@ -17,21 +17,21 @@ RUST = "1.63"       # the oldest, which Debian 12 has
 REPLACED = "0.8.2"  # the version of vm-superio in whose place the crate of that name is
 # Where users read which Rust they need.
 PAGES = ["README.md", "docs/RUST.md", "docs/USING.md",
-         *(f"bindings/{crate}/README.md" for crate in ("superio", "rust", "c/from-source"))]
+         *(f"{crate}/README.md" for crate in ("rust/superio", "rust/vm-superio", "bindings/c/from-source"))]
 
 OF_ALL = {"edition": "2021", "rust-version": RUST}
 PUBLISHED = {**OF_ALL, "license": LICENSES, "readme": "README.md"}
 DEVICES = {"version": VERSION}
 ABORTS = {"panic": "abort"}
 CRATES = {
-    "bindings/superio": {
+    "rust/superio": {
         "package": {
             **PUBLISHED, "name": "superio", "version": VERSION,
             "description": "Proved devices without I/O for virtual machine monitors, such as a 16550 serial port",
             "keywords": ["16550", "pl031", "serial", "emulation", "vmm"], "categories": ["emulators", "no-std"],
             "include": ["/src", "/tests", "/examples", "/README.md", "/LICENSE-*"]},
         "features": {"std": []}},
-    "bindings/rust": {
+    "rust/vm-superio": {
         "package": {
             **PUBLISHED, "name": "vm-superio", "version": REPLACED, "publish": False,
             "description": f"Proved devices with the interface of vm-superio {REPLACED}, such as a 16550 serial port",
@@ -48,18 +48,18 @@ CRATES = {
             "keywords": ["16550", "pl031", "serial", "emulation", "vmm"], "categories": ["emulators", "no-std"],
             "include": ["/src", "/build.rs", "/superio.h", "/README.md", "/LICENSE-*"]},
         "lib": {"name": "superio_c", "crate-type": ["staticlib", "cdylib"], "test": False},
-        "dependencies": {"superio": {**DEVICES, "path": "../../superio"}},
+        "dependencies": {"superio": {**DEVICES, "path": "../../../rust/superio"}},
         "profile": {"dev": ABORTS, "release": {**ABORTS, "lto": True, "codegen-units": 1, "opt-level": 2}},
         "workspace": {}},
     "examples/rust": {
         "package": {**OF_ALL, "name": "echo", "version": "0.1.0", "publish": False},
-        "bin": [{"name": "echo", "path": "../../bindings/superio/examples/echo.rs"}],
-        "dependencies": {"superio": {"path": "../../bindings/superio"}},
+        "bin": [{"name": "echo", "path": "../../rust/superio/examples/echo.rs"}],
+        "dependencies": {"superio": {"path": "../../rust/superio"}},
         "workspace": {}},
     "tests/kvm/serial": {
         "package": {**OF_ALL, "name": "kvm-serial", "version": "0.1.0", "publish": False},
         "lib": {"name": "kvm_serial", "crate-type": ["staticlib"]},
-        "dependencies": {"vm-superio": {"path": "../../../bindings/rust"}},
+        "dependencies": {"vm-superio": {"path": "../../../rust/vm-superio"}},
         "profile": {"release": ABORTS},
         "workspace": {}},
 }

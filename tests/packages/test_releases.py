@@ -287,7 +287,7 @@ def test_properties_of_the_packaged_library(packages):
 @needs_debian
 def test_tests_of_the_packages(packages, debian):
     [shared] = packages[1].rglob(SHARED)
-    goals = ["installcheck", "installcheck-rust", f"CRATE={packages[1]}/usr/share/superio/rust"]
+    goals = ["installcheck", "installcheck-rust", f"CRATE={packages[1]}/usr/share/superio/vm-superio"]
     check(["make", "-s", *goals], cwd=debian, env=finding(shared.parent, OF_DEBIAN))
 
 

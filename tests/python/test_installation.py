@@ -36,7 +36,7 @@ MACHINES = sorted(path.parent.name.partition("-")[0] for path in ROOT.glob(f"pre
 TAGS = "manylinux_2_17_{0}.manylinux2014_{0}.musllinux_1_1_{0}"
 
 
-SOURCES = at_least(17, [*(PACKAGE / "superio").glob("*.py"), PACKAGE / "setup.py", ROOT / "superio",
+SOURCES = at_least(17, [*(PACKAGE / "superio").glob("*.py"), PACKAGE / "setup.py", ROOT / "shell",
                         *(ROOT / "examples" / "python").glob("*.py")])
 
 

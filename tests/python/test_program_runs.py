@@ -1,5 +1,5 @@
 # SPDX-License-Identifier: Apache-2.0 OR BSD-3-Clause
-"""Scripts as `./superio` runs them without the shell: in all that a run shows, as the program of the kit. Run the
+"""Scripts as `./shell` runs them without the shell: in all that a run shows, as the program of the kit. Run the
 tests of that program by hand over this one, with `--program superio`: tests/devices/test_scripts.py, test_reading.py
 and test_failing_io.py."""
 import os
@@ -105,4 +105,4 @@ def test_the_launcher_runs_the_package_beside_it(tmp_path):
     """Whatever other one a user has installed, or names in PYTHONPATH."""
     (tmp_path / "superio").mkdir()
     (tmp_path / "superio" / "__init__.py").write_text("raise SystemExit('another package')\n", "utf-8")
-    check([ROOT / "superio"], "00\n", input="kr 04\n", env={**os.environ, "PYTHONPATH": str(tmp_path)}, cwd=tmp_path)
+    check([ROOT / "shell"], "00\n", input="kr 04\n", env={**os.environ, "PYTHONPATH": str(tmp_path)}, cwd=tmp_path)

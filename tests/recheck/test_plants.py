@@ -12,7 +12,7 @@ import rerun
 import statements
 
 JOBS = len(os.sched_getaffinity(0))
-DEVICES, SHELL, SPECS = "bindings/superio/src/devices/", "bindings/rust/src/", "crates/"
+DEVICES, SHELL, SPECS = "rust/superio/src/devices/", "rust/vm-superio/src/", "crates/"
 C_FUNCTIONS = "bindings/c/from-source/src/lib.rs"
 FIFO, CODE, SAVED, CLOCK = {"Fifo"}, {"PortCode"}, {"Saved"}, {"Clock"}
 
@@ -78,7 +78,7 @@ WRONG += [(C_FUNCTIONS, old, new, {"Saved", "CFunctions"}) for old, new in [
     ("const LOADED: u32 = 0", "const LOADED: u32 = 1"),
     ("const NEVER: u64 = u64::MAX", "const NEVER: u64 = 0"),
 ]]
-CONSOLE, RING, CALLS, SAVED_CONSOLE = "bindings/superio/src/console/", {"OutputRing"}, {"ConsoleCode"}, {"ConsoleSaved"}
+CONSOLE, RING, CALLS, SAVED_CONSOLE = "rust/superio/src/console/", {"OutputRing"}, {"ConsoleCode"}, {"ConsoleSaved"}
 WRONG += [(CONSOLE + file, old, new, proofs) for file, old, new, proofs in [
     ("output_ring.rs", "+ distance) % OUTPUT_SIZE", "+ distance) % 4095", RING),
     ("output_ring.rs", "if waiting == OUTPUT_SIZE {", "if waiting == 4095 {", RING),
@@ -180,8 +180,8 @@ WEAKER = [
 
 def copy_sources(folder):
     """What the run reads of the repository, except recheck."""
-    for source in ("superio", "rust", "c"):
-        shutil.copytree(ROOT / "bindings" / source, folder / "bindings" / source, ignore=shutil.ignore_patterns("target"))
+    for source in ("rust/superio", "rust/vm-superio", "bindings/c"):
+        shutil.copytree(ROOT / source, folder / source, ignore=shutil.ignore_patterns("target"))
     for crate in ("superio_core", "superio_laws", "superio_console", "vm_superio"):
         shutil.copytree(ROOT / SPECS / crate / "specs", folder / SPECS / crate / "specs")
 

@@ -14,7 +14,7 @@ import expanded
 import rerun
 import rust2coq
 
-CORE = "bindings/superio/src/"
+CORE = "rust/superio/src/"
 QUICK = "pub(crate) fn guest_time(_offset: i64, time: u32) -> u32 {\n    time\n}\n"
 INHERENT = """impl<T: crate::Trigger, EV: crate::serial::SerialEvents, W: std::io::Write> crate::Serial<T, EV, W> {
     pub fn character_timeout(&mut self) -> Result<(), crate::serial::Error<T::E>> { Ok(()) }
@@ -60,10 +60,10 @@ CHANGES = {
     "another binary interface": ([(C_FUNCTIONS, "ABI: u32 = 5", "ABI: u32 = 6")], "SUPERIO_ABI is not ABI"),
     "parameters in another order": ([(C_FUNCTIONS, "superio_i8042_write(offset: u8, value: u8)", "superio_i8042_write(value: u8, offset: u8)")],
                                     "superio.h: superio_i8042_write"),
-    "another crate superio": ([("bindings/rust/Cargo.toml", '"../superio"', '"../other"')], "bindings/rust/Cargo.toml: dependencies: superio: path: ../other"),
-    "a patch": ([("bindings/rust/Cargo.toml", "", '[patch.crates-io]\nsuperio = { path = "../other" }\n')], "bindings/rust/Cargo.toml: patch"),
-    "another root": ([("bindings/rust/Cargo.toml", "[lib]\n", '[lib]\npath = "src/other.rs"\n')], "bindings/rust/Cargo.toml: lib: path"),
-    "a build script": ([("bindings/superio/build.rs", None, "fn main() {}\n")], "bindings/superio/build.rs"),
+    "another crate superio": ([("rust/vm-superio/Cargo.toml", '"../superio"', '"../other"')], "rust/vm-superio/Cargo.toml: dependencies: superio: path: ../other"),
+    "a patch": ([("rust/vm-superio/Cargo.toml", "", '[patch.crates-io]\nsuperio = { path = "../other" }\n')], "rust/vm-superio/Cargo.toml: patch"),
+    "another root": ([("rust/vm-superio/Cargo.toml", "[lib]\n", '[lib]\npath = "src/other.rs"\n')], "rust/vm-superio/Cargo.toml: lib: path"),
+    "a build script": ([("rust/superio/build.rs", None, "fn main() {}\n")], "rust/superio/build.rs"),
     "a carriage return": ([(DEVICES + "i8042.rs", "    offset ==", "    // \r    return true;\n    offset ==")], "a carriage return"),
     "a workspace above": ([("bindings/Cargo.toml", None, "[workspace]\n")], "has settings of Cargo"),
     "an implementation of Clone": ([(DEVICES + "fifo.rs", "", "impl Clone for ArrayFifo { fn clone(&self) -> ArrayFifo { ArrayFifo::new() } }\n")],
@@ -78,7 +78,7 @@ CHANGES = {
                                "SUPERIO_SERIAL_SAVED_MAX is not SAVED_MAX"),
     "another number of a fault in C": ([(f"bindings/c/{folder}superio.h", "OTHER_DEVICE = 3", "OTHER_DEVICE = 4") for folder in ("", "from-source/")],
                                        "superio.h: otherdevice: 4, and in Rust 3"),
-    "settings of Cargo": ([("bindings/superio/.cargo/config.toml", None, "")], "bindings/superio/.cargo"),
+    "settings of Cargo": ([("rust/superio/.cargo/config.toml", None, "")], "rust/superio/.cargo"),
 }
 
 HEADERS = ("bindings/c/superio.h", "bindings/c/from-source/superio.h")
@@ -146,13 +146,13 @@ CHANGES |= {
     "a private function of no known form": ([(SHELL + "i8042.rs", "", "fn quick() {\n    for _turn in 0..3 {}\n}\n")], "a loop"),
     "a build script that sets a condition": ([("bindings/c/from-source/build.rs", "fn main() {", 'fn main() {\n    println!("cargo:rustc-cfg=quick");')],
                                              "bindings/c/from-source/build.rs"),
-    "another edition": ([("bindings/superio/Cargo.toml", 'edition = "2021"', 'edition = "2018"')], "bindings/superio/Cargo.toml: package: edition: 2018"),
+    "another edition": ([("rust/superio/Cargo.toml", 'edition = "2021"', 'edition = "2018"')], "rust/superio/Cargo.toml: package: edition: 2018"),
     "checks that are off": ([("bindings/c/from-source/Cargo.toml", "opt-level = 2", "opt-level = 2\noverflow-checks = false")],
                             "bindings/c/from-source/Cargo.toml: profile: release: overflow-checks"),
-    "a build script under another name": ([("bindings/rust/Cargo.toml", 'edition = "2021"', 'edition = "2021"\nbuild = "other.rs"')],
-                                          "bindings/rust/Cargo.toml: package: build"),
-    "another compiler": ([("bindings/rust-toolchain.toml", None, '[toolchain]\npath = "other"\n')], "bindings has settings of Cargo"),
-    "another compiler of a crate": ([("bindings/superio/rust-toolchain", None, "other\n")], "bindings/superio/rust-toolchain"),
+    "a build script under another name": ([("rust/vm-superio/Cargo.toml", 'edition = "2021"', 'edition = "2021"\nbuild = "other.rs"')],
+                                          "rust/vm-superio/Cargo.toml: package: build"),
+    "another compiler": ([("rust/rust-toolchain.toml", None, '[toolchain]\npath = "other"\n')], "rust has settings of Cargo"),
+    "another compiler of a crate": ([("rust/superio/rust-toolchain", None, "other\n")], "rust/superio/rust-toolchain"),
     "an aligned field of C": (in_header("    uint8_t scratch; ", "    _Alignas(16) uint8_t scratch; "), "superio.h: _Alignas"),
     "a field of some bits": (in_header("    uint8_t scratch; ", "    uint8_t scratch : 4; "), "superio.h: superio_serial: "),
     "a packed struct of C": (in_header("} superio_serial;", "} __attribute__((packed)) superio_serial;"), "superio.h: packed"),
@@ -166,7 +166,7 @@ CHANGES |= {
     "two files of a module": ([(DEVICES + "fifo/mod.rs", None, "")], "devices/fifo.rs: a file without its `mod`"),
     # What is lacking.
     **{f"{folder} without an edition": ([(f"{folder}/Cargo.toml", 'edition = "2021"\n', "")], f"{folder}/Cargo.toml: package: no edition")
-       for folder in ("bindings/superio", "bindings/rust", "bindings/c/from-source")},
+       for folder in ("rust/superio", "rust/vm-superio", "bindings/c/from-source")},
     **{f"the C crate without {line}": ([("bindings/c/from-source/Cargo.toml", f"{line}\n", "")], f"bindings/c/from-source/Cargo.toml: {why}")
        for line, why in {'crate-type = ["staticlib", "cdylib"]': "lib: no crate-type", "lto = true": "profile: release: no lto",
                          "opt-level = 2": "profile: release: no opt-level", "[workspace]": "no workspace"}.items()},
@@ -206,9 +206,9 @@ def test_refused(name, sources, tmp_path):
 # What Cargo and rustup read in a folder, for all that is built below it: in each folder from the root to the three crates,
 # and in these, where a build script counts too.
 SETTINGS = [".cargo", "rust-toolchain", "rust-toolchain.toml"]
-BESIDE = [*((folder, name) for folder in (".", "bindings", "bindings/c") for name in ["Cargo.toml", *SETTINGS]),
-          *((crate, name) for crate in ("bindings/superio", "bindings/rust", "bindings/c/from-source") for name in SETTINGS),
-          ("bindings/superio", "build.rs"), ("bindings/rust", "build.rs")]
+BESIDE = [*((folder, name) for folder in (".", "rust", "bindings", "bindings/c") for name in ["Cargo.toml", *SETTINGS]),
+          *((crate, name) for crate in ("rust/superio", "rust/vm-superio", "bindings/c/from-source") for name in SETTINGS),
+          ("rust/superio", "build.rs"), ("rust/vm-superio", "build.rs")]
 
 
 @pytest.mark.parametrize("folder, name", BESIDE)

@@ -14,7 +14,7 @@ from harness import ROOT, check
 pytestmark = pytest.mark.needs("cargo", "git")
 
 # The folders of the crates that are packed, each after those on which it depends.
-PACKAGES = ["bindings/superio", "bindings/rust", "bindings/c/from-source"]
+PACKAGES = ["rust/superio", "rust/vm-superio", "bindings/c/from-source"]
 LICENSES = {"LICENSE-APACHE": "Apache-2.0.txt", "LICENSE-BSD": "BSD-3-Clause.txt"}
 # What Cargo writes into a package, or beside it. The manifest of the folder is in the package under another name.
 WRITTEN = {".cargo_vcs_info.json", "Cargo.lock", ".cargo-checksum.json", "Cargo.toml"}

@@ -1,5 +1,5 @@
 # SPDX-License-Identifier: Apache-2.0 OR BSD-3-Clause
-"""bindings/rust and bindings/superio, on which it stands, as those who use them would have them. tools/check runs their
+"""rust/vm-superio and rust/superio, on which it stands, as those who use them would have them. tools/check runs their
 own tests by `cargo test`, with checks of overflow; here they run as released, with Debian's Rust and on other
 processors.
 """
@@ -10,7 +10,7 @@ import sys
 from pathlib import Path
 
 import pytest
-from common.cargo import BINDINGS, DEVICES, Cargo, add_crate, copied_crate
+from common.cargo import DROP_IN, DEVICES, Cargo, add_crate, copied_crate
 from common.comparison import ORIGINAL, Comparison
 from harness import ROOT, at_least, check
 from places import PLACES
@@ -20,7 +20,7 @@ from toolchains import toolchain_for, toolchains
 
 pytestmark = pytest.mark.needs("cargo")
 
-CRATES = pytest.mark.parametrize("crate", [DEVICES, BINDINGS], ids=lambda it: it.name)
+CRATES = pytest.mark.parametrize("crate", [DEVICES, DROP_IN], ids=lambda it: it.name)
 # Where the two languages might evaluate the same text in another order.
 ORDER_LINTS = ["-D", "clippy::mixed_read_write_in_expression", "-D", "clippy::diverging_sub_expression"]
 # Where Debian's packages put crates.
@@ -74,7 +74,7 @@ def test_as_released(crate, tmp_path):
 
 
 @pytest.mark.needs("debian-rust")
-@pytest.mark.parametrize("crate, of_documentation", [(DEVICES, 5), (BINDINGS, 9)], ids=["superio", "rust"])
+@pytest.mark.parametrize("crate, of_documentation", [(DEVICES, 5), (DROP_IN, 9)], ids=["superio", "rust"])
 def test_with_the_oldest_rust(crate, of_documentation, tmp_path):
     assert copied_crate(tmp_path, oldest(), crate).test() >= number_of_tests(crate) + of_documentation
 
@@ -102,7 +102,7 @@ def test_on(target, crate, tmp_path):
 
 def test_drop_in(tmp_path):
     """The program that makes calls compiles over the crate with the names of vm-superio 0.8.2 alone."""
-    built = Comparison(tmp_path, BINDINGS).build()
+    built = Comparison(tmp_path, DROP_IN).build()
     assert built.returncode == 0, built.stdout
 
 
@@ -123,7 +123,7 @@ def test_sansio_is_superio(tmp_path):
     sources = DEVICES / "src"
     paths = at_least(55, [*public_paths(sources / "lib.rs"), *public_paths(sources / "devices" / "mod.rs")])
     code = "".join(f"pub use vm_superio::sansio::{path} as public_{at};\n" for at, path in enumerate(paths))
-    add_crate(tmp_path, code, f'[dependencies]\nvm-superio = {{ path = "{BINDINGS}" }}\n')
+    add_crate(tmp_path, code, f'[dependencies]\nvm-superio = {{ path = "{DROP_IN}" }}\n')
     Cargo(tmp_path).check("check")
 
 
@@ -150,7 +150,7 @@ def test_states_through_serde():
 bincode = "1"
 serde = "1"
 serde_json = "1"
-vm-superio = {{ path = "{BINDINGS}", features = ["serde"] }}
+vm-superio = {{ path = "{DROP_IN}", features = ["serde"] }}
 """)
         cargo = Cargo(folder, oldest(), DEBIAN)
         cargo.check("clean", *(f"--package={name}" for name in ("states", "superio", "vm-superio")))

@@ -64,7 +64,7 @@ class Machine:
             copy = shutil.copytree if (ROOT / it).is_dir() else shutil.copy
             (self.top / it).parent.mkdir(parents=True, exist_ok=True)
             copy(ROOT / it, self.top / it)
-        for it in ("bindings/rust", "bindings/superio", "crates/a/must-fail", "crates/a/src", "recheck"):
+        for it in ("rust/vm-superio", "rust/superio", "crates/a/must-fail", "crates/a/src", "recheck"):
             (self.top / it).mkdir(parents=True)
         (self.top / "crates/a/must-fail/a.edit").touch()
         (self.top / "crates/a/src/lib.rt").write_text("mod a {\n    #[test]\n}\n", "utf-8")
@@ -143,7 +143,7 @@ FAILING = {
     "rt ci says so": lambda it: it.stand_in("rt", STAND_INS["rt"] + ", 1 failed"),
     "rt ci tries no edit": lambda it: it.stand_in("rt", "echo 'test result: ok. 1 passed'; echo 2 passed"),
     **{f"the tests of bindings/{crate} fail": lambda it, crate=crate: it.stand_in(
-        "cargo", f"{STAND_INS['cargo']}; case $PWD in */{crate}) exit 101; esac") for crate in ("superio", "rust")},
+        "cargo", f"{STAND_INS['cargo']}; case $PWD in */{crate}) exit 101; esac") for crate in ("superio", "vm-superio")},
     "cargo tests nothing": lambda it: it.stand_in("cargo", ""),
     "pytest ends badly": lambda it: it.pytest("4 passed in 1s", 1),
     "pytest says so": lambda it: it.pytest("1 failed, 4 passed in 1s", 0),

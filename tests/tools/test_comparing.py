@@ -312,14 +312,14 @@ def test_functions_of_a_source(source):
 
 
 def test_erased(tmp_path, monkeypatch):
-    """The files of bindings/superio are compared with all of what tools/erase makes, in each of the folders."""
-    folders = ["crates/superio_core/src", "crates/superio_console/src", "bindings/superio/src"]
+    """The files of rust/superio are compared with all of what tools/erase makes, in each of the folders."""
+    folders = ["crates/superio_core/src", "crates/superio_console/src", "rust/superio/src"]
     for it in ("tools", *folders):
         shutil.copytree(ROOT / it, tmp_path / it, ignore=shutil.ignore_patterns(*BUILT))
     check([sys.executable, tmp_path / "tools" / "erase"], "")
     monkeypatch.setattr(test_crates, "ROOT", tmp_path)
     test_crates.test_erased()
-    for it in (*folders[:2], "bindings/superio/src/devices", "bindings/superio/src/console"):
+    for it in (*folders[:2], "rust/superio/src/devices", "rust/superio/src/console"):
         path = max(path for path in (tmp_path / it).rglob("*") if path.is_file())
         before = path.read_bytes()
         path.write_bytes(before + b"// more\n")
@@ -338,7 +338,7 @@ def test_what_rustc_reads(tmp_path, monkeypatch):
         if it == words:
             assert [count > 900 for _, count in compared] == [True]
         else:
-            with pytest.raises(rust2coq.Refused, match="^bindings/superio: rustc reads .*, and here stands "):
+            with pytest.raises(rust2coq.Refused, match="^rust/superio: rustc reads .*, and here stands "):
                 [*compared]
 
 

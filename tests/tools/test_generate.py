@@ -8,7 +8,7 @@ import sys
 
 import pytest
 import rerun
-from common.cargo import BINDINGS, DEVICES
+from common.cargo import DROP_IN, DEVICES
 from common.comparison import COMPARISON
 from generators import counts, libraries, module
 from generators.facts import MODULE
@@ -126,7 +126,7 @@ NAMED = {
     "statements": [*(path for ending in (".py", ".v", ".txt", ".rs") for path in sources("recheck", ending=ending)),
                    ROOT / "docs/PROOFS.md", *sources(*rerun.CRATES.values()),
                    *sources(*(ROOT / "crates").glob("*/specs"), ending=".antt")],
-    "counts": [*sources(DEVICES / "src", BINDINGS / "src"), *sources(COMPARISON, ending=".*"), counts.C_LIBRARY,
+    "counts": [*sources(DEVICES / "src", DROP_IN / "src"), *sources(COMPARISON, ending=".*"), counts.C_LIBRARY,
                libraries.HEADER, ROOT / "tools/generators/counts.py"],
 }
 

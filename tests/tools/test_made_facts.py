@@ -15,7 +15,7 @@ ADDED = {
         '            SavedStateError::Flood(_) => write!(f, "A flood"),\n',
     "crates/superio_c/src/saved.rt": RUST,
     "crates/superio_c/specs/Saved.antt": f"load_status (Some (Flood _)) = {NUMBER}\n",
-    "bindings/superio/src/printed.rs": PRINTED,
+    "rust/superio/src/printed.rs": PRINTED,
     "recheck/left-out.rs": PRINTED,
     "bindings/c/from-source/src/lib.rs": RUST,
     "recheck/Calls.v": f"  | SavedStateError_Flood _ => {NUMBER}\n",

@@ -1,5 +1,5 @@
 # SPDX-License-Identifier: Apache-2.0 OR BSD-3-Clause
-"""Cargo without a network, in copies of the crates of bindings/rust and bindings/superio and for programs over them."""
+"""Cargo without a network, in copies of the crates of rust/vm-superio and rust/superio and for programs over them."""
 import os
 import re
 import shutil
@@ -8,7 +8,7 @@ from pathlib import Path
 from common.commands import ROOT, run
 
 # The drop-in for vm-superio, and the devices without I/O, on which it stands.
-BINDINGS, DEVICES = ROOT / "bindings" / "rust", ROOT / "bindings" / "superio"
+DROP_IN, DEVICES = ROOT / "rust" / "vm-superio", ROOT / "rust" / "superio"
 # Debian's compiler, beside which another may come first in PATH.
 DEBIAN_RUSTC = Path("/usr/bin/rustc")
 # Most is built once, and nothing is debugged: a linker takes a second for what a debugger needs of Rust's own library.
@@ -58,7 +58,7 @@ class Cargo:
         return sum(map(int, re.findall(r"^test result: ok\. (\d+) passed", said, flags=re.M)))
 
 
-def copied_crate(folder, toolchain=None, crate=BINDINGS):
+def copied_crate(folder, toolchain=None, crate=DROP_IN):
     """Cargo in a copy of a crate, beside which stands the one of the devices without I/O: a Cargo.lock with an empty
     serde would not do for who has another."""
     for it in {crate, DEVICES}:

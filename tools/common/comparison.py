@@ -1,15 +1,15 @@
 # SPDX-License-Identifier: Apache-2.0 OR BSD-3-Clause
-"""The programs of tests/compare, over bindings/rust or over vm-superio 0.8.2."""
+"""The programs of tests/compare, over rust/vm-superio or over vm-superio 0.8.2."""
 import os
 from pathlib import Path
 
-from common.cargo import BINDINGS, Cargo, add_crate
+from common.cargo import DROP_IN, Cargo, add_crate
 from common.commands import ROOT, run
 
 COMPARISON = ROOT / "tests" / "compare"
 # The folder of vm-superio 0.8.2.
 ORIGINAL = Path(os.environ["VM_SUPERIO"]).resolve() if "VM_SUPERIO" in os.environ else None
-# A program over bindings/rust or, without the feature `further`, over a vm-superio, which it takes by the line of the
+# A program over rust/vm-superio or, without the feature `further`, over a vm-superio, which it takes by the line of the
 # README. It needs no default feature of it.
 PROGRAM = """
 [lib]
@@ -32,10 +32,10 @@ overflow-checks = true
 
 
 class Comparison(Cargo):
-    """A program of tests/compare, over bindings/rust or over a vm-superio, with some features of its own."""
+    """A program of tests/compare, over rust/vm-superio or over a vm-superio, with some features of its own."""
 
     def __init__(self, folder, crate=None, name="compare", features=()):
-        add_crate(folder, None, PROGRAM.format(name, COMPARISON, crate or BINDINGS))
+        add_crate(folder, None, PROGRAM.format(name, COMPARISON, crate or DROP_IN))
         super().__init__(folder)
         self.features = ["--features", ",".join([*features, *([] if crate else ["further"])])]
         self.program = folder / "target" / "release" / name

@@ -29,7 +29,7 @@ ROWS = {
         '            SavedStateError::{case}[(_)] => write!(f, "{text}"),',
     "crates/superio_c/src/saved.rt": NUMBERED,
     "crates/superio_c/specs/Saved.antt": "load_status (Some [(]{case}[ _)]) = {number}",
-    "bindings/superio/src/printed.rs": PRINTED,
+    "rust/superio/src/printed.rs": PRINTED,
     "bindings/c/from-source/src/lib.rs": NUMBERED,
     "recheck/left-out.rs": PRINTED,
     "recheck/Calls.v": "  | SavedStateError_{case}[ _] => {number}",
@@ -46,8 +46,8 @@ SOURCE = "bindings/c/from-source"
 PLACES = [
     ("bindings/js/package.json", r'^  "version": "(.+)",$', VERSION),
     ("bindings/python/superio/__init__.py", r'^__version__ = "(.+)"$', VERSION),
-    ("bindings/superio/Cargo.toml", r'^version = "(.+)"$', VERSION),
-    ("bindings/rust/Cargo.toml", r'^superio = \{ version = "(.+?)"', VERSION),
+    ("rust/superio/Cargo.toml", r'^version = "(.+)"$', VERSION),
+    ("rust/vm-superio/Cargo.toml", r'^superio = \{ version = "(.+?)"', VERSION),
     (f"{SOURCE}/Cargo.toml", r'^version = "(.+)"$', VERSION),
     (f"{SOURCE}/Cargo.toml", r'^superio = \{ version = "(.+?)"', VERSION),
     (C_HEADER, r'^#define SUPERIO_VERSION "(.+)"$', VERSION),
@@ -67,7 +67,7 @@ PLACES = [
     (C_HEADER, r"^#define SUPERIO_CONSOLE_SAVED_MAX (\d+)$", CONSOLE_SAVED[1]),
     (C_HEADER, r"^#define SUPERIO_RTC_SAVED_SIZE (\d+)$", CLOCK_SAVED),
     # The version of the encoding.
-    ("bindings/superio/tests/all/console_calls.rs", r"^const VERSION: u8 = (\d+);$", ENCODING["version"]),
+    ("rust/superio/tests/all/console_calls.rs", r"^const VERSION: u8 = (\d+);$", ENCODING["version"]),
     # The names of the errors.
     ("crates/superio_c/specs/Saved.antt", r"\.SavedStateError\.TheVariants\.\{(.+)\}$",
      ", ".join(it["case"] for it in ERRORS)),

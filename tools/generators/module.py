@@ -26,7 +26,7 @@ from superio.saved import SAVED_STATE_ERRORS
 
 TARGET, MODULE = "wasm32-unknown-unknown", "wasm32/superio.wasm"
 # The functions of the module, and the crate of the devices.
-SOURCES, DEVICES = "bindings/c/from-source/src", "bindings/superio/src"
+SOURCES, DEVICES = "bindings/c/from-source/src", "rust/superio/src"
 EMBEDDED = ROOT / "bindings" / "js" / "module.mjs"
 DECLARED = ROOT / "bindings" / "js" / "superio.d.ts"
 # The compiler whose bytes the repository holds, the library of its target, and Debian's packages that have them.

@@ -1,5 +1,5 @@
 # SPDX-License-Identifier: Apache-2.0 OR BSD-3-Clause
-"""The command line of `python3 -m superio` and of `./superio`: a script, the shell, or the viewer of a trace."""
+"""The command line of `python3 -m superio` and of `./shell`: a script, the shell, or the viewer of a trace."""
 import argparse
 import os
 import signal

@@ -1,7 +1,7 @@
 /* SPDX-License-Identifier: Apache-2.0 OR BSD-3-Clause */
 /*
  * The serial port of superio.h in C, for a verifier of C. By hand, from the Rust code of
- * bindings/superio/src/devices/serial.rs. compare.c compares both by random calls. With ABSTRACT_BYTES the FIFO does
+ * rust/superio/src/devices/serial.rs. compare.c compares both by random calls. With ABSTRACT_BYTES the FIFO does
  * not keep what its bytes are: each byte that is read out may be any byte. All else is the same.
  */
 #include "superio.h"

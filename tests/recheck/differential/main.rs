@@ -1,12 +1,12 @@
 // SPDX-License-Identifier: Apache-2.0 OR BSD-3-Clause
 //! Makes random calls of every public function, and prints how many, and a sum of all that they return and leave.
 //! Differential.v does the same with the translation: the same numbers, in the same order.
-#[path = "../../../bindings/superio/src/console/mod.rs"]
+#[path = "../../../rust/superio/src/console/mod.rs"]
 mod console;
-#[path = "../../../bindings/superio/src/devices/mod.rs"]
+#[path = "../../../rust/superio/src/devices/mod.rs"]
 #[allow(dead_code, unused_imports)]
 mod devices;
-#[path = "../../../bindings/superio/src/printed.rs"]
+#[path = "../../../rust/superio/src/printed.rs"]
 mod printed;
 
 use console::saved::CONSOLE_SAVED_MAX;
