@@ -30,7 +30,7 @@ EVEN, ODD = [1000], [1, 7, 64, 65, 300, 1000, 255, 257]
 # After how many seconds what does not come counts as what never comes, and how many a stall is looked at.
 PATIENCE, STALL = LIMIT, 8
 CLOCK = 0xD0000
-RTCDR, RTCMR, RTCLR, RTCIMSC, RTCMIS, RTCICR = (CLOCK + it for it in (0x000, 0x004, 0x008, 0x010, 0x018, 0x01C))
+RTCDR, RTCMR, RTCLR, RTCIMSC, RTCMIS, RTCICR = (CLOCK + offset for offset in (0x000, 0x004, 0x008, 0x010, 0x018, 0x01C))
 SET_TO = 0x10000000  # in 1978
 
 
