@@ -13,9 +13,9 @@ from itertools import product
 import oracle
 import pytest
 from board import Board
+from facts import CLOCK_AT, FRESH
 from harness import LIMIT
 from made import ENDS
-from pages import CLOCK_AT, FRESH
 from script import line_of, replies_of
 from script_tests import Script, joined
 

@@ -23,8 +23,8 @@ def numbers(text):
     return [int(digits, 16) for digits in re.findall(r"0x([0-9A-Fa-f]+)", text)]
 
 
-REGISTER_MAP, STATE, STEP, RTC = (read(SPECS / name) for name in (
-    "Serial/RegisterMap.antt", "Serial.antt", "Serial/Step.antt", "Rtc.antt"))
+REGISTER_MAP, STATE, STEP, RTC, SIZES = (read(SPECS / name) for name in (
+    "Serial/RegisterMap.antt", "Serial.antt", "Serial/Step.antt", "Rtc.antt", "Sizes.antt"))
 HEADER, PAGE = read(ROOT / "bindings" / "c" / "superio.h"), " ".join(Document("docs/DEVICES.md").text.split())
 
 
@@ -54,7 +54,7 @@ def port_registers():
             stated = {*numbers(re.search(rf"\b{field};\s*/\*(.*?)\*/", HEADER)[1])}
             stated -= {FRESH.interrupt_identification, FIFO_BITS}
             yield compare(f"bits of {name} beside those of the texts", set(), stated - {bit for bit, _ in bits})
-    yield compare("the size of the FIFO", FIFO_SIZE, int(re.search(r"min fifo\.len (\d+)", STATE)[1]),
+    yield compare("the size of the FIFO", FIFO_SIZE, int(re.search(r"fifo_size = (\d+)", SIZES)[1]),
                   int(re.search(r"a receive FIFO of (\d+) bytes", PAGE)[1]))
 
 

@@ -61,9 +61,9 @@ WRONG = [(DEVICES + file, old, new, proofs) for file, old, new, proofs in [
 WRONG += [(SPECS + file, old, new, proofs) for file, old, new, proofs in [
     ("superio_core/specs/Serial/Step.antt", "if others == 0 then iir_none_bit", "if others == 0 then 0", {"PortHistory"}),
     ("superio_core/specs/Rtc.antt", "imsc = value % 2", "imsc = value % 4", CLOCK),
-    ("superio_core/specs/Saved.antt", "length state.in_buffer ≤ 64 → serial_fault", "length state.in_buffer ≤ 0 → serial_fault", SAVED),
+    ("superio_core/specs/Saved.antt", "length state.in_buffer ≤ fifo_size → serial_fault", "length state.in_buffer ≤ 0 → serial_fault", SAVED),
     ("superio_core/specs/Serial/RegisterMap.antt", "iir_bit Thre = 0x02", "iir_bit Thre = 0x08", {"PortHistory"}),
-    ("superio_laws/specs/Serial/History/Registers.antt", "take (64 - length held) bytes", "take (63 - length held) bytes", {"PortHistory"}),
+    ("superio_laws/specs/Serial/History/Registers.antt", "take (fifo_size - length held) bytes", "take (63 - length held) bytes", {"PortHistory"}),
     ("superio_laws/specs/Serial/History/Interrupts.antt", "acknowledges Rda kind = is_iir_read kind || is_rbr_read kind",
      "acknowledges Rda kind = is_iir_read kind", {"PortHistory"}),
     ("superio_laws/specs/Serial/Laws/UartRun.antt", "≤ 2 + 2 *", "≤ 1 + 2 *", {"PortLaws"}),
@@ -100,14 +100,14 @@ WRONG += [(CONSOLE + file, old, new, proofs) for file, old, new, proofs in [
     ("mod.rs", "        self.is_asleep = 0;\n        self.is_refused = 0;\n        self.work", "        self.is_refused = 0;\n        self.work", CALLS),
     ("saved.rs", "waiting > rest.len()", "waiting >= rest.len()", SAVED_CONSOLE),
     ("saved.rs", "ALL_BITS: u8 = 0x0F", "ALL_BITS: u8 = 0x1F", SAVED_CONSOLE),
-    ("saved.rs", "is_ready: *flags & READY_BIT", "is_ready: *flags & POLLED_BIT", SAVED_CONSOLE),
-    ("saved.rs", "append(bytes, count, older);\n        let count = append(bytes, count, newer)",
+    ("mod.rs", "is_ready: flags & READY_BIT", "is_ready: flags & POLLED_BIT", SAVED_CONSOLE),
+    ("mod.rs", "append(bytes, count, older);\n        let count = append(bytes, count, newer)",
      "append(bytes, count, newer);\n        let count = append(bytes, count, older)", SAVED_CONSOLE),
 ]]
 WRONG += [(SPECS + "superio_console/specs/" + file, old, new, proofs) for file, old, new, proofs in [
     ("Console.antt", "(c.is_ready || c.is_polled) && not c.is_asleep", "(c.is_ready || c.is_polled)", CALLS),
     ("Console.antt", "retries Turns = true", "retries Turns = false", CALLS),
-    ("OutputRing.antt", "drop (head % 4096) bytes ++ take (head % 4096) bytes", "drop (head % 64) bytes ++ take (head % 64) bytes", RING),
+    ("OutputRing.antt", "drop (head % output_size) bytes ++ take (head % output_size) bytes", "drop (head % 64) bytes ++ take (head % 64) bytes", RING),
     ("Saved.antt", "if nat_lt 15 (slice_index contents 0)", "if nat_lt 31 (slice_index contents 0)", SAVED_CONSOLE),
 ]]
 # Definitions and laws of a console that the laws' proofs refuse.
@@ -120,7 +120,7 @@ WRONG += [(SPECS + "superio_console/specs/" + file, old, new, {"ConsoleLaws"}) f
     ("Console.antt", "refused_after (Reads offset) c = if offset == 2 then false else c.is_refused", "refused_after (Reads offset) c = false"),
     ("Console.antt", "ready_after Resets c = false", "ready_after Resets c = c.is_ready"),
     ("Console.antt", "asleep_after Suspends c = true", "asleep_after Suspends c = c.is_asleep"),
-    ("Console.antt", "if nat_lt (length output) 4096 then output ++ byte ∷ [] else output", "output"),
+    ("Console.antt", "if nat_lt (length output) output_size then output ++ byte ∷ [] else output", "output"),
     ("Laws.antt", "take (length runs) c.port.in_buffer", "take (1 + length runs) c.port.in_buffer"),
 ]]
 WRONG += [(C_FUNCTIONS, old, new, {"CFunctions"}) for old, new in [
@@ -238,6 +238,12 @@ def test_wrong(file, old, new, proofs, checked, tmp_path):
     with pytest.raises(coq.Failed) as failed:
         coq.check(folder, JOBS, changed & with_required(folder, proofs))
     assert str(failed.value).partition(".v is not proved")[0] in proofs, failed.value
+
+
+@pytest.mark.parametrize("file, old", [plant[:2] for plant in [*WRONG, *HARMLESS, *WEAKER]], ids=short)
+def test_is_there(file, old):
+    """What a plant changes is in its file, also where no plant is tried."""
+    assert old in (ROOT / file).read_text(encoding="utf-8")
 
 
 @pytest.mark.where("variable RECHECK_PLANTS")
