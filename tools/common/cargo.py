@@ -61,6 +61,7 @@ class Cargo:
 def copied_crate(folder, toolchain=None, crate=DROP_IN):
     """Cargo in a copy of a crate, beside which stands the one of the devices without I/O: a Cargo.lock with an empty
     serde would not do for who has another."""
-    for it in {crate, DEVICES}:
-        shutil.copytree(it, folder / it.name, ignore=shutil.ignore_patterns("target", "Cargo.lock"), dirs_exist_ok=True)
+    for path in {crate, DEVICES}:
+        shutil.copytree(path, folder / path.name, ignore=shutil.ignore_patterns("target", "Cargo.lock"),
+                        dirs_exist_ok=True)
     return Cargo(folder / crate.name, toolchain)

@@ -12,8 +12,8 @@ SERIAL, CLOCK, CONSOLE = FACTS["serial"], FACTS["clock"], FACTS["console"]
 FIFO_SIZE, OUTPUT_SIZE = FACTS["sizes"]["fifo"], FACTS["sizes"]["output"]
 
 # The registers by their names, and the fields of a port that are registers, by the names of these.
-PORT_REGISTERS = {it["name"]: it for it in SERIAL["registers"]}
-PORT_FIELDS = {it["register"]: it for it in SERIAL["fields"] if "register" in it}
+PORT_REGISTERS = {register["name"]: register for register in SERIAL["registers"]}
+PORT_FIELDS = {field["register"]: field for field in SERIAL["fields"] if "register" in field}
 DLAB, LOOPBACK, FIFO_BITS = (PORT_REGISTERS["LCR"]["bits"]["DLAB"], PORT_REGISTERS["MCR"]["bits"]["LOOP"],
                              PORT_REGISTERS["IIR"]["always"])
 IDENTIFICATION = bytes(CLOCK["identification"]["bytes"])
@@ -23,8 +23,8 @@ BYTES = {"u8": 1, "bool": 1, "u32": 4, "u64": 8, "i64": 8}
 # The parts of a saved state, by the encoding's own rules.
 MAGIC, KINDS = ENCODING["magic"].encode("ascii"), {name: kind for kind, name in enumerate(ENCODING["kinds"], 1)}
 HEADER_SIZE = len(MAGIC) + 4
-CLOCK_CONTENTS = sum(BYTES[it["type"]] for it in CLOCK["fields"])
-CONSOLE_PREFIX = sum(it["bytes"] for it in CONSOLE["saved"] if it["bytes"] not in ("output", "port"))
+CLOCK_CONTENTS = sum(BYTES[field["type"]] for field in CLOCK["fields"])
+CONSOLE_PREFIX = sum(part["bytes"] for part in CONSOLE["saved"] if part["bytes"] not in ("output", "port"))
 # The least and the most bytes of a saved state.
 PORT_SAVED = HEADER_SIZE + len(PORT_FIELDS), HEADER_SIZE + len(PORT_FIELDS) + FIFO_SIZE
 CLOCK_SAVED = HEADER_SIZE + CLOCK_CONTENTS
@@ -58,6 +58,6 @@ def told_of_port(text, name):
     """A text about a register of the port, which may name its bits, what it holds in a new port, and what it always
     shows."""
     register = PORT_REGISTERS[name]
-    bits = {**register.get("bits", {}), **{it: register[it] for it in ("always",) if it in register},
+    bits = {**register.get("bits", {}), **{key: register[key] for key in ("always",) if key in register},
             **({"fresh": PORT_FIELDS[name]["fresh"]} if name in PORT_FIELDS else {})}
-    return told(text, **{it: f"0x{bit:02X}" for it, bit in bits.items()})
+    return told(text, **{key: f"0x{bit:02X}" for key, bit in bits.items()})

@@ -22,7 +22,7 @@ def take_paths():
     if ENVIRONMENT.is_file():
         words = ["bash", "-c", '. "$0" && env -0', ENVIRONMENT]
         said = subprocess.run(words, stdout=subprocess.PIPE, check=True).stdout
-        os.environ.update(it.split("=", 1) for it in os.fsdecode(said).split("\0") if "=" in it)
+        os.environ.update(variable.split("=", 1) for variable in os.fsdecode(said).split("\0") if "=" in variable)
     is_there.cache_clear()
 
 
@@ -31,7 +31,7 @@ def prepare(tools, may_install):
     another system. What is missing still, or may not be installed, its user names."""
     take_paths()
     unpacked = UNPACKED.read_text(encoding="utf-8").split() if UNPACKED.is_file() else ()
-    lacking = [it for it in packages(tools) if it not in unpacked]   # even if nothing finds it there
+    lacking = [package for package in packages(tools) if package not in unpacked]   # even if nothing finds it there
     if not lacking or not may_install:
         return
     if not is_debian_12():

@@ -55,7 +55,7 @@ def crates_below(crate):
     found = []
     for used in lines[crate].split():
         if used in lines:
-            found += [it for it in [*crates_below(used), used] if it not in found]
+            found += [below for below in [*crates_below(used), used] if below not in found]
     return found
 
 
@@ -66,7 +66,7 @@ def path_of(crate):
 
 def is_current(crate):
     """Whether the program of a crate is there, and no older than its sources."""
-    sources = [path for it in [*crates_below(crate), crate] for path in (CRATES / it / "src").rglob("*.rt")]
+    sources = [path for name in [*crates_below(crate), crate] for path in (CRATES / name / "src").rglob("*.rt")]
     program = path_of(crate)
     return program.exists() and program.stat().st_mtime >= max(path.stat().st_mtime for path in sources)
 
@@ -75,7 +75,7 @@ def built_program(crate="superio"):
     """The proved program of a crate, which is proved and built if it is not there or older than its sources."""
     with alone():
         if not is_current(crate):
-            build(*((it, "lib") for it in crates_below(crate)), (crate, "run"))
+            build(*((below, "lib") for below in crates_below(crate)), (crate, "run"))
     return path_of(crate)
 
 

@@ -83,7 +83,8 @@ def advice(tool, more=""):
 
 def packages(tools):
     """The packages of what is missing of some tools."""
-    return sorted({it for tool in tools if tool != "kit" for words in missing(tool).values() for it in words.split()})
+    return sorted({package for tool in tools if tool != "kit"
+                   for words in missing(tool).values() for package in words.split()})
 
 
 if __name__ == "__main__":

@@ -83,7 +83,7 @@ class Row(NamedTuple):
 
     def number_of(self, counts):
         """The number of the row, of what its lists took."""
-        numbers = [it.instructions for it in counts]
+        numbers = [counted.instructions for counted in counts]
         return median_low(numbers) if self.place == "median" else max(numbers)
 
 
@@ -114,7 +114,7 @@ def read_rows():
     rows = []
     for line in DOCUMENT.read_text(encoding="utf-8").splitlines():
         cells = [cell.strip() for cell in line.strip("|").split("|")]
-        columns = next((it for it in (DEVICE_COLUMNS, CONSOLE_COLUMNS) if len(cells) == 2 + len(it)), None)
+        columns = next((names for names in (DEVICE_COLUMNS, CONSOLE_COLUMNS) if len(cells) == 2 + len(names)), None)
         if not columns or "`" not in cells[1]:
             continue
         numbers = {column: cell for column, cell in zip(columns, cells[2:]) if cell}

@@ -70,7 +70,7 @@ PLACES = [
     ("rust/superio/tests/all/console_calls.rs", r"^const VERSION: u8 = (\d+);$", ENCODING["version"]),
     # The names of the errors.
     ("crates/superio_c/specs/Saved.antt", r"\.SavedStateError\.TheVariants\.\{(.+)\}$",
-     ", ".join(it["case"] for it in ERRORS)),
+     ", ".join(error["case"] for error in ERRORS)),
 ]
 
 
@@ -85,10 +85,10 @@ def commented(rows):
 def clock_struct():
     """The fields of the clock's struct."""
     kinds = {"u32": "uint32_t", "i64": "int64_t", "u64": "uint64_t"}
-    fields = {it["name"]: it for it in CLOCK["fields"]}
-    return "".join(commented([(f"    {kinds[it.get('in_struct', it['type'])]} {it['name']};",
-                               it.get("about_in_struct", it["about"]))
-                              for it in map(fields.get, CLOCK["struct"]["fields"])]))
+    fields = {field["name"]: field for field in CLOCK["fields"]}
+    return "".join(commented([(f"    {kinds[field.get('in_struct', field['type'])]} {field['name']};",
+                               field.get("about_in_struct", field["about"]))
+                              for field in map(fields.get, CLOCK["struct"]["fields"])]))
 
 
 def error_enum():
@@ -118,9 +118,9 @@ def rows_of(template):
 
 def rows(template, errors=ERRORS):
     """The rows of these errors."""
-    kept = [re.sub(r"\[(.*?)\]", r"\1" if "holds" in it else "", template) for it in errors]
-    return "".join(row.format(case=it["case"], word=word_of(it), number=number, text=told(it["text"]))
-                   + "\n" for number, (row, it) in enumerate(zip(kept, errors), 1))
+    kept = [re.sub(r"\[(.*?)\]", r"\1" if "holds" in error else "", template) for error in errors]
+    return "".join(row.format(case=error["case"], word=word_of(error), number=number, text=told(error["text"]))
+                   + "\n" for number, (row, error) in enumerate(zip(kept, errors), 1))
 
 
 def replaced(text, form, made):

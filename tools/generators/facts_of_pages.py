@@ -30,26 +30,27 @@ def fresh_of(register):
 def port_registers():
     """A row for each offset and state of DLAB: the register that a read reaches, and the one that a write does."""
     rows = []
-    for read in (it for it in SERIAL["registers"] if "read" in it):
+    for read in (register for register in SERIAL["registers"] if "read" in register):
         place = read["offset"], read.get("dlab", "any")
-        write, = (it["write"] for it in SERIAL["registers"]
-                  if (it["offset"], it.get("dlab", "any")) == place and "write" in it)
+        write, = (register["write"] for register in SERIAL["registers"]
+                  if (register["offset"], register.get("dlab", "any")) == place and "write" in register)
         rows.append([*map(str, place), told_of_port(read["read"], read["name"]), write, fresh_of(read)])
-    most = max(it["offset"] for it in SERIAL["registers"])
+    most = max(register["offset"] for register in SERIAL["registers"])
     heads = ["Offset", "DLAB", "Read", "Write", "In a new port"]
     lines = table(heads, sorted(rows, key=lambda row: row[0]))
     return [*lines, f"| {most + 1} to 0xFF | any | 0 | ignored | |"]
 
 
 def port_bits():
-    return table(["Register", "Bits"], [[name, told_of_port(it["told"], name)]
-                                        for name, it in PORT_REGISTERS.items() if "told" in it])
+    return table(["Register", "Bits"], [[name, told_of_port(register["told"], name)]
+                                        for name, register in PORT_REGISTERS.items() if "told" in register])
 
 
 def clock_registers():
     first = CLOCK["identification"]["first"]
-    rows = [[f"0x{it['offset']:03X}", f"RTC{it['name']}, {it['about'].split(':')[0]}", it.get("read", "is invalid"),
-             it.get("write", "is invalid")] for it in CLOCK["registers"]]
+    rows = [[f"0x{register['offset']:03X}", f"RTC{register['name']}, {register['about'].split(':')[0]}",
+             register.get("read", "is invalid"), register.get("write", "is invalid")]
+            for register in CLOCK["registers"]]
     last = first + 4 * len(IDENTIFICATION) - 1
     return table(["Offset", "Register", "A read shows", "A write of v"], [
         *rows, [f"0x{first:03X} to 0x{last:03X}", "identification", "one byte, then three zero bytes", "is invalid"],
@@ -83,27 +84,28 @@ def places(rows, start=HEADER_SIZE):
     return table(["Offset", "Size", "Contents"], lines)
 
 
-def saved_words(it, prefix=""):
+def saved_words(field, prefix=""):
     """What a field of a saved state is."""
-    words = it.get("saved") or f"`{it['name']}`, {prefix}{it['register']}"
-    return told_of_port(words, it["register"]) if it.get("register") in PORT_FIELDS else told(words, ",")
+    words = field.get("saved") or f"`{field['name']}`, {prefix}{field['register']}"
+    return told_of_port(words, field["register"]) if field.get("register") in PORT_FIELDS else told(words, ",")
 
 
 def port_contents():
-    return places([(BYTES.get(it["type"], (0, FIFO_SIZE)), saved_words(it)) for it in SERIAL["fields"]])
+    return places([(BYTES.get(field["type"], (0, FIFO_SIZE)), saved_words(field)) for field in SERIAL["fields"]])
 
 
 def clock_contents():
-    return places([(BYTES[it["type"]], saved_words(it, "RTC")) for it in CLOCK["fields"]])
+    return places([(BYTES[field["type"]], saved_words(field, "RTC")) for field in CLOCK["fields"]])
 
 
 def console_contents():
     sizes = {"output": (0, OUTPUT_SIZE), "port": PORT_SAVED}
-    return places([(sizes.get(it["bytes"], it["bytes"]), told(it["words"], ",")) for it in CONSOLE["saved"]])
+    return places([(sizes.get(part["bytes"], part["bytes"]), told(part["words"], ",")) for part in CONSOLE["saved"]])
 
 
 def flags():
-    return table(["Flag", "Meaning"], [[hexes([it["flag"]]), it["saved"]] for it in CONSOLE["fields"] if "flag" in it])
+    return table(["Flag", "Meaning"], [[hexes([field["flag"]]), field["saved"]]
+                                       for field in CONSOLE["fields"] if "flag" in field])
 
 
 def sizes(least, most, more=""):
@@ -114,8 +116,8 @@ def sizes(least, most, more=""):
 
 def errors():
     return table(["Error", "C returns", "Reason", "What is checked"], [
-        [f"`{it['case']}`", str(number), f"`{word_of(it)}`", told(it["checked"], ",")]
-        for number, it in enumerate(ERRORS, 1)])
+        [f"`{error['case']}`", str(number), f"`{word_of(error)}`", told(error["checked"], ",")]
+        for number, error in enumerate(ERRORS, 1)])
 
 
 def lengths():

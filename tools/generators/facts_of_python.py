@@ -37,33 +37,35 @@ def row(name, offset, about, bits, dlab, reads, writes):
 
 
 def port_rows():
-    return [row(it["name"], it["offset"], it["about"], bits_of(it), it.get("dlab"), it.get("read"), it.get("write"))
-            for it in SERIAL["registers"]]
+    return [row(register["name"], register["offset"], register["about"], bits_of(register), register.get("dlab"),
+                register.get("read"), register.get("write"))
+            for register in SERIAL["registers"]]
 
 
 def clock_rows():
     first = CLOCK["identification"]["first"]
-    return [*(row(it["name"], f'0x{it["offset"]:03X}', it["about"], bits_of(it), None, it.get("read"), it.get("write"))
-              for it in CLOCK["registers"]),
+    return [*(row(register["name"], f'0x{register["offset"]:03X}', register["about"], bits_of(register), None,
+                  register.get("read"), register.get("write"))
+              for register in CLOCK["registers"]),
             *(row(f"ID{place}", f"0x{first + 4 * place:03X}", "identification", "()", None, True, False)
               for place in range(len(IDENTIFICATION)))]
 
 
-def field_lines(it):
+def field_lines(field):
     """A field of a state, below the words about it. It has a kind if the struct of superio.h has it under its name."""
-    yield f"    # {told_of_field(it)}"
-    if it["type"] in OTHERS:
-        yield f"    {it['name']}: {OTHERS[it['type']]}"
+    yield f"    # {told_of_field(field)}"
+    if field["type"] in OTHERS:
+        yield f"    {field['name']}: {OTHERS[field['type']]}"
     else:
-        default = False if it["type"] == "bool" else f"0x{it['fresh']:02X}" if "fresh" in it else 0
-        yield (f"    {it['name']}: {'bool' if it['type'] == 'bool' else 'int'} = "
-               f"field(default={default}, metadata={{\"kind\": {KINDS[it.get('in_struct', it['type'])]}}})")
+        default = False if field["type"] == "bool" else f"0x{field['fresh']:02X}" if "fresh" in field else 0
+        yield (f"    {field['name']}: {'bool' if field['type'] == 'bool' else 'int'} = "
+               f"field(default={default}, metadata={{\"kind\": {KINDS[field.get('in_struct', field['type'])]}}})")
 
 
 def fields(name, words, them):
     """A class with the fields of a state."""
     return "\n".join(["", "", "@dataclass(frozen=True)", f"class {name}:", f'    """{words}."""', "",
-                      *(line for it in them for line in field_lines(it)), ""])
+                      *(line for field in them for line in field_lines(field)), ""])
 
 
 def module():
@@ -73,8 +75,8 @@ def module():
         "FIFO_SIZE": FIFO_SIZE, "OUTPUT_SIZE": OUTPUT_SIZE, "DLAB": f"0x{DLAB:02X}", "LOOPBACK": f"0x{LOOPBACK:02X}",
         "FIFO_BITS": f"0x{FIFO_BITS:02X}", "IDENTIFICATION": f"bytes([{identification}])",
     }
-    errors = "".join(f'    "{word_of(it)}": "{told(it["text"])}",\n' for it in ERRORS)
-    kept = "".join(f'    "{name}": "{it["name"]}",\n' for name, it in PORT_FIELDS.items())
+    errors = "".join(f'    "{word_of(error)}": "{told(error["text"])}",\n' for error in ERRORS)
+    kept = "".join(f'    "{name}": "{field["name"]}",\n' for name, field in PORT_FIELDS.items())
     tables = {"SERIAL": port_rows(), "CLOCK": clock_rows()}
     return "".join([
         HEAD, *(f"{name} = {value}\n" for name, value in constants.items()),

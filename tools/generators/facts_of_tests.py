@@ -22,12 +22,12 @@ MADE = "# Made by tools/generate from {} and interface.toml.\n"
 
 
 def port_contents(words):
-    registers = {name: it["fresh"] for name, it in PORT_FIELDS.items()}
+    registers = {name: field["fresh"] for name, field in PORT_FIELDS.items()}
     return bytes(int(words.pop(name), 16) if name in words else fresh for name, fresh in registers.items())
 
 
 def clock_contents(words):
-    numbers = ((int(words.pop(it["name"], "0"), 16), it["type"]) for it in CLOCK["fields"])
+    numbers = ((int(words.pop(field["name"], "0"), 16), field["type"]) for field in CLOCK["fields"])
     return b"".join(number.to_bytes(BYTES[kind], "little", signed=kind == "i64") for number, kind in numbers)
 
 

@@ -39,7 +39,7 @@ class Header(NamedTuple):
 
 def declared(text, end):
     found = (DECLARED.fullmatch(part) for part in text.split(end) if part.strip() not in ("", "void"))
-    return [Declared(kind.strip(), name, length or "") for kind, name, length in (it.groups() for it in found)]
+    return [Declared(kind.strip(), name, length or "") for kind, name, length in (match.groups() for match in found)]
 
 
 def read_header(word=8):

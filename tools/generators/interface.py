@@ -26,7 +26,8 @@ def interface():
     lines = [f"constant {name} {value}" for name, value in header.constants.items()
              if not name.startswith(("SUPERIO_VERSION", "SUPERIO_ABI"))]
     for name, function in header.functions.items():
-        types = [f"{it.kind} [{it.length}]" if it.length else it.kind for it in function.parameters]
+        types = [f"{parameter.kind} [{parameter.length}]" if parameter.length else parameter.kind
+                 for parameter in function.parameters]
         lines.append(f"function {function.returned} {name}({', '.join(types) or 'void'})")
     for struct, fields in header.structs.items():
         places, whole, _ = layout(header, struct)

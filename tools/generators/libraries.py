@@ -49,7 +49,8 @@ def library_sums(folder):
 def source_line(folders=SOURCE_FOLDERS, ending=".rt"):
     """A line of SOURCES: the digest of what `sha256sum` prints of the sources, in the order of their paths."""
     paths = sorted(path for folder in folders for path in (ROOT / folder).rglob(f"*{ending}"))
-    listing = "".join(f"{line}\n" for line in sums_of(ROOT, sorted(it.relative_to(ROOT).as_posix() for it in paths)))
+    names = sorted(path.relative_to(ROOT).as_posix() for path in paths)
+    listing = "".join(f"{line}\n" for line in sums_of(ROOT, names))
     return f"{hashlib.sha256(listing.encode()).hexdigest()}  the sources in {' and '.join(folders)}"
 
 

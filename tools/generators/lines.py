@@ -39,7 +39,7 @@ def row(name, line):
     syntax = " ".join([name, *map(shown, line.fields)])
     syntaxes = [name, syntax] if BYTES in line.fields else [syntax]
     effect = f"{line.about[0].upper()}{line.about[1:]}. {line.more}".strip()
-    return f"| {', '.join(f'`{it}`' for it in syntaxes)} | {effect} | {line.replies} |\n"
+    return f"| {', '.join(f'`{text}`' for text in syntaxes)} | {effect} | {line.replies} |\n"
 
 
 def for_readers(text):

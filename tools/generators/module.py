@@ -119,7 +119,7 @@ def declared():
             lines += [f"  /** {about[0].upper()}{about[1:]}. */", f"  {camel(field['name'])}: {TYPES[field['type']]};"]
         text = re.sub(rf"(?<=interface {state} {{\n)[^}}]*", "\n".join([*lines, ""]), text)
     for name, registers in registers_by_type().items():
-        union = textwrap.indent(textwrap.fill(" | ".join(f'"{it}"' for it in registers), 110), "  ")
+        union = textwrap.indent(textwrap.fill(" | ".join(f'"{register}"' for register in registers), 110), "  ")
         text = re.sub(rf"(?<=export type {name} =)[^;]*", f"\n{union}", text)
     reasons = "".join(f'\n    | "{reason}"' for reason in SAVED_STATE_ERRORS)
     return re.sub(r"(?<=readonly reason:)[^;]*", reasons, text)

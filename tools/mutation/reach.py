@@ -50,7 +50,7 @@ class Test(NamedTuple):
 
 def joined(tests):
     """One command for tests of one command."""
-    return " ".join([tests[0].command, *(quote(it.name) for it in tests if it.name)])
+    return " ".join([tests[0].command, *(quote(test.name) for test in tests if test.name)])
 
 
 def split(command, root_copy, keeps_cases):
@@ -62,23 +62,23 @@ def split(command, root_copy, keeps_cases):
     names = re.findall(r"^(\S+?\.py::.*)$", listing.read_text(encoding="utf-8"), flags=re.M)
     begin, _, chosen = command.partition(" -k ")
     base = PYTEST + (f" -k {chosen}" if chosen else "")
-    names = dict.fromkeys(it if keeps_cases else it.partition("[")[0] for it in names)
+    names = dict.fromkeys(name if keeps_cases else name.partition("[")[0] for name in names)
     return [Test(base, name) for name in names]
 
 
 def lines_of_python(folder):
     """The first line of each statement, by file, and whether it ran."""
     files = json.loads((folder / "python.json").read_text(encoding="utf-8"))["files"]
-    return {name: {**dict.fromkeys(it["missing_lines"], False), **dict.fromkeys(it["executed_lines"], True)}
-            for name, it in files.items()}
+    return {name: {**dict.fromkeys(file["missing_lines"], False), **dict.fromkeys(file["executed_lines"], True)}
+            for name, file in files.items()}
 
 
 def lines_that_ran(script, text):
     """Whether each line of a script ran: a later range of its functions is within an earlier one, or beside it."""
     runs, begin, lines = bytearray(len(text)), 0, []
-    for it in (it for function in script["functions"] for it in function["ranges"]):
-        first, end = it["startOffset"], min(it["endOffset"], len(text))
-        runs[first:end] = bytes([it["count"] > 0]) * (end - first)
+    for span in (span for function in script["functions"] for span in function["ranges"]):
+        first, end = span["startOffset"], min(span["endOffset"], len(text))
+        runs[first:end] = bytes([span["count"] > 0]) * (end - first)
     for line in text.split("\n"):
         lines.append(any(runs[begin + len(line) - len(line.lstrip()):begin + len(line)]))
         begin += len(line) + 1
@@ -91,7 +91,7 @@ def lines_of_node(folder, sources):
     texts = {file: (root / file).read_text(encoding="utf-8") for file in sources}
     urls = {(root / file).as_uri(): file for file in sources}
     told = [json.loads(path.read_text(encoding="utf-8")) for path in folder.glob("coverage-*.json")]
-    for script in (script for it in told for script in it["result"]):
+    for script in (script for report in told for script in report["result"]):
         file = urls.get(script["url"])
         text = texts.get(file) or script.get("text", "")
         ran = lines_that_ran(script, text)
@@ -106,12 +106,12 @@ def lines_of_node(folder, sources):
 
 def lines_of_gcov(folder, sources):
     """The lines of C. Tests may compile a copy of a source, which has its name."""
-    found, names = {}, {Path(it).name: it for it in sources}
+    found, names = {}, {Path(source).name: source for source in sources}
     for told in (folder / "gcov").read_text(encoding="utf-8").splitlines():
         for file in json.loads(told)["files"]:
             lines = found.setdefault(names.get(Path(file["file"]).name, ""), {})
-            for it in file["lines"]:
-                lines[it["line_number"]] = lines.get(it["line_number"], False) or it["count"] > 0
+            for line in file["lines"]:
+                lines[line["line_number"]] = lines.get(line["line_number"], False) or line["count"] > 0
     return found
 
 
@@ -133,18 +133,18 @@ def measured(test, copy, language, sources, memory):
     times = re.findall(r"(\d+)m([\d.]+)s", (folder / "times").read_text(encoding="ascii"))
     lines = LINES[language](folder, sources)
     return test._replace(seconds=seconds, processor=sum(60 * int(minutes) + float(rest) for minutes, rest in times),
-                         lines={it: lines[it] for it in sources if it in lines})
+                         lines={source: lines[source] for source in sources if source in lines})
 
 
 class Reach:
     """The tests of a part. One that tells nothing of any file may reach all lines."""
 
     def __init__(self, tests):
-        self.tests = sorted(tests, key=lambda it: it.seconds)
-        self.start = {it.command: it.seconds for it in self.tests[::-1]}
+        self.tests = sorted(tests, key=lambda test: test.seconds)
+        self.start = {test.command: test.seconds for test in self.tests[::-1]}
         self.first = sum(map(self.more, tests)) / 20
-        files = {file for it in tests for file in it.lines}
-        self.known = {file: sorted({line for it in tests for line in it.lines.get(file, ())}) for file in files}
+        files = {file for test in tests for file in test.lines}
+        self.known = {file: sorted({line for test in tests for line in test.lines.get(file, ())}) for file in files}
 
     def more(self, test):
         """The seconds of a test, beside those that its command takes to begin."""
@@ -154,8 +154,8 @@ class Reach:
         """The tests that reach the line of a mutant, or the statement in which it is, and all others."""
         known, line = self.known.get(mutant.file, []), mutant.number + 1
         line = known[max(0, bisect_right(known, line) - 1)] if known else None
-        reaching = [it for it in self.tests if not it.lines or it.lines.get(mutant.file, {}).get(line)]
-        return reaching, [it for it in self.tests if it not in reaching]
+        reaching = [test for test in self.tests if not test.lines or test.lines.get(mutant.file, {}).get(line)]
+        return reaching, [test for test in self.tests if test not in reaching]
 
     def commands(self, tests):
         """Commands for tests, the fastest first, each with the limits of its seconds and of those of a processor. The
@@ -168,8 +168,8 @@ class Reach:
                 groups.append([])
             groups[-1].append(test)
         for group in groups:
-            for command in dict.fromkeys(it.command for it in group):
-                found = [it for it in group if it.command == command]
+            for command in dict.fromkeys(test.command for test in group):
+                found = [test for test in group if test.command == command]
                 seconds = self.start[command] + sum(map(self.more, found))
-                processor = sum(it.processor for it in found)
+                processor = sum(test.processor for test in found)
                 yield joined(found), 60 + 15 * seconds, round(20 + 5 * min(seconds, processor))

@@ -11,7 +11,7 @@ PAIRS = [("==", "!="), ("===", "!=="), ("<", "<="), (">", ">="), ("&&", "||"), (
          ("<<", ">>"), ("+=", "-="), ("|=", "&="), ("and", "or"), ("is not", "is")]
 RULES = [*((rf"(?<=[\w)\]] ){re.escape(one)}(?= [\w(&*!~-])", other) for pair in PAIRS
            for one, other in (pair, pair[::-1])),
-         (r"\b(?:0x[0-9A-Fa-f_]+|\d[\d_]*)(?:[iu]\d+|usize)?\b", lambda it: f"({it[0]} + 1)"),
+         (r"\b(?:0x[0-9A-Fa-f_]+|\d[\d_]*)(?:[iu]\d+|usize)?\b", lambda match: f"({match[0]} + 1)"),
          (r"\btrue\b", "false"), (r"\bfalse\b", "true"), (r"\bTrue\b", "False"), (r"\bFalse\b", "True"),
          (r"(?<![\w!])!(?=[\w(])", ""), (r"\bnot (?!in\b)", ""), (r"\+\+", "--"), (r"(?<=\w)--", "++"),
          (r"\? ([^?:]+) : ([^?:;,)]+)", r"? \2 : \1"),
@@ -37,7 +37,8 @@ def mutants(root, file):
     """Each mutant of a file: a rule turns one place. Tests within a file of Rust are none of its code."""
     text = (root / file).read_text(encoding="utf-8")
     pattern, rules = (PYTHON_TEXT, PYTHON_STATEMENTS) if file.endswith(".py") else (C_TEXT, STATEMENTS)
-    code = re.sub(pattern, lambda it: re.sub(r"[^\n]", "\0", it[0]), text.split("#[cfg(test)]")[0], flags=re.S | re.M)
+    code = re.sub(pattern, lambda match: re.sub(r"[^\n]", "\0", match[0]), text.split("#[cfg(test)]")[0],
+                  flags=re.S | re.M)
     for number, (line, words) in enumerate(zip(text.split("\n"), code.split("\n"))):
         for pattern, turned in RULES + rules:
             for found in re.finditer(pattern, words.rstrip("\0 ")):
