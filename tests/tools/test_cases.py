@@ -46,12 +46,13 @@ def test_kinds_of_made_scripts():
 def test_board_scripts(monkeypatch):
     kinds = "kept", "load", "made"
     for kind in kinds:
-        monkeypatch.setattr(script_tests, f"{kind}_scripts", lambda *given, kind=kind: [(kind, *given, it) for it in range(2)])
-    assert board_scripts("cases", 10) == [(kind, *(("cases", 10) if kind == "made" else ()), it)
-                                          for kind in kinds for it in range(2)]
+        monkeypatch.setattr(script_tests, f"{kind}_scripts",
+                            lambda *given, kind=kind: [(kind, *given, number) for number in range(2)])
+    assert board_scripts("cases", 10) == [(kind, *(("cases", 10) if kind == "made" else ()), number)
+                                          for kind in kinds for number in range(2)]
 
 
-@pytest.mark.parametrize("path", FILES, ids=lambda it: it.name)
+@pytest.mark.parametrize("path", FILES, ids=lambda path: path.name)
 def test_scripts_of_a_file(path):
     """Rows without an empty line between them are one script, or as many as have `script` before them."""
     text = (lzma.open(path, "rt", encoding="utf-8") if path.suffix == ".xz" else path.open(encoding="utf-8")).read()

@@ -27,9 +27,9 @@ case "$*" in
 esac
 words=" $* "
 case "$words" in
-*" install --simulate "*) for it in ${words##* --simulate }; do echo "Inst $it (1)"; done ;;
+*" install --simulate "*) for package in ${words##* --simulate }; do echo "Inst $package (1)"; done ;;
 *" download --print-uris "*) ;;
-*" download "*) for it in ${words##* download }; do touch "$it.deb"; done ;;
+*" download "*) for package in ${words##* download }; do touch "$package.deb"; done ;;
 *" install "*) cp "$AWAY"/* "$HERE" ;;
 esac""",
     "dpkg-deb": 'mkdir -p "$3/usr/bin"; cp "$AWAY"/* "$3/usr/bin"',
@@ -60,20 +60,20 @@ class Machine:
     def __init__(self, folder):
         self.top, self.bin, self.away = folder / "top", folder / "bin", folder / "away"
         self.stubs, self.log, self.system = folder / "stubs", folder / "log", folder / "os-release"
-        for it in COPIED:
-            copy = shutil.copytree if (ROOT / it).is_dir() else shutil.copy
-            (self.top / it).parent.mkdir(parents=True, exist_ok=True)
-            copy(ROOT / it, self.top / it)
-        for it in ("rust/vm-superio", "rust/superio", "crates/a/must-fail", "crates/a/src", "recheck"):
-            (self.top / it).mkdir(parents=True)
+        for name in COPIED:
+            copy = shutil.copytree if (ROOT / name).is_dir() else shutil.copy
+            (self.top / name).parent.mkdir(parents=True, exist_ok=True)
+            copy(ROOT / name, self.top / name)
+        for name in ("rust/vm-superio", "rust/superio", "crates/a/must-fail", "crates/a/src", "recheck"):
+            (self.top / name).mkdir(parents=True)
         (self.top / "crates/a/must-fail/a.edit").touch()
         (self.top / "crates/a/src/lib.rt").write_text("mod a {\n    #[test]\n}\n", "utf-8")
         self.edit("tools/common/requirements.py", "\n\n\n@lru_cache", f"\n{TABLE}\n\n@lru_cache")
         self.edit("tools/common/installing.py", '"/etc/os-release"', f'"{self.system}"')
-        for it in (self.bin, self.away, self.stubs):
-            it.mkdir()
-        for it in BASICS:
-            (self.bin / it).symlink_to(shutil.which(it))
+        for path in (self.bin, self.away, self.stubs):
+            path.mkdir()
+        for command in BASICS:
+            (self.bin / command).symlink_to(shutil.which(command))
         self.handed_over = folder / "handed over"
         (self.bin / "rtlib.py").write_text(RTLIB.format(made=self.handed_over), "utf-8")
         self.stand_in("python3", f'exec {sys.executable} "$@"')
@@ -125,35 +125,40 @@ def machine(tmp_path):
 
 
 def installs(called):
-    return [it for it in called if it.startswith(("apt-get", "dpkg-deb"))]
+    return [line for line in called if line.startswith(("apt-get", "dpkg-deb"))]
 
 
 @pytest.mark.parametrize("tool", ["tools/check", ".ci/run"])
 def test_all_pass(tool, machine):
     status, said, called = machine.run(tool)
     assert (status, said.splitlines()[-1]) == (0, PASSED), said
-    assert called[0].startswith("rt ") and sorted(it.split()[0] for it in called) == ["cargo", "cargo", "pytest", "rt"]
+    assert called[0].startswith("rt ")
+    assert sorted(line.split()[0] for line in called) == ["cargo", "cargo", "pytest", "rt"]
     assert said.count("\n== cargo test\ntest result: ok. 3 passed; 0 failed; 0 ignored\n") == 2
     assert machine.handed_over.exists()
 
 
 FAILING = {
-    **{f"{part} ends by `{end}`, and says that all passed": lambda it, part=part, end=end: it.stand_in(
+    **{f"{part} ends by `{end}`, and says that all passed": lambda machine, part=part, end=end: machine.stand_in(
         part, f"{STAND_INS[part]}; {end}") for part in ("rt", "cargo") for end in ("exit 1", "exit 255", "kill -9 $$")},
-    "rt ci says so": lambda it: it.stand_in("rt", STAND_INS["rt"] + ", 1 failed"),
-    "rt ci tries no edit": lambda it: it.stand_in("rt", "echo 'test result: ok. 1 passed'; echo 2 passed"),
-    **{f"the tests of bindings/{crate} fail": lambda it, crate=crate: it.stand_in(
-        "cargo", f"{STAND_INS['cargo']}; case $PWD in */{crate}) exit 101; esac") for crate in ("superio", "vm-superio")},
-    "cargo tests nothing": lambda it: it.stand_in("cargo", ""),
-    "pytest ends badly": lambda it: it.pytest("4 passed in 1s", 1),
-    "pytest says so": lambda it: it.pytest("1 failed, 4 passed in 1s", 0),
-    "pytest is killed": lambda it: it.pytest("4 passed in 1s", "__import__('os').kill(__import__('os').getpid(), 9)"),
-    "pytest runs nothing": lambda it: it.pytest("no tests ran in 1s", 0),
-    "nothing passes": lambda it: (it.stand_in("rt", "exit 1"), it.stand_in("cargo", "exit 101"), it.pytest("", 2)),
+    "rt ci says so": lambda machine: machine.stand_in("rt", STAND_INS["rt"] + ", 1 failed"),
+    "rt ci tries no edit": lambda machine: machine.stand_in("rt", "echo 'test result: ok. 1 passed'; echo 2 passed"),
+    **{f"the tests of bindings/{crate} fail": lambda machine, crate=crate: machine.stand_in(
+        "cargo", f"{STAND_INS['cargo']}; case $PWD in */{crate}) exit 101; esac")
+       for crate in ("superio", "vm-superio")},
+    "cargo tests nothing": lambda machine: machine.stand_in("cargo", ""),
+    "pytest ends badly": lambda machine: machine.pytest("4 passed in 1s", 1),
+    "pytest says so": lambda machine: machine.pytest("1 failed, 4 passed in 1s", 0),
+    "pytest is killed": lambda machine: machine.pytest(
+        "4 passed in 1s", "__import__('os').kill(__import__('os').getpid(), 9)"),
+    "pytest runs nothing": lambda machine: machine.pytest("no tests ran in 1s", 0),
+    "nothing passes": lambda machine: (machine.stand_in("rt", "exit 1"), machine.stand_in("cargo", "exit 101"),
+                                       machine.pytest("", 2)),
 }
 
 
-@pytest.mark.parametrize("tool, failing", [("tools/check", it) for it in FAILING] + [(".ci/run", "pytest ends badly")])
+@pytest.mark.parametrize("tool, failing", [*(("tools/check", failing) for failing in FAILING),
+                                           (".ci/run", "pytest ends badly")])
 def test_a_part_fails(tool, failing, machine):
     FAILING[failing](machine)
     status, said, called = machine.run(tool)
@@ -174,7 +179,7 @@ def test_a_part_is_missing(tool, machine):
     machine.lacks(command)
     status, said, called = machine.run("tools/check", "--no-install")
     assert status == 1 and advice in said.splitlines() and " 1 failed" in said.splitlines()[-1], said
-    assert not installs(called) and any(it.startswith("pytest ") for it in called)
+    assert not installs(called) and any(line.startswith("pytest ") for line in called)
     status, said, called = machine.run("tools/check", f"--without={tool}")
     assert status == 0 and not installs(called), said
     assert re.fullmatch(rf"NOT TRIED: .*, since --without names {tool}", said.splitlines()[-2])
@@ -254,7 +259,7 @@ def test_another_user(machine):
     for number in (1, 0):
         status, said, called = machine.run("tools/check")
         assert (status, said.splitlines()[-1]) == (0, PASSED), said
-        assert len([it for it in called if it.startswith("dpkg-deb")]) == number
+        assert len([line for line in called if line.startswith("dpkg-deb")]) == number
     assert not (machine.bin / "cargo").exists()
 
 
@@ -279,7 +284,7 @@ def test_another_user_finds_each_kind_of_file(machine):
     found = dict(line.partition("=")[::2] for line in run(words).stdout.splitlines())
     for variable, folders in {"PATH": ("usr/bin", "usr/sbin"), "PYTHONPATH": ("usr/lib/python3/dist-packages",),
                               "LD_LIBRARY_PATH": (f"usr/lib/{platform.machine()}-linux-gnu",)}.items():
-        assert found[variable].split(":")[:-1] == [str(into / it) for it in folders], variable
+        assert found[variable].split(":")[:-1] == [str(into / folder) for folder in folders], variable
     assert found["PATH"].endswith(":/before")
 
 
@@ -289,7 +294,7 @@ def test_each_archive_is_unpacked_once(machine):
     machine.stand_in("id", "[ $1 != -u ] && echo somebody || echo 1000")
     for package in ("cargo", "coq"):
         status, said, called = machine.run("tools/install-packages", package)
-        [unpacked] = [it for it in called if it.startswith("dpkg-deb")]
+        [unpacked] = [line for line in called if line.startswith("dpkg-deb")]
         assert status == 0 and f"/{package}.deb " in unpacked, said
 
 
@@ -304,8 +309,9 @@ def test_each_package_comes_where_it_belongs(named, user, machine):
     """Root gets those of this processor installed, and only the files of the others. Another user gets the files of all
     of them, and of what those of this processor depend on. Each apt-get knows of each processor."""
     packages = named.split()
-    own, others = ([it for it in packages if (":" in it) == is_other] for is_other in (False, True))
-    apt = STAND_INS["apt-get"].replace('echo "Inst $it (1)"', 'echo "Inst lib$it (1)"; echo "Inst $it (1)"')
+    own, others = ([package for package in packages if (":" in package) == is_other] for is_other in (False, True))
+    apt = STAND_INS["apt-get"].replace('echo "Inst $package (1)"',
+                                       'echo "Inst lib$package (1)"; echo "Inst $package (1)"')
     assert apt != STAND_INS["apt-get"]
     machine.stand_in("apt-get", apt)
     machine.stand_in("dpkg-deb", "")
@@ -313,15 +319,16 @@ def test_each_package_comes_where_it_belongs(named, user, machine):
     machine.lacks("cargo")
     status, said, called = machine.run("tools/install-packages", *packages)
     assert status == 0, said
-    asked = [it for it in called if it.startswith("apt-get ")]
-    installed = [it.partition(" install ")[2].split() for it in asked if " install " in it and "--simulate" not in it]
+    asked = [line for line in called if line.startswith("apt-get ")]
+    installed = [line.partition(" install ")[2].split() for line in asked
+                 if " install " in line and "--simulate" not in line]
     assert installed == ([own] if own and not user else [])
-    unpacked = sorted(it.split()[-2:] for it in called if it.startswith("dpkg-deb "))
-    wanted = [*others, *own, *(f"lib{it}" for it in own)] if user else others
+    unpacked = sorted(line.split()[-2:] for line in called if line.startswith("dpkg-deb "))
+    wanted = [*others, *own, *(f"lib{package}" for package in own)] if user else others
     into = machine.top / "out/packages" if user else "/"
-    assert unpacked == sorted([f"{machine.top}/out/apt/downloads/{it}.deb", str(into)] for it in wanted)
-    processors = ["amd64", *(it.partition(":")[2] for it in others)]
-    assert asked and {tuple(re.findall("Architectures::=(\\S+)", it)) for it in asked} == {tuple(processors)}
+    assert unpacked == sorted([f"{machine.top}/out/apt/downloads/{package}.deb", str(into)] for package in wanted)
+    processors = ["amd64", *(package.partition(":")[2] for package in others)]
+    assert asked and {tuple(re.findall("Architectures::=(\\S+)", line)) for line in asked} == {tuple(processors)}
     if user:
         assert (into / "unpacked").read_text("utf-8").split() == packages
 
@@ -342,7 +349,8 @@ def test_an_installation_fails(name, machine):
     machine.stand_in("id", f"[ $1 != -u ] && echo somebody || echo {user}")
     machine.lacks("cargo")
     before = (machine.bin / command).read_text("utf-8").split("\n", 2)[2]
-    fails = "".join(f'case " $* " in *" {it} "*) echo "E: no {it}" >&2; exit 100; esac\n' for it in words.split("|"))
+    fails = "".join(f'case " $* " in *" {word} "*) echo "E: no {word}" >&2; exit 100; esac\n'
+                    for word in words.split("|"))
     machine.stand_in(command, fails + before)
     status, said, called = machine.run("tools/install-packages")
     last = words.split("|")[-1]
@@ -353,7 +361,7 @@ def test_an_installation_fails(name, machine):
         for tool in ("tools/check", ".ci/run"):
             status, said, called = machine.run(tool)
             assert status == 1 and "tools/install-packages ended with status" in said.splitlines()[-1], said
-            assert not [it for it in called if it.startswith(("rt ", "pytest "))]
+            assert not [line for line in called if line.startswith(("rt ", "pytest "))]
 
 
 def test_a_list_of_packages_cannot_be_read(machine):
@@ -362,4 +370,4 @@ def test_a_list_of_packages_cannot_be_read(machine):
     machine.stand_in("apt-get", 'case " $* " in *" update "*) exit 100; esac\n' + STAND_INS["apt-get"])
     status, said, called = machine.run("tools/check")
     assert (status, said.splitlines()[-1]) == (0, PASSED), said
-    assert [it for it in called if "--print-uris" in it and it.endswith(" cargo")]
+    assert [line for line in called if "--print-uris" in line and line.endswith(" cargo")]

@@ -35,13 +35,13 @@ import test_crates  # noqa: E402
 import test_module  # noqa: E402
 
 
-def altered(it):
+def altered(original):
     """Texts, bytes or lists that differ from this one in the last place: another one, one less, one more."""
-    if isinstance(it, list):
-        return [*([*it[:-1], last] for last in altered(it[-1])), it[:-1], [*it, it[-1]]]
-    if isinstance(it, bytes):
-        return [text.encode("latin-1") for text in altered(it.decode("latin-1"))]
-    return [it[:-1] + chr(ord(it[-1]) ^ 1), it[:-1], it + it[-1]] if it else ["0"]
+    if isinstance(original, list):
+        return [*([*original[:-1], last] for last in altered(original[-1])), original[:-1], [*original, original[-1]]]
+    if isinstance(original, bytes):
+        return [text.encode("latin-1") for text in altered(original.decode("latin-1"))]
+    return [original[:-1] + chr(ord(original[-1]) ^ 1), original[:-1], original + original[-1]] if original else ["0"]
 
 
 def refuses(compare, *words):
@@ -69,8 +69,8 @@ def test_check_of_a_status(end):
 @pytest.mark.parametrize("text", ["", "a\n", "a\nb"])
 def test_check_of_what_is_printed(text):
     assert check(["printf", "%s", text], text) == check(["printf", "%s", text]) == text
-    for it in altered(text):
-        assert refuses(check, ["printf", "%s", text], it) and refuses(check, ["printf", "%s", it], text), it
+    for other in altered(text):
+        assert refuses(check, ["printf", "%s", text], other) and refuses(check, ["printf", "%s", other], text), other
 
 
 @pytest.mark.parametrize("end", ["", "bad line 3"])
@@ -78,31 +78,32 @@ def test_difference_of_a_script(end):
     script = Script("a place", b"kr 04\n", b"00\n01\n", end)
     status, replies, said = script.expected
     assert script.difference(script.expected) is None
-    wrong = [(status ^ 1, replies, said), (-9, replies, said), None, *((status, replies, it) for it in altered(said))]
-    for got in [*wrong, *((status, it, said) for it in altered(replies))]:
+    wrong = [(status ^ 1, replies, said), (-9, replies, said), None,
+             *((status, replies, other) for other in altered(said))]
+    for got in [*wrong, *((status, other, said) for other in altered(replies))]:
         assert script.difference(got), got
 
 
 def test_difference_of_calls():
     rows, replies = [("sr 05", "60"), ("sw 00 41", "ok W41 F o")], ["60", "ok W41 F o"]
     assert not difference(rows, replies)
-    for it in altered(replies):
-        assert difference(rows, it), it
+    for other in altered(replies):
+        assert difference(rows, other), other
 
 
 def test_difference_of_consoles():
     rows = ["lr 05 = 60", "lw 01 01 = ok wake", "la = 40", "li = 00 0"]
     assert not [*test_consoles.differences(rows)]
     for place, row in enumerate(rows):
-        for it in altered(row):
-            assert [*test_consoles.differences([*rows[:place], it, *rows[place + 1:]])], it
+        for other in altered(row):
+            assert [*test_consoles.differences([*rows[:place], other, *rows[place + 1:]])], other
 
 
 def test_replies_of_a_board():
-    [test] = [it for it in test_boards.KEPT if it.replies][:1]
+    [test] = [test for test in test_boards.KEPT if test.replies][:1]
     test_boards.assert_replies(test)
-    for it in altered(test.replies):
-        assert refuses(test_boards.assert_replies, test._replace(replies=it)), it
+    for other in altered(test.replies):
+        assert refuses(test_boards.assert_replies, test._replace(replies=other)), other
 
 
 # Where random searches begin
@@ -240,8 +241,8 @@ def test_guards_of_replay(tmp_path):
 def test_scripts_in_javascript():
     words = ["node", str(ROOT / "bindings/js/tests/run_scripts.mjs")]
     script = ["a place", "kr 04\nsr 05\nkr 5\n", True, ["00", "60"], "bad line 3"]
-    wrong = [[*script[:3], it, script[4]] for it in altered(script[3])]
-    wrong += [[*script[:4], it] for it in altered(script[4])]
+    wrong = [[*script[:3], other, script[4]] for other in altered(script[3])]
+    wrong += [[*script[:4], other] for other in altered(script[4])]
     for number, scripts in enumerate([[script, script], [script, *wrong]]):
         ran = subprocess.run(words, input=json.dumps(scripts), capture_output=True, text=True)
         said = f"{2 - number} scripts did the same, {number * len(wrong)} did not\n"
@@ -258,21 +259,21 @@ MADE = [(test_module, "embedded", "test_embedded"), (test_module, "declared", "t
 
 @pytest.mark.parametrize("module, maker, test", MADE, ids=[test for *_, test in MADE])
 def test_what_is_made(module, maker, test, monkeypatch):
-    for it in altered(getattr(module, maker)()):
-        monkeypatch.setattr(module, maker, lambda it=it: it)
+    for other in altered(getattr(module, maker)()):
+        monkeypatch.setattr(module, maker, lambda other=other: other)
         assert refuses(getattr(module, test))
 
 
 def test_bytes_of_the_module(tmp_path, monkeypatch):
     module = (test_module.PREBUILT / test_module.MODULE).read_bytes()
-    for it in [module, *altered(module)]:
-        def build(place, it=it):
-            place.write_bytes(it)
+    for contents in [module, *altered(module)]:
+        def build(place, contents=contents):
+            place.write_bytes(contents)
             return subprocess.CompletedProcess([], 0, "")
         monkeypatch.setattr(test_module, "build", build)
-        assert refuses(test_module.test_build, tmp_path) == (it != module)
+        assert refuses(test_module.test_build, tmp_path) == (contents != module)
     for name, line in test_module.listed().items():
-        assert all(refuses(test_module.test_digest, name, it) for it in altered(line))
+        assert all(refuses(test_module.test_digest, name, other) for other in altered(line))
 
 
 def test_sums_of_prebuilt(monkeypatch):
@@ -314,13 +315,13 @@ def test_functions_of_a_source(source):
 def test_erased(tmp_path, monkeypatch):
     """The files of rust/superio are compared with all of what tools/erase makes, in each of the folders."""
     folders = ["crates/superio_core/src", "crates/superio_console/src", "rust/superio/src"]
-    for it in ("tools", *folders):
-        shutil.copytree(ROOT / it, tmp_path / it, ignore=shutil.ignore_patterns(*BUILT))
+    for folder in ("tools", *folders):
+        shutil.copytree(ROOT / folder, tmp_path / folder, ignore=shutil.ignore_patterns(*BUILT))
     check([sys.executable, tmp_path / "tools" / "erase"], "")
     monkeypatch.setattr(test_crates, "ROOT", tmp_path)
     test_crates.test_erased()
-    for it in (*folders[:2], "rust/superio/src/devices", "rust/superio/src/console"):
-        path = max(path for path in (tmp_path / it).rglob("*") if path.is_file())
+    for folder in (*folders[:2], "rust/superio/src/devices", "rust/superio/src/console"):
+        path = max(path for path in (tmp_path / folder).rglob("*") if path.is_file())
         before = path.read_bytes()
         path.write_bytes(before + b"// more\n")
         assert refuses(test_crates.test_erased), path
@@ -332,10 +333,10 @@ def test_what_rustc_reads(tmp_path, monkeypatch):
     """tools/recheck --rustc sees what differs at the end of a crate only, or is more or less there."""
     core, left = {"core": rerun.CRATES["core"]}, rerun.left_out()[0]
     words = expanded.read(ROOT / core["core"], left["core"])
-    for it in (words, *altered(words)):
-        monkeypatch.setattr(expanded, "read", lambda *_, it=it: it)
+    for found in (words, *altered(words)):
+        monkeypatch.setattr(expanded, "read", lambda *_, found=found: found)
         compared = expanded.compare(ROOT, "/usr/bin/rustc", core, left, tmp_path)
-        if it == words:
+        if found == words:
             assert [count > 900 for _, count in compared] == [True]
         else:
             with pytest.raises(rust2coq.Refused, match="^rust/superio: rustc reads .*, and here stands "):
@@ -354,7 +355,7 @@ def test_warnings_of_the_header(line, tmp_path, monkeypatch):
     """A header at which a compiler warns is refused, and so is a warning in the place of another, or of none."""
     [compiler] = test_header.COMPILERS["gcc"].values
     header = (ROOT / "bindings/c/superio.h").read_text("ascii")
-    words = [tmp_path if it == ROOT / "bindings" / "c" else it for it in test_header.WARNINGS]
+    words = [tmp_path if word == ROOT / "bindings" / "c" else word for word in test_header.WARNINGS]
     assert words.count(tmp_path) == 1
     monkeypatch.setattr(test_header, "WARNINGS", words)
     for more, is_warned in (("", False), (line, True)):
@@ -380,8 +381,8 @@ def test_counts_of_costs(monkeypatch):
         monkeypatch.setattr(test_counts, "counts_of", lambda _, more=more: count(number + more))
         assert refuses(test_counts.test_count, row, column) == (abs(more) > 1)
     for replies in ((1, 2), *map(tuple, [(1, 3), (1,), (1, 2, 2)])):
-        def counted(it, replies=replies):
-            return count(number, (1, 2) if it == counts.RUST else replies)
+        def counted(column_name, replies=replies):
+            return count(number, (1, 2) if column_name == counts.RUST else replies)
         monkeypatch.setattr(test_counts, "counts_of", counted)
         assert refuses(test_counts.test_replies_are_those_of_the_rust_crate, row, counts.THEIRS) == (replies != (1, 2))
     for more in (-1, 0, 1):
@@ -391,12 +392,12 @@ def test_counts_of_costs(monkeypatch):
 
 
 @pytest.mark.parametrize("row", at_least(2, [row for row in test_counts.ROWS if row.numbers.keys() & {
-    counts.RUST, counts.CONSOLE}][::9]), ids=lambda it: it.name)
+    counts.RUST, counts.CONSOLE}][::9]), ids=lambda row: row.name)
 def test_what_is_bold(row):
     """A number is bold from one instruction above its goal on, and not at it."""
     host_time = counts.host_time_of(test_counts.ROWS)
     for column in row.numbers:
         if (goal := counts.goal(row, column, host_time)) is not None:
             for more in (0, 1):
-                it = row._replace(numbers={**row.numbers, column: int(goal) + more})
-                assert counts.is_above_goal(it, column, host_time) == bool(more)
+                changed = row._replace(numbers={**row.numbers, column: int(goal) + more})
+                assert counts.is_above_goal(changed, column, host_time) == bool(more)

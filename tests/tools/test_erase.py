@@ -22,11 +22,11 @@ def erase(*words):
 
 
 @pytest.mark.parametrize("source, expected", at_least(15, [case.split("->\n") for case in CASES]),
-                         ids=lambda it: it.splitlines()[0])
+                         ids=lambda text: text.splitlines()[0])
 def test_erase(source, expected, tmp_path):
     folders = tmp_path / "source", tmp_path / "target"
-    for it in folders:
-        it.mkdir()
+    for folder in folders:
+        folder.mkdir()
     (folders[0] / "lib.rt").write_text(source, encoding="utf-8")
     (status, said), made = erase(*folders), folders[1] / "mod.rs"
     if expected.startswith("lib.rt:"):
@@ -49,8 +49,8 @@ def test_erase(source, expected, tmp_path):
 @pytest.mark.parametrize("word", REFUSED)
 def test_refused(word, tmp_path):
     folders = tmp_path / "source", tmp_path / "target"
-    for it in folders:
-        it.mkdir()
+    for folder in folders:
+        folder.mkdir()
     source = folders[0] / "lib.rt"
     for head in "", LICENSE, f"{LICENSE}//! A crate.\n\n":   # what stands before a fault changes no more than its line
         source.write_text(f"{head}fn f() {{\n    {word};\n}}\n", encoding="utf-8")

@@ -108,7 +108,7 @@ def test_is_current():
 
 
 def sources(*folders, ending=".rs"):
-    found = [at_least(1, (ROOT / it).rglob(f"*{ending}")) for it in folders]
+    found = [at_least(1, (ROOT / folder).rglob(f"*{ending}")) for folder in folders]
     return [path for paths in found for path in paths if "target" not in path.parts]
 
 
@@ -120,9 +120,9 @@ NAMED = {
     "module": [libraries.PREBUILT / module.MODULE, module.EMBEDDED, module.DECLARED, libraries.INTERFACE,
                *sources(module.SOURCES, module.DEVICES), ROOT / "tools/generators/module.py",
                ROOT / "interface.toml", ROOT / "tools/common/facts.py", ROOT / MODULE,
-               *(ROOT / f"bindings/python/superio/{it}.py" for it in at_least(3, re.findall(
+               *(ROOT / f"bindings/python/superio/{name}.py" for name in at_least(3, re.findall(
                    r"^from superio\.(\w+)", (ROOT / "tools/generators/module.py").read_text("utf-8"), re.M)))],
-    "pictures": [PAGE, *(ROOT / "docs" / it for it in PICTURES)],
+    "pictures": [PAGE, *(ROOT / "docs" / picture for picture in PICTURES)],
     "statements": [*(path for ending in (".py", ".v", ".txt", ".rs") for path in sources("recheck", ending=ending)),
                    ROOT / "docs/PROOFS.md", *sources(*rerun.CRATES.values()),
                    *sources(*(ROOT / "crates").glob("*/specs"), ending=".antt")],
@@ -133,9 +133,9 @@ NAMED = {
 
 def test_each_file_of_a_step_counts(own):
     """One that is stale or changed by hand makes its step late."""
-    assert [it for it in own.STEPS if own.STEPS[it].reads] == [*NAMED]
+    assert [name for name in own.STEPS if own.STEPS[name].reads] == [*NAMED]
     for name, files in NAMED.items():
-        assert not {it.relative_to(ROOT).as_posix() for it in {*files} - own.files_of(own.STEPS[name])}, name
+        assert not {file.relative_to(ROOT).as_posix() for file in {*files} - own.files_of(own.STEPS[name])}, name
 
 
 def test_patterns(own):

@@ -20,8 +20,8 @@ def programs():
     """The programs and modules in Python outside tests, without conftest.py, which pytest alone reads."""
     for folder, folders, names in os.walk(ROOT):
         left_out = BUILT | ({"tests"} if Path(folder) == ROOT else set())
-        folders[:] = [it for it in folders if it not in left_out and not it.startswith(".")]
-        yield from (path for path in (Path(folder, it) for it in names) if path.is_file() and is_python(path))
+        folders[:] = [name for name in folders if name not in left_out and not name.startswith(".")]
+        yield from (path for path in (Path(folder, name) for name in names) if path.is_file() and is_python(path))
 
 
 def taken_of_tests(text):
@@ -31,11 +31,12 @@ def taken_of_tests(text):
                  [node.module] if isinstance(node, ast.ImportFrom) and not node.level else [])
         yield from (name for name in names if name.split(".")[0] in OF_TESTS)
         if isinstance(node, (ast.Expr, ast.Assign, ast.AugAssign)) and "sys.path" in ast.unparse(node):
-            texts = (it.value for it in ast.walk(node) if isinstance(it, ast.Constant) and isinstance(it.value, str))
+            texts = (part.value for part in ast.walk(node)
+                     if isinstance(part, ast.Constant) and isinstance(part.value, str))
             yield from (text for text in texts if "tests" in text.split("/"))
 
 
-PROGRAMS = sorted(it.relative_to(ROOT) for it in programs() if it != ROOT / "conftest.py")
+PROGRAMS = sorted(path.relative_to(ROOT) for path in programs() if path != ROOT / "conftest.py")
 
 
 @pytest.mark.parametrize("path", at_least(80, map(str, PROGRAMS)))

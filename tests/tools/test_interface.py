@@ -35,10 +35,10 @@ CHANGES = {
 
 @pytest.fixture
 def top(tmp_path):
-    for it in COPIED:
-        copy = shutil.copytree if (ROOT / it).is_dir() else shutil.copy
-        (tmp_path / it).parent.mkdir(parents=True, exist_ok=True)
-        copy(ROOT / it, tmp_path / it)
+    for name in COPIED:
+        copy = shutil.copytree if (ROOT / name).is_dir() else shutil.copy
+        (tmp_path / name).parent.mkdir(parents=True, exist_ok=True)
+        copy(ROOT / name, tmp_path / name)
     change(tmp_path, "#define SUPERIO_I8042_DATA_PORT", f"{ADDED}#define SUPERIO_I8042_DATA_PORT")
     return tmp_path
 
@@ -54,7 +54,7 @@ def make(top):
 
 
 def written(top):
-    return [(top / it).read_text("ascii") for it in (COPY, TABLE, SYMBOLS)]
+    return [(top / name).read_text("ascii") for name in (COPY, TABLE, SYMBOLS)]
 
 
 def test_what_is_added_is_written(top):
@@ -86,7 +86,7 @@ def test_each_function_keeps_its_version(top):
     change(top, "#define SUPERIO_ABI ", "#define SUPERIO_ABI 1")
     assert make(top).returncode == 0
     number = f"1{SHARED.rpartition('.')[2]}"
-    assert [it.name for it in (top / "debian").glob("*.symbols")] == [f"libsuperio{number}.symbols"]
+    assert [path.name for path in (top / "debian").glob("*.symbols")] == [f"libsuperio{number}.symbols"]
     symbols = (top / f"debian/libsuperio{number}.symbols").read_text("ascii")
     assert symbols.startswith(f"libsuperio.so.{number} libsuperio{number} #MINVER#\n")
     assert versions(symbols) == dict.fromkeys([*kept, "superio_add"], "9.8.7")

@@ -24,7 +24,7 @@ ENTRIES = at_least(10, TOOL.LISTED.read_text(encoding="utf-8").strip("\n").split
 MOST = 3   # in a hundred, or of a part that has fewer
 
 
-@pytest.mark.parametrize("entry", ENTRIES, ids=lambda it: it.splitlines()[1].strip("- ")[:40])
+@pytest.mark.parametrize("entry", ENTRIES, ids=lambda entry: entry.splitlines()[1].strip("- ")[:40])
 def test_a_survivor_is_a_mutant_and_has_a_reason(entry):
     file, old, new, reason = entry.split("\n")
     assert f"{file}\n{old}\n{new}" in map(str, TOOL.mutants(ROOT, file))
@@ -34,7 +34,7 @@ def test_a_survivor_is_a_mutant_and_has_a_reason(entry):
 @pytest.mark.parametrize("part", TOOL.PARTS)
 def test_few_survive(part):
     files = [path.relative_to(ROOT).as_posix() for path in ROOT.glob(TOOL.PARTS[part].files)]
-    made = at_least(30, [it for file in files for it in TOOL.mutants(ROOT, file)])
+    made = at_least(30, [mutant for file in files for mutant in TOOL.mutants(ROOT, file)])
     assert sum(entry.split("\n")[0] in files for entry in ENTRIES) <= MOST * max(1, len(made) / 100)
 
 
@@ -51,7 +51,7 @@ TURNED = {
 @pytest.mark.parametrize("line", TURNED)
 def test_a_line_is_turned(line, tmp_path):
     (tmp_path / "file.c").write_text(line, encoding="utf-8")
-    found = [it.new for it in TOOL.mutants(tmp_path, "file.c")]
+    found = [mutant.new for mutant in TOOL.mutants(tmp_path, "file.c")]
     assert set(TURNED[line]) <= set(found), found
 
 
@@ -106,7 +106,7 @@ def sample(monkeypatch, tmp_path):
 
     def call(*listed, every=1):
         monkeypatch.setattr(sys, "argv", ["mutants", "--jobs", "1", "--every", f"{every}"])
-        (tmp_path / "survivors.txt").write_text("\n".join(f"{it}  a reason\n" for it in listed), encoding="utf-8")
+        (tmp_path / "survivors.txt").write_text("\n".join(f"{entry}  a reason\n" for entry in listed), encoding="utf-8")
         return TOOL.main()
     return call
 
@@ -146,7 +146,7 @@ def test_an_entry_lists_one_mutant(sample):
     others = ["other.py", f"a/{name}", name[1:]], ["- return a if a < b else b", old[:-1], f"{old} "], [
         "+ return b if a > b else a", new[:-1], f"{new} + 1", f"{new}  a"]
     rows = [name, old, new]
-    entries = [[*rows[:place], it, *rows[place + 1:]] for place in range(3) for it in others[place]]
+    entries = [[*rows[:place], other, *rows[place + 1:]] for place in range(3) for other in others[place]]
     assert sample(*("\n".join([*entry, ""]) for entry in entries), every=4) == "1 survivors are not in survivors.txt"
 
 
@@ -217,7 +217,8 @@ def test_the_fastest_tests_that_reach_a_line_come_first():
         return TOOL.Test("run", name, seconds, seconds / 2, {"a.c": {3: reaches, 5: False}})
     reach = TOOL.Reach([test("slow", 41, True), test("other", 2, False), test("quick", 1, True), test("good", 2, True)])
     reaching, others = reach.of(TOOL.Mutant("a.c", 3, "", ""))   # in the statement that begins in line 3
-    assert [[it.name for it in some] for some in (reaching, others)] == [["quick", "good", "slow"], ["other"]]
+    assert [[each_test.name for each_test in some] for some in (reaching, others)] == [
+        ["quick", "good", "slow"], ["other"]]
     assert [*reach.commands(reaching)] == [("run quick good", 90, 28), ("run slow", 675, 122)]
     assert reach.of(TOOL.Mutant("a.c", 4, "", ""))[0] == []
     assert len(reach.of(TOOL.Mutant("b.c", 4, "", ""))[1]) == 4

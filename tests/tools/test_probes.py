@@ -78,19 +78,19 @@ def test_system(tmp_path):
     assert is_there(PLACES["Linux on x86-64"]) == (loader == PLACES["Linux on x86-64"])
 
 
-@pytest.mark.parametrize("name", [it for it in PLACES if it.split()[0] in COMPILERS])
+@pytest.mark.parametrize("name", [name for name in PLACES if name.split()[0] in COMPILERS])
 def test_version(name, tmp_path, monkeypatch):
     monkeypatch.setenv("PATH", f"{tmp_path}:/usr/bin:/bin")
     program, version = name.split()
     option, said = COMPILERS[program]
-    for it in (version, f"{version}0", version[:-2], f"1{version}"):
-        stand_in(tmp_path, program, f'[ "$*" = "{option}" ] && echo "{said.format(it)}"')
-        assert holds(name) == (it == version)
+    for found in (version, f"{version}0", version[:-2], f"1{version}"):
+        stand_in(tmp_path, program, f'[ "$*" = "{option}" ] && echo "{said.format(found)}"')
+        assert holds(name) == (found == version)
     stand_in(tmp_path, program, "exit 127")
     assert not holds(name)
 
 
-@pytest.mark.parametrize("name", at_least(1, [it for it in PLACES if re.fullmatch(r"[a-z]+", PLACES[it])]))
+@pytest.mark.parametrize("name", at_least(1, [name for name in PLACES if re.fullmatch(r"[a-z]+", PLACES[name])]))
 def test_command(name, tmp_path, monkeypatch):
     monkeypatch.setenv("PATH", str(tmp_path))
     assert not is_there(PLACES[name])
@@ -99,18 +99,18 @@ def test_command(name, tmp_path, monkeypatch):
     assert is_there(PLACES[name])
 
 
-@pytest.mark.parametrize("name", at_least(2, [it for it in PLACES if PLACES[it].startswith("$")]))
+@pytest.mark.parametrize("name", at_least(2, [name for name in PLACES if PLACES[name].startswith("$")]))
 def test_variable(name, monkeypatch):
     """Documents say how it is set."""
     variable = PLACES[name][1:]
-    assert variable in name.split() and any(f"{variable}=" in it.text for it in documents())
+    assert variable in name.split() and any(f"{variable}=" in document.text for document in documents())
     for is_set in (True, False):
         monkeypatch.setenv(variable, "1") if is_set else monkeypatch.delenv(variable)
         is_there.cache_clear()
         assert is_there(PLACES[name]) == is_set
 
 
-@pytest.mark.parametrize("name", at_least(5, [it for it in LINES if "sums in tests/guests" in it]))
+@pytest.mark.parametrize("name", at_least(5, [name for name in LINES if "sums in tests/guests" in name]))
 def test_source(name, monkeypatch):
     """A version of it is there whose sums the repository has, or another one, or none."""
     def version(source):
@@ -137,7 +137,7 @@ def test_cbmc(tmp_path, monkeypatch):
     assert not holds("CBMC 6")
 
 
-@pytest.mark.parametrize("name", at_least(3, [it for it in LINES if it.startswith("Rust for ")]))
+@pytest.mark.parametrize("name", at_least(3, [name for name in LINES if name.startswith("Rust for ")]))
 def test_target(name, monkeypatch):
     own = name.removeprefix("Rust for ")
     monkeypatch.setattr(toolchains, "toolchain_for", lambda target: "a toolchain" if target == own else None)
@@ -159,8 +159,8 @@ def interpreter(command):
 @pytest.mark.parametrize("tool", TOOLS)
 def test_what_runs_a_tool_is_needed_with_it(tool):
     """So npm without Node names Node's package. Debian always has the other interpreters."""
-    there = [it for it in TOOLS[tool] if it[0] != "/" and " " not in it and shutil.which(it)]
-    assert {interpreter(it) for it in there} <= {None, "sh", "bash", "perl", "python3", *TOOLS[tool]}
+    there = [what for what in TOOLS[tool] if what[0] != "/" and " " not in what and shutil.which(what)]
+    assert {interpreter(command) for command in there} <= {None, "sh", "bash", "perl", "python3", *TOOLS[tool]}
 
 
 @pytest.mark.parametrize("line, is_found", [("import os", True), ("import os; assert False", False),

@@ -25,7 +25,7 @@ class TestIt:
 
 def marked(level, mark, other):
     """The test with one mark at a level and another one at the others."""
-    return MARKED.format(*(mark if it == level else other for it in LEVELS))
+    return MARKED.format(*(mark if place == level else other for place in LEVELS))
 
 
 # Tests, and what pytest counts of them at its end.
@@ -120,7 +120,7 @@ def test_what_workers_count(tmp_path):
     for number, (text, _) in enumerate(BROKEN.values()):
         write_test(tmp_path, text, f"test_{number}.py")
     said = run_pytest(tmp_path, RUN + "pass", "--without=node", "-n2", "--dist=loadfile").stdout
-    failed = {int(it) for it in re.findall(r"^(?:FAILED|ERROR) tests/test_(\d+)\.py", said, re.M)}
+    failed = {int(number) for number in re.findall(r"^(?:FAILED|ERROR) tests/test_(\d+)\.py", said, re.M)}
     assert failed == {number for number, (_, end) in enumerate(BROKEN.values()) if "failed" in end or "error" in end}
     skipped = [text for text, end in BROKEN.values() if end == "1 skipped"]
     assert re.search(rf"\d failed, 2 passed, {len(skipped)} skipped, \d+ errors in .*\n$", said), said
@@ -146,13 +146,13 @@ SUMS = {
 }
 
 
-@pytest.mark.parametrize("table, fault, workers", [(*it, 0) for it in SUMS.items()] + [(*[*SUMS.items()][3], 2)])
+@pytest.mark.parametrize("table, fault, workers", [(*row, 0) for row in SUMS.items()] + [(*[*SUMS.items()][3], 2)])
 def test_sums(table, fault, workers, tmp_path):
     (tmp_path / "tests").mkdir()
     (tmp_path / "tests/sums.txt").write_text(f"# A comment: 1\n{table}\n", "utf-8")
     ran = run_pytest(tmp_path, THREE, "--without=node", "--sums", f"-n{workers}")
     assert (ran.returncode != 0) == (fault is not None) and " 1 passed, 2 skipped in " in f" {ran.stdout}"
-    assert [it for it in ran.stdout.splitlines() if "tests/sums.txt says" in it] == [fault] * (fault is not None)
+    assert [line for line in ran.stdout.splitlines() if "tests/sums.txt says" in line] == [fault] * (fault is not None)
 
 
 def test_sums_are_written(tmp_path):
@@ -177,7 +177,7 @@ def test_what_was_not_tried_is_named(ran):
 
 def test_a_failure_names_the_seed(tmp_path):
     said = [run_pytest(tmp_path / end, RUN + end).stdout for end in ("pass", "assert 0")]
-    assert ["TEST_SEED=0, " in it for it in said] == [False, True], said
+    assert ["TEST_SEED=0, " in text for text in said] == [False, True], said
 
 
 def test_an_unknown_tool_is_refused(tmp_path):
@@ -198,8 +198,8 @@ def test_a_program_is_that_of_its_sources(tmp_path, monkeypatch):
     monkeypatch.setattr(rattle, "CRATES", tmp_path / "crates")
     (tmp_path / "crates.txt").write_text("# A comment: high\nlow:\nbetween: low\nhigh: between kit\n", "utf-8")
     assert rattle.crates_below("high") == ["low", "between"]
-    sources = [tmp_path / "crates" / it for it in ("low/src/lib.rt", "low/src/a/b.rt", "between/src/lib.rt",
-                                                  "high/src/main.rt")]
+    sources = [tmp_path / "crates" / name for name in ("low/src/lib.rt", "low/src/a/b.rt", "between/src/lib.rt",
+                                                       "high/src/main.rt")]
     for path in (*sources, rattle.path_of("high")):
         path.parent.mkdir(parents=True, exist_ok=True)
         path.touch()
@@ -229,10 +229,10 @@ CARGO = "test result: ok. 3 passed; 0 failed; {} ignored; 0 measured; 0 filtered
     (0, [*GATE[:2], "rt: ok; must-fail edits: 5 refused, 2 of them only by a limit, 1 bad; all", GATE[3]], (10, 1, 0)),
     (0, EACH, (10, 0, 0)),
     (1, EACH, (10, 1, 0)),
-    (0, [it for it in EACH if it != EDITS[4]], (10, 1, 0)),
-    (0, [EDITS[0] if it == EDITS[4] else it for it in EACH], (10, 1, 0)),
-    (0, [it.replace("e.edit: refused, as it must be", "e.edit: NOT REFUSED") for it in EACH], (10, 1, 0)),
-    (0, [it.replace("e.edit: refused, as it must be", "e.edit: BAD EDIT") for it in EACH], (10, 1, 0)),
+    (0, [line for line in EACH if line != EDITS[4]], (10, 1, 0)),
+    (0, [EDITS[0] if line == EDITS[4] else line for line in EACH], (10, 1, 0)),
+    (0, [line.replace("e.edit: refused, as it must be", "e.edit: NOT REFUSED") for line in EACH], (10, 1, 0)),
+    (0, [line.replace("e.edit: refused, as it must be", "e.edit: BAD EDIT") for line in EACH], (10, 1, 0)),
     (0, [EDITS[0].replace("/a.", "/f."), *EACH], (10, 1, 0)),
     (0, GATE[1:], (7, 1, 0)),
     (0, GATE[:3], (3, 1, 0)),

@@ -44,8 +44,8 @@ def test_beside(name, call, tmp_path):
     status, said, read = call(script, replies, "--beside", tmp_path / "script", status=3)
     first, *shown = said.splitlines()
     assert (status, first, read) == (3, f"try in {ROOT}/crates/superio", script)
-    assert [" ".join(it.split()) for it in shown] == lines
-    assert {it.index("60") for it in shown if it.endswith(" 60")} <= {37}, "one below the other"
+    assert [" ".join(line.split()) for line in shown] == lines
+    assert {line.index("60") for line in shown if line.endswith(" 60")} <= {37}, "one below the other"
 
 
 def test_without_lines_beside_it(call, tmp_path):

@@ -25,8 +25,8 @@ def programs():
 @pytest.fixture(scope="module")
 def top(tmp_path_factory):
     folder = tmp_path_factory.mktemp("top")
-    for it in ("tools", "recheck", "tests/common", "tests/guests", "bindings/python/superio"):
-        shutil.copytree(ROOT / it, folder / it, ignore=shutil.ignore_patterns(*BUILT, "build-*"))
+    for name in ("tools", "recheck", "tests/common", "tests/guests", "bindings/python/superio"):
+        shutil.copytree(ROOT / name, folder / name, ignore=shutil.ignore_patterns(*BUILT, "build-*"))
     return folder
 
 
@@ -48,11 +48,12 @@ RUNS = "subprocess.run", "subprocess.call", "subprocess.Popen", "os.system", "ha
 def ignored(text):
     """The lines in which a program runs a command, and looks neither at its status nor at what it printed."""
     tree = ast.parse(text)
-    imported = {it.asname or it.name: f"{node.module}.{it.name}" for node in ast.walk(tree)
-                if isinstance(node, ast.ImportFrom) for it in node.names}
-    for call in (it.value for it in ast.walk(tree) if isinstance(it, ast.Expr) and isinstance(it.value, ast.Call)):
+    imported = {alias.asname or alias.name: f"{node.module}.{alias.name}" for node in ast.walk(tree)
+                if isinstance(node, ast.ImportFrom) for alias in node.names}
+    for call in (node.value for node in ast.walk(tree)
+                 if isinstance(node, ast.Expr) and isinstance(node.value, ast.Call)):
         name = ast.unparse(call.func)
-        is_checked = any(it.arg == "check" and ast.unparse(it.value) == "True" for it in call.keywords)
+        is_checked = any(keyword.arg == "check" and ast.unparse(keyword.value) == "True" for keyword in call.keywords)
         if imported.get(name, name) in RUNS and not is_checked:
             yield call.lineno
 
