@@ -57,7 +57,7 @@ def needed(item):
 
 
 def places_of(item):
-    return sorted({it for mark in item.iter_markers("where") for it in mark.args})
+    return sorted({place for mark in item.iter_markers("where") for place in mark.args})
 
 
 @pytest.hookimpl(optionalhook=True)
@@ -93,10 +93,12 @@ def pytest_collection_finish(session):
 def faults_of_sums(config):
     """What a run tried less, or left out more, than tests/sums.txt says."""
     stats = config.pluginmanager.get_plugin("terminalreporter").stats
-    reports = {it.nodeid: it for kind in ("passed", "failed", "error", "skipped") for it in stats.get(kind, ())
-               if "::" in it.nodeid}
-    places = {name: dict(it.user_properties).get("places", ()) if it.skipped else () for name, it in reports.items()}
-    return list(sums.faults((name, [it for it in found if not is_place(it)]) for name, found in places.items()))
+    reports = {report.nodeid: report for kind in ("passed", "failed", "error", "skipped")
+               for report in stats.get(kind, ()) if "::" in report.nodeid}
+    places = {name: dict(report.user_properties).get("places", ()) if report.skipped else ()
+              for name, report in reports.items()}
+    return list(sums.faults((name, [place for place in found if not is_place(place)])
+                            for name, found in places.items()))
 
 
 @pytest.hookimpl(trylast=True)
@@ -120,7 +122,7 @@ def pytest_runtest_setup(item):
         is_given = tool == "kit" and item.config.getoption("--program")
         if lines := [] if is_given else advice(tool, f", or run with --without {tool}"):
             pytest.fail("\n".join(lines), pytrace=False)
-    if places := [it for it in places_of(item) if not is_place(it)]:
+    if places := [place for place in places_of(item) if not is_place(place)]:
         skip(item, f"there is no {', '.join(places)}")
 
 

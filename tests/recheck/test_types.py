@@ -14,6 +14,6 @@ def test_types():
     check([sys.executable, "-m", "mypy", "--strict", "--cache-dir=/dev/null", *FILES], cwd=ROOT / "recheck")
 
 
-@pytest.mark.parametrize("file", FILES, ids=lambda it: it.name)
+@pytest.mark.parametrize("file", FILES, ids=lambda file: file.name)
 def test_length(file):
     assert len(file.read_text(encoding="utf-8").splitlines()) <= MOST_LINES
