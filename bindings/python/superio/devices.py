@@ -260,9 +260,9 @@ class Console(Saved):
     @property
     def state(self) -> ConsoleState:
         """The port's registers and held bytes, the output that waits and all else, as a value."""
-        it = self._struct
-        return ConsoleState(_serial_state(bytes(it.port)), self.output(), self.dropped(),
-                            *map(bool, (it.is_polled, it.is_ready, it.is_asleep, it.is_refused)))
+        struct = self._struct
+        return ConsoleState(_serial_state(bytes(struct.port)), self.output(), self.dropped(),
+                            *map(bool, (struct.is_polled, struct.is_ready, struct.is_asleep, struct.is_refused)))
 
     @classmethod
     def from_state(cls, state: ConsoleState) -> "Console":

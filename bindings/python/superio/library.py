@@ -44,7 +44,7 @@ def _struct(name: str) -> Any:
         kinds = {kind: _TYPES.get(kind) or _struct(kind) for _, kind, _, _ in fields}
         STRUCTS[name] = type(name, (ctypes.Structure,), {"_fields_": [
             (field, kinds[kind] * int(size) if kind == "uint8_t" and size != "1" else kinds[kind])
-            for field, kind, _, size in sorted(fields, key=lambda it: int(it[2]))]})
+            for field, kind, _, size in sorted(fields, key=lambda row: int(row[2]))]})
     return STRUCTS[name]
 
 

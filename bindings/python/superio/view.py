@@ -24,7 +24,7 @@ def row_of(number: int, step: Step) -> str:
 def table(steps: Sequence[Step]) -> str:
     """All calls, one in a row."""
     rows = []
-    for piece, numbered in groupby(enumerate(steps, 1), key=lambda it: it[1].piece):
+    for piece, numbered in groupby(enumerate(steps, 1), key=lambda pair: pair[1].piece):
         rows.extend([f"piece {piece}", *(row_of(number, step) for number, step in numbered)])
     return "\n".join([*rows, ""])
 

@@ -212,7 +212,7 @@ class Runs(FolderTest):
                 self.path.write_text("before")
                 self.path.chmod(0o640)
                 os.utime(self.path, (10 ** 9, 10 ** 9))
-                arguments = [it.format(link) for it in words] + ([] if words == SHELL else [str(recording)])
+                arguments = [word.format(link) for word in words] + ([] if words == SHELL else [str(recording)])
                 self.assertEqual(0, run(*arguments, script=script.format(link).encode())[0])
                 found = self.path.stat()
                 self.assertEqual((0o640, True, True), (found.st_mode & 0o777, link.is_symlink(),

@@ -190,7 +190,7 @@ class NamedPort(Serial):
 
 
 class States(unittest.TestCase):
-    WAYS = [copy.copy, copy.deepcopy, *(lambda it, protocol=protocol: pickle.loads(pickle.dumps(it, protocol))
+    WAYS = [copy.copy, copy.deepcopy, *(lambda device, protocol=protocol: pickle.loads(pickle.dumps(device, protocol))
                                         for protocol in range(pickle.HIGHEST_PROTOCOL + 1))]
 
     def test_a_copy_has_the_state_and_goes_its_own_way(self):
@@ -199,7 +199,8 @@ class States(unittest.TestCase):
         port.read("RBR")
         clock = Rtc.from_state(RtcState(lr=1, mr=2, imsc=3, ris=4, offset=-5, armed=True))
         for way in self.WAYS:
-            for device, change in ((port, lambda it: it.read("RBR")), (clock, lambda it: it.write("LR", 9, 0))):
+            for device, change in ((port, lambda copied: copied.read("RBR")),
+                                   (clock, lambda copied: copied.write("LR", 9, 0))):
                 before, other = device.state, way(device)
                 self.assertEqual((type(device), before), (type(other), other.state))
                 change(other)

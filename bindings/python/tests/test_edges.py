@@ -145,8 +145,8 @@ class Registers(unittest.TestCase):
     def test_offsets_of_the_clock(self):
         for old in (-MOST[63] - 1, -MOST[32], -1, 0, 1, MOST[31] + 1, MOST[32] + 1, MOST[63]):
             for new in (-MOST[63] - 1, 0, MOST[63]):
-                session = session_at(0, *(f"cl {Rtc.from_state(RtcState(offset=it)).to_bytes().hex()}"
-                                          for it in (old, new)))
+                session = session_at(0, *(f"cl {Rtc.from_state(RtcState(offset=offset)).to_bytes().hex()}"
+                                          for offset in (old, new)))
                 changed = [f"  clock offset {old} -> {new} s"] if old != new else ["  nothing changed"]
                 self.assertEqual(changed, said(session, "diff")[1:])
             self.assertIn(f" offset={old} ", repr(Rtc.from_state(RtcState(offset=old))))
@@ -273,4 +273,5 @@ class Names(FolderTest):
             view(name, f"{name}.table", f"{name}.svg") if len(name) < 200 else view(name, "a.table", "a.svg")
             files = self.files()
             self.assertEqual(3, len(files), name)
-            self.assertEqual({name, *(f"{name if len(name) < 200 else 'a'}.{it}" for it in ("table", "svg"))}, {*files})
+            self.assertEqual({name, *(f"{name if len(name) < 200 else 'a'}.{ending}" for ending in ("table", "svg"))},
+                             {*files})

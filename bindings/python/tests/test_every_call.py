@@ -60,16 +60,20 @@ class Drawn(random.Random):
 
 # The calls of each class that may change a device, with arguments for them, and those that may not.
 CHANGING = {
-    Console: {"read": lambda it: (it.randrange(9),), "write": lambda it: (it.randrange(9), it.randrange(256)),
-              "receive": lambda it: (bytearray(it.randbytes(it.randrange(70))),),
-              "consume": lambda it: (it.choice([it.randrange(9), it.getrandbits(64)]),),
-              "set_polled": lambda it: (it.flag(),),
-              **{name: lambda it: () for name in ("turn", "refuse", "reset", "suspend")}},
-    Serial: {"read": lambda it: (it.randrange(9),), "write": lambda it: (it.randrange(9), it.randrange(256)),
-             "enqueue": lambda it: (bytearray(it.randbytes(it.randrange(70))),), "character_timeout": lambda it: ()},
-    Rtc: {"read": lambda it: (it.clock_offset(), it.moment()),
-          "write": lambda it: (it.clock_offset(), it.word(), it.moment())},
-    I8042: {"read": lambda it: (it.randrange(256),), "write": lambda it: (it.randrange(8), 0xFE - it.randrange(2))},
+    Console: {"read": lambda source: (source.randrange(9),),
+              "write": lambda source: (source.randrange(9), source.randrange(256)),
+              "receive": lambda source: (bytearray(source.randbytes(source.randrange(70))),),
+              "consume": lambda source: (source.choice([source.randrange(9), source.getrandbits(64)]),),
+              "set_polled": lambda source: (source.flag(),),
+              **{name: lambda source: () for name in ("turn", "refuse", "reset", "suspend")}},
+    Serial: {"read": lambda source: (source.randrange(9),),
+             "write": lambda source: (source.randrange(9), source.randrange(256)),
+             "enqueue": lambda source: (bytearray(source.randbytes(source.randrange(70))),),
+             "character_timeout": lambda source: ()},
+    Rtc: {"read": lambda source: (source.clock_offset(), source.moment()),
+          "write": lambda source: (source.clock_offset(), source.word(), source.moment())},
+    I8042: {"read": lambda source: (source.randrange(256),),
+            "write": lambda source: (source.randrange(8), 0xFE - source.randrange(2))},
 }
 CONSTANT = {
     Console: ["dropped", "is_full", "output", "state", "to_bytes", "wants"],
@@ -199,7 +203,7 @@ class EveryState(unittest.TestCase):
             data = device.to_bytes()
             ways = [kind.from_bytes(data), kind.from_bytes(bytearray(data)), copy.copy(device), copy.deepcopy(device),
                     pickle.loads(pickle.dumps(device))]
-            self.assertEqual([(state, data)] * 6, [(it.state, it.to_bytes()) for it in (device, *ways)])
+            self.assertEqual([(state, data)] * 6, [(way.state, way.to_bytes()) for way in (device, *ways)])
             self.assertEqual(state, pickle.loads(pickle.dumps(state)))
 
     def test_a_state_goes_to_vm_superio_and_back_unless_an_alarm_is_set(self):
@@ -257,7 +261,7 @@ class EveryState(unittest.TestCase):
 class EveryTrace(FolderTest):
     def line(self, source, lines, is_first):
         """A line of a script, or words that mean one."""
-        name = source.choice([it for it in lines if is_first or it != MASK])
+        name = source.choice([line for line in lines if is_first or line != MASK])
         if source.random() < 0.4:
             register = source.choice([*SERIAL])
             return source.choice([f"read {register}", f"write {register} {source.randrange(256)}", 'type "hi\\x00"',
@@ -294,11 +298,11 @@ class EveryTrace(FolderTest):
             first.carry_out(f"trace '{self.path}'".encode())
             rows = self.path.read_text("ascii").splitlines()
             again, same = self.session(rows)
-            self.assertEqual([(it.command, it.reply, it.after) for it in calls],
-                             [(it.command, it.reply, it.after) for it in same])
+            self.assertEqual([(call.command, call.reply, call.after) for call in calls],
+                             [(call.command, call.reply, call.after) for call in same])
             self.assertEqual(first.board.snapshot(), again.board.snapshot())
-            replayed = replay("trace", (f"{row}  {it.reply or '(empty)'}".encode() if it.reply is not None
-                                        else row.encode() for row, it in zip(rows, calls)))
+            replayed = replay("trace", (f"{row}  {call.reply or '(empty)'}".encode() if call.reply is not None
+                                        else row.encode() for row, call in zip(rows, calls)))
             self.assertEqual([False] * len(calls), [step.differs for step in replayed])
             if lines is PROGRAM_LINES:
                 first.carry_out(f"script '{self.path}'".encode())

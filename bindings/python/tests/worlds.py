@@ -219,7 +219,7 @@ class World:
                 self.disturb(machine)
             elif step == steps:
                 self.calm_down()
-            elif all(it.is_at_rest() for it in self.machines):
+            elif all(each_machine.is_at_rest() for each_machine in self.machines):
                 return self.check()
             if machine.is_on and self.random.random() < 0.8:
                 next(machine.guest)
@@ -229,11 +229,11 @@ class World:
 
     def check(self):
         """All that was given was read or lost at a reset, and all that was sent and not dropped was taken, in order."""
-        for it in self.machines:
-            assert not (it.input or it.held or it.to_send or it.console.output()), it
-            assert (it.sent, it.dropped) == (it.taken, it.console.dropped())
-        given = self.given + sum(len(it.sent) for it in self.machines if it.connected)
-        assert given == sum(it.got + it.lost for it in self.machines)
+        for machine in self.machines:
+            assert not (machine.input or machine.held or machine.to_send or machine.console.output()), machine
+            assert (machine.sent, machine.dropped) == (machine.taken, machine.console.dropped())
+        given = self.given + sum(len(machine.sent) for machine in self.machines if machine.connected)
+        assert given == sum(machine.got + machine.lost for machine in self.machines)
 
     def calm_down(self):
         for machine in self.machines:
