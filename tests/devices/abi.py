@@ -55,7 +55,8 @@ def parameter(text):
     return Parameter(kind, bool(pointer or number), bool(const), CONSTANTS[number] if number else 1)
 
 
-FUNCTIONS = [Function(name, {**TYPES, **STRUCTS}[result], [parameter(it) for it in words.split(", ") if it != "void"])
+FUNCTIONS = [Function(name, {**TYPES, **STRUCTS}[result],
+                      [parameter(text) for text in words.split(", ") if text != "void"])
              for result, name, words in re.findall(r"^function (\w+) (\w+)\((.*)\)$", TABLE, re.M)]
 
 
@@ -65,6 +66,6 @@ def load(path):
     for name, result, parameters in FUNCTIONS:
         function = getattr(library, name)
         function.restype = result
-        function.argtypes = [ctypes.c_void_p if it.is_pointer else it.kind for it in parameters]
+        function.argtypes = [ctypes.c_void_p if argument.is_pointer else argument.kind for argument in parameters]
     assert library.superio_abi() == int(re.match(r"abi (\d+)", TABLE)[1])
     return library

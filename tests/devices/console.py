@@ -66,9 +66,9 @@ class Console:
     def make(self, call):
         """What stands after ` = ` in a line, of what stands before. The words `1` and `2` refuse interrupts."""
         name, *fields = call.split(" ")
-        refused = [it for it in fields if it in ("1", "2")]
+        refused = [field for field in fields if field in ("1", "2")]
         self.asked, before = 0, self.wants()
-        reply = getattr(self, f"call_{name}")(*(it for it in fields if it not in refused))
+        reply = getattr(self, f"call_{name}")(*(field for field in fields if field not in refused))
         if name not in LEAVES_WORK:
             return reply
         asked, wakes = self.asked, self.names_more(before)
@@ -242,12 +242,12 @@ def random_run(source, calls=40):
     }
     start = source.choice(["ln", "ln polled", "ln", "ln polled", f"ll {random_saved(source, OUTPUT_SIZE)}",
                            f"lx {random_struct(source)}"])
-    return [start, *(it() for it in source.choices([*table.values()], [*table], k=calls)), "lb"]
+    return [start, *(make() for make in source.choices([*table.values()], [*table], k=calls)), "lb"]
 
 
 def random_runs(seeds):
     """Lines of random calls, with what they do on the model. They begin with a new console."""
     console, calls = Console(), ["ln"]
-    for it in seeds:
-        calls += random_run(random.Random(it))
+    for seed in seeds:
+        calls += random_run(random.Random(seed))
     return "".join(f"{call} = {console.make(call)}\n" for call in calls)

@@ -5,11 +5,12 @@ import re
 from common.facts import CLOCK, IDENTIFICATION, PORT_FIELDS, PORT_REGISTERS, SERIAL
 
 # The names of the port's registers by offset, with DLAB clear and with DLAB set. A read shows them.
-READ = {(it["offset"], it.get("dlab", state)): it["name"] for it in SERIAL["registers"] if "read" in it
-        for state in ("clear", "set")}
+READ = {(register["offset"], register.get("dlab", state)): register["name"] for register in SERIAL["registers"]
+        if "read" in register for state in ("clear", "set")}
 BY_OFFSET = [[READ[offset, state] for offset in range(len(READ) // 2)] for state in ("clear", "set")]
 # Those that keep what is written, whole.
-KEPT = {it["name"] for it in SERIAL["registers"] if "write" in it and it["write"] == it.get("read")}
+KEPT = {register["name"] for register in SERIAL["registers"]
+        if "write" in register and register["write"] == register.get("read")}
 # The registers of a new port, in the order of a saved state.
 FRESH = {name: field["fresh"] for name, field in PORT_FIELDS.items()}
 
@@ -22,14 +23,14 @@ IER_MASK = sum(IER.values())   # the bits that IER keeps
 LOOPED = {MCR[output]: MSR[shown] for output, shown in SERIAL["loopback"].items()}
 
 # The clock's registers by offset.
-CLOCK_AT = {it["offset"]: it["name"] for it in CLOCK["registers"]}
-READ_ONLY = {it["name"] for it in CLOCK["registers"] if "write" not in it}
+CLOCK_AT = {register["offset"]: register["name"] for register in CLOCK["registers"]}
+READ_ONLY = {register["name"] for register in CLOCK["registers"] if "write" not in register}
 # Those that always show one number.
-CONSTANTS = {it["name"]: int(it["read"], 0) for it in CLOCK["registers"]
-             if re.fullmatch(r"\d+|0x\w+", it.get("read", ""))}
+CONSTANTS = {register["name"]: int(register["read"], 0) for register in CLOCK["registers"]
+             if re.fullmatch(r"\d+|0x\w+", register.get("read", ""))}
 # The fields of a clock, in their order, each with the format of its number, as struct has it.
-CLOCK_FIELDS = {it.get("register", it["name"]): {"bool": "b", "u32": "I", "i64": "q"}[it["type"]]
-                for it in CLOCK["fields"]}
+CLOCK_FIELDS = {field.get("register", field["name"]): {"bool": "b", "u32": "I", "i64": "q"}[field["type"]]
+                for field in CLOCK["fields"]}
 # What a read shows at each offset of the identification.
 ID_FIRST = CLOCK["identification"]["first"]
 ID_AT = {ID_FIRST + place: IDENTIFICATION[place // 4] for place in range(4 * len(IDENTIFICATION))}

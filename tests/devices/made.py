@@ -15,7 +15,7 @@ MOST_CALLS = 36
 # pending interrupts are asked for again, with the divisor, and then the bytes.
 ENDS = [("sent",), ("interrupts",), ("events",), ("capacity",)]
 CLOCK_SHOWN = [("clock_read", 5, offset) for offset in CLOCK_AT]
-SHOWN = [*ENDS, ("serial_read", 3), ("serial_write", 3, 0x03), *(("serial_read", it) for it in (1, 4, 5, 6, 7)),
+SHOWN = [*ENDS, ("serial_read", 3), ("serial_write", 3, 0x03), *(("serial_read", offset) for offset in (1, 4, 5, 6, 7)),
          ("restore",), ("interrupts",), ("serial_read", 2), ("serial_write", 3, 0x83), ("serial_read", 0),
          ("serial_read", 1), ("serial_write", 3, 0x03), ("drain",), ("events",), *CLOCK_SHOWN,
          ("clock_read", 2**32 - 1, 0x18), ("clock_read", 0, 0x00)]
@@ -115,7 +115,7 @@ def clock_offset(source):
 def any_call(call, kinds, source):
     """A call with random numbers, and bytes that may be a saved state."""
     makes = {"load": saved_port, "clock_load": saved_clock}.get(call, data)
-    return call, *(makes(source) if it == BYTES else source.getrandbits(4 * it) for it in kinds)
+    return call, *(makes(source) if digits == BYTES else source.getrandbits(4 * digits) for digits in kinds)
 
 
 def with_each_line(table, device, lines):
@@ -125,13 +125,14 @@ def with_each_line(table, device, lines):
                       if name[0] == device and call not in own)]
 
 
-PORT_SCRIPT_CALLS, PORT_BOARD_CALLS = (with_each_line(PORT_CALLS, "s", it) for it in (PROGRAM_LINES, LINES))
+PORT_SCRIPT_CALLS, PORT_BOARD_CALLS = (with_each_line(PORT_CALLS, "s", lines) for lines in (PROGRAM_LINES, LINES))
 CLOCK_BOARD_CALLS = with_each_line(CLOCK_CALLS, "c", LINES)
 
 
 def drawn(source, table, count):
     """So many calls of a table, by how often each is made beside the others."""
-    return [make(source) for make in source.choices([it for _, it in table], [often for often, _ in table], k=count)]
+    return [make(source) for make in source.choices([make for _, make in table], [often for often, _ in table],
+                                                    k=count)]
 
 
 def port_used(source):
@@ -207,7 +208,7 @@ def smaller_values(value):
     """Smaller numbers than one, or fewer and plainer bytes, the smallest first."""
     if isinstance(value, int):
         smaller = (0, 1, 2, *(value & (1 << bits) - 1 for bits in range(2, 64)), value - 1)
-        return [it for it in smaller if 0 <= it < value]
+        return [candidate for candidate in smaller if 0 <= candidate < value]
     return [bytes(size) for size in range(len(value) + 1) if bytes(size) != value]
 
 
@@ -216,7 +217,7 @@ def shown(calls, got, expected):
     rows, got, expected = [], iter(got), iter(expected)
     for call in calls:
         has_reply = call[0] != "refuse"
-        have, want = (next(it, "no reply") if has_reply else "" for it in (got, expected))
+        have, want = (next(replies, "no reply") if has_reply else "" for replies in (got, expected))
         row = f"{line_of(*call):40} {have}" + (f"   the model: {want}" if have != want else "")
         if rows and rows[-1][0] == row:
             rows[-1][1] += 1

@@ -95,7 +95,8 @@ class Port:
 
     def due(self):
         """The conditions that are pending and enabled."""
-        return [it for it, bit in ENABLED_BY.items() if self.registers["IER"] & bit and self.registers["IIR"] & it]
+        return [condition for condition, bit in ENABLED_BY.items()
+                if self.registers["IER"] & bit and self.registers["IIR"] & condition]
 
     def retry(self):
         return "ok" if all(self.objects.line() for _ in self.due()) else "trigger"

@@ -134,7 +134,7 @@ def random_recorded(seeds):
 
 def with_words(calls, *words):
     """Calls with each combination of these words after them."""
-    return ["".join(it) for it in product(calls, *words)]
+    return ["".join(combination) for combination in product(calls, *words)]
 
 
 def every_answer():

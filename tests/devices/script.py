@@ -25,7 +25,8 @@ PATTERNS = {False: pattern_of(LINES), True: pattern_of(PROGRAM_LINES)}   # by wh
 def line_of(call, *arguments):
     """A call as a line."""
     name = NAMES[call]
-    words = [it.hex() if digits == BYTES else f"{it:0{digits}x}" for it, digits in zip(arguments, LINES[name][1:])]
+    words = [argument.hex() if digits == BYTES else f"{argument:0{digits}x}"
+             for argument, digits in zip(arguments, LINES[name][1:])]
     return " ".join(filter(None, [name, *words]))
 
 
@@ -33,7 +34,7 @@ def call_of(line):
     """The call of a line that has a syntax."""
     name, *words = line.split(" ")
     call, *digits = LINES[name]
-    return call, *(bytes.fromhex(word) if it == BYTES else int(word, 16) for word, it in zip(words, digits))
+    return call, *(bytes.fromhex(word) if kind == BYTES else int(word, 16) for word, kind in zip(words, digits))
 
 
 def script_of(calls):

@@ -45,7 +45,7 @@ def test_number_of_calls():
     at_least(62_000, loads()[0])
 
 
-@pytest.mark.parametrize("devices", [oracle, model], ids=lambda it: it.__name__)
+@pytest.mark.parametrize("devices", [oracle, model], ids=lambda module: module.__name__)
 @pytest.mark.parametrize("name", at_least(3, RECORDED))
 def test_models(name, devices):
     recorder, rows = Recorder(devices), RECORDED[name]
@@ -98,5 +98,5 @@ def test_random_calls_in_rust(rust):
     for calls in runs:
         rows = rows_of(recording_of(calls, recorder))   # a run goes on with the devices of the run before
         if found := difference(rows, [next(made, "no call") for _ in calls]):
-            few = fewest(calls, lambda it: difference(rows_of(recording_of(it)), rust(it)))
+            few = fewest(calls, lambda fewer: difference(rows_of(recording_of(fewer)), rust(fewer)))
             pytest.fail(difference(rows_of(recording_of(few)), rust(few)) or found, pytrace=False)

@@ -20,12 +20,12 @@ class Made:
     def make(self, call):
         """What stands after ` = `. A refused interrupt is told."""
         name, *fields = call.split(" ")
-        refused = [it for it in fields if it in ("1", "2")]
-        made = getattr(self, name)(*(it for it in fields if it not in refused))
+        refused = [field for field in fields if field in ("1", "2")]
+        made = getattr(self, name)(*(field for field in fields if field not in refused))
         reply, work = made if isinstance(made, tuple) else (made, None)
         if work is None:
             return reply
-        taken = next((it for it in range(work.interrupts) if str(it + 1) in refused), work.interrupts)
+        taken = next((place for place in range(work.interrupts) if str(place + 1) in refused), work.interrupts)
         wakes = work.wakes
         if taken < work.interrupts:
             wakes |= self.console.refuse().wakes

@@ -80,7 +80,7 @@ def differences(program, scripts):
         ran = subprocess.run([program], input=script.script, capture_output=True, timeout=LIMIT)
         return script.difference((ran.returncode, ran.stdout, ran.stderr))
     with ThreadPoolExecutor() as pool:
-        return [it for it in pool.map(difference, scripts) if it]
+        return [found for found in pool.map(difference, scripts) if found]
 
 
 def parts(cases, size):
@@ -121,13 +121,13 @@ def refused(calls):
         if mask and made[without_last] < mask.bit_length():
             made[mask] = made[without_last]
         else:
-            made[mask] = cases.port([it for call in calls for it in (call, *PORT_SHOWN)], mask)
+            made[mask] = cases.port([step for call in calls for step in (call, *PORT_SHOWN)], mask)
     return cases.script(calls)
 
 
 def test_each_three_calls_of_a_port(program):
     scripts = [refused(calls) for calls in product(CALLS, repeat=3)]
-    assert sum(it.script.count(b"\nsw 07 ") for it in scripts) >= 4_950
+    assert sum(script.script.count(b"\nsw 07 ") for script in scripts) >= 4_950
     assert not differences(program, scripts)
 
 

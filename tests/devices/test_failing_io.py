@@ -92,7 +92,7 @@ ROOMS = at_least(190, [(script, room) for script, step in ((EACH_LINE, 1), (BAD_
                        for room in [*range(0, len(script.replies), step), len(script.replies)]])
 
 
-@pytest.mark.parametrize("script, piece", PIECES, ids=lambda it: getattr(it, "place", it))
+@pytest.mark.parametrize("script, piece", PIECES, ids=lambda value: getattr(value, "place", value))
 def test_pieces(program, script, piece):
     assert not script.difference(in_pieces(program, script.script, piece))
 
@@ -107,20 +107,21 @@ def test_no_input(program, source):
     assert not fault(EACH_LINE).difference(redirected(program, EACH_LINE.script, source))
 
 
-@pytest.mark.parametrize("script, room", ROOMS, ids=lambda it: getattr(it, "place", it))
+@pytest.mark.parametrize("script, room", ROOMS, ids=lambda value: getattr(value, "place", value))
 def test_output_has_room(program, script, room):
     expected = fault(script, room) if room < len(script.replies) else script
     assert not expected.difference(with_room(program, script.script, room))
 
 
 @pytest.mark.parametrize("output", ["> /dev/full", ">&-"])
-@pytest.mark.parametrize("script", [EACH_LINE, BAD_LATER, LONGEST_BAD], ids=lambda it: getattr(it, "place", it))
+@pytest.mark.parametrize("script", [EACH_LINE, BAD_LATER, LONGEST_BAD],
+                         ids=lambda script: getattr(script, "place", script))
 def test_no_output(program, script, output):
     assert not fault(script).difference(redirected(program, script.script, output))
 
 
 @pytest.mark.needs("cc")
-@pytest.mark.parametrize("script", [EACH_LINE, BAD_LATER], ids=lambda it: it.place)
+@pytest.mark.parametrize("script", [EACH_LINE, BAD_LATER], ids=lambda script: script.place)
 def test_a_write_fails_once(program, script, tmp_path):
     """A fault is reported, although what was to be written goes out as the program ends."""
     library = tmp_path / "fails_once.so"

@@ -32,7 +32,7 @@ def calls_of(seed, is_for_program):
 def compare(seed, calls, ends, replies, expected):
     """Fails with the fewest calls that differ, if any do. Both functions give the replies to calls."""
     if replies(calls) != expected(calls):
-        few = fewest(calls[:-len(ends)], lambda it: replies([*it, *ends]) != expected([*it, *ends]))
+        few = fewest(calls[:-len(ends)], lambda fewer: replies([*fewer, *ends]) != expected([*fewer, *ends]))
         calls = [*few, *ends]
         pytest.fail(f"seed {seed}\n{shown(calls, replies(calls), expected(calls))}", pytrace=False)
 
@@ -81,7 +81,7 @@ def run_all(program, scripts):
         return Script("script", text.encode("latin-1"), printed, end).difference(
             (status, got.encode("latin-1"), errors.encode()))
     with ThreadPoolExecutor() as pool:
-        return [it for it in pool.map(difference, scripts) if it]
+        return [found for found in pool.map(difference, scripts) if found]
 
 
 @pytest.mark.needs("kit")
@@ -101,7 +101,7 @@ def test_broken_scripts(program, is_for_program):
 def test_each_line_is_made():
     """Random scripts have every line, and those for the program every one of its own."""
     for is_for_program, lines in (True, PROGRAM_LINES), (False, LINES):
-        calls = [it for seed in seeds("program", 400) for it in random_calls(random.Random(seed), is_for_program)]
+        calls = [call for seed in seeds("program", 400) for call in random_calls(random.Random(seed), is_for_program)]
         assert {name for name, *_ in calls} == {call for call, *_ in lines.values()}
     assert {*PROGRAM_LINES} == {*LINES} - {*FURTHER_LINES}
 
@@ -123,7 +123,7 @@ def test_a_wrong_model_is_found():
     for seed in seeds("wrong", 200):
         calls = calls_of(seed, False)
         if len(sizes) < 5 and replies_of(Board(wrong), calls) != by_steps(calls):
-            few = fewest(calls, lambda it: replies_of(Board(wrong), it) != by_steps(it))
+            few = fewest(calls, lambda fewer: replies_of(Board(wrong), fewer) != by_steps(fewer))
             assert "the model:" in made.shown(few, replies_of(Board(wrong), few), by_steps(few))
             sizes.append(len(few))
     assert len(sizes) == 5 and min(sizes) <= 6 and max(sizes) <= 20, sizes

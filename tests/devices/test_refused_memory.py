@@ -78,7 +78,7 @@ def runs(library, command, script=b""):
             return
 
 
-@pytest.mark.parametrize("rows, printed", SCRIPTS, ids=lambda it: it[0] if isinstance(it[0], str) else "")
+@pytest.mark.parametrize("rows, printed", SCRIPTS, ids=lambda value: value[0] if isinstance(value[0], str) else "")
 def test_script(refusing, program, rows, printed):
     script, = of_block("the script", rows)
     found = list(runs(refusing, [program], script.script))

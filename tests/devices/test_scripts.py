@@ -27,7 +27,7 @@ def test_number_of_lines():
 
 
 @pytest.mark.needs("kit")
-@pytest.mark.parametrize("script", SCRIPTS, ids=lambda it: it.place)
+@pytest.mark.parametrize("script", SCRIPTS, ids=lambda script: script.place)
 def test_program(program, script):
     ran = subprocess.run([program], input=script.script, capture_output=True, timeout=LIMIT)
     difference = script.difference((ran.returncode, ran.stdout, ran.stderr))
@@ -35,7 +35,7 @@ def test_program(program, script):
 
 
 @pytest.mark.needs("kit")
-@pytest.mark.parametrize("place, command, printed", COMMANDS, ids=lambda it: it.split("\n")[0][:60])
+@pytest.mark.parametrize("place, command, printed", COMMANDS, ids=lambda text: text.split("\n")[0][:60])
 def test_command(program, place, command, printed, tmp_path):
     """A document shows a command that runs the program, and what it prints."""
     (tmp_path / "superio").symlink_to(program)
@@ -45,7 +45,7 @@ def test_command(program, place, command, printed, tmp_path):
     assert ran.stdout == printed
 
 
-@pytest.mark.parametrize("path", at_least(1, sorted((ROOT / "examples").glob("*.script"))), ids=lambda it: it.name)
+@pytest.mark.parametrize("path", at_least(1, sorted((ROOT / "examples").glob("*.script"))), ids=lambda path: path.name)
 def test_example(path):
     """A document shows each example with its replies."""
     assert path.read_bytes() in [script.script for script in SHOWN]
