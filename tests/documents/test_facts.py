@@ -38,7 +38,7 @@ def test_place(file, text):
     assert text in contents(file), f"{file} has no {text!r}"
 
 
-@pytest.mark.parametrize("number, files", at_least(15, [it for block in BLOCKS for it in numbers_of(block).items()]),
-                         ids=lambda it: hex(it) if isinstance(it, int) else ", ".join(sorted(it)))
+@pytest.mark.parametrize("number, files", at_least(15, [row for block in BLOCKS for row in numbers_of(block).items()]),
+                         ids=lambda value: hex(value) if isinstance(value, int) else ", ".join(sorted(value)))
 def test_number(number, files):
     assert len(files) > 1, f"of this block, only {', '.join(files)} has {number}"

@@ -78,7 +78,7 @@ def test_link(document, link):
 
 
 @pytest.mark.parametrize("document, block, source", EXCERPTS,
-                         ids=lambda it: "" if isinstance(it, tuple) else str(it))
+                         ids=lambda value: "" if isinstance(value, tuple) else str(value))
 def test_excerpt(document, block, source):
     """Looking for a line takes those before it, so that the next has to stand below."""
     rest = map(str.strip, (ROOT / document.path.parent / source).read_text(encoding="utf-8").splitlines())
@@ -86,7 +86,7 @@ def test_excerpt(document, block, source):
         assert line.strip() in rest, f"{source} has no line {line!r} there"
 
 
-@pytest.mark.parametrize("document", [it for it in DOCUMENTS if str(it) != "README.md"], ids=str)
+@pytest.mark.parametrize("document", [document for document in DOCUMENTS if str(document) != "README.md"], ids=str)
 def test_is_linked(document):
     """Another document links to each. A link to a folder leads to its README.md."""
     paths = {target(other, link)[0] for other, link in LINKS if other.path != document.path}

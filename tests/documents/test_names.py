@@ -49,9 +49,10 @@ class Sources:
         self.functions = []
         for path, text in sorted(self.texts.items()):
             if path.suffix in (".rs", ".rt"):
-                modules = [it for it in path.relative_to(ROOT).with_suffix("").parts
-                           if it not in ("crates", "src", "lib", "main")]
-                self.functions += [replace(it, path=(*modules, *it.path)) for it in functions_of(text)]
+                modules = [part for part in path.relative_to(ROOT).with_suffix("").parts
+                           if part not in ("crates", "src", "lib", "main")]
+                self.functions += [replace(function, path=(*modules, *function.path))
+                                   for function in functions_of(text)]
         self.by_name = defaultdict(list)   # which their path ends with
         for function in self.functions:
             self.by_name[function.name].append(function)
@@ -64,17 +65,19 @@ class Sources:
         """The functions that a path names: those with clauses, or if none has any, all. `laws`, a module of
         `vm_superio`, also has what `superio_laws` has."""
         paths = [path.split("::"), re.sub(r"\blaws\b", "superio_laws", path).split("::")]
-        ends = dict.fromkeys(it[-1] for it in paths)
-        found = [it for end in ends for it in self.by_name.get(end, ()) if any(map(it.is_named, paths))]
+        ends = dict.fromkeys(names[-1] for names in paths)
+        found = [function for end in ends for function in self.by_name.get(end, ())
+                 if any(map(function.is_named, paths))]
         return [function for function in found if function.clauses] or found
 
     def lacks(self, code):
         """What a piece of code names, and the sources have not."""
         paths = re.findall(r"\w+(?:::\w+)+", without_generics(code).replace("::::", "::"))
-        yield from (it for it in paths if it.split("::")[-1].islower() and not self.named(it))
+        yield from (path for path in paths if path.split("::")[-1].islower() and not self.named(path))
         # A file may be named by the end of its path, and without its ending.
-        yield from (it for it in FILE.findall(code) if not re.search(rf"/{re.escape(it)}(\.\w+)?[/\n]", self.files))
-        yield from (it for it in WORD.findall(code) if it not in self.words)
+        yield from (file for file in FILE.findall(code)
+                    if not re.search(rf"/{re.escape(file)}(\.\w+)?[/\n]", self.files))
+        yield from (word for word in WORD.findall(code) if word not in self.words)
 
 
 def command_faults(code):
@@ -109,7 +112,8 @@ def code_faults(sources, code):
         for path, functions, clauses in cited(sources, citation):
             yield from [] if functions else [f"there is no function {path}"]
             for function in functions:
-                yield from (f"{function} has no clause {it}" for it in clauses if it not in function.clauses)
+                yield from (f"{function} has no clause {clause}" for clause in clauses
+                            if clause not in function.clauses)
     elif not UNREAD.search(code):
         yield from (f"{name} is nowhere in the sources" for name in sources.lacks(code))
         yield from command_faults(code)
@@ -133,14 +137,14 @@ def clauses():
 
 
 SOURCES = Sources()
-DOCUMENTS = [it for it in documents() if str(it) != "CHANGELOG.md"]   # it names what was
+DOCUMENTS = [document for document in documents() if str(document) != "CHANGELOG.md"]   # it names what was
 # The functions and the clauses that the documents of CLAIMS cite.
-CITED = {it for name in CLAIMS for line in Document(name).prose.splitlines() for code in CODE.findall(line)
-         for it in covered(SOURCES, code)}
+CITED = {pair for name in CLAIMS for line in Document(name).prose.splitlines() for code in CODE.findall(line)
+         for pair in covered(SOURCES, code)}
 # The calls of a console, which docs/USING.md tells of.
-CONSOLE = {it.name for it in SOURCES.functions if it.is_public and it.path[-2] == "Console"
-           and it.path[0] == "superio_console" and " for " not in it.header}
-PIECES = [code for it in DOCUMENTS for line in it.prose.splitlines() for code in CODE.findall(line)]
+CONSOLE = {function.name for function in SOURCES.functions if function.is_public and function.path[-2] == "Console"
+           and function.path[0] == "superio_console" and " for " not in function.header}
+PIECES = [code for document in DOCUMENTS for line in document.prose.splitlines() for code in CODE.findall(line)]
 
 
 def test_number_of_names():
@@ -158,7 +162,7 @@ def test_document(document):
 def test_clause(function, clause):
     """A document cites each clause."""
     is_of_c = function.startswith("superio_c::")
-    is_cited = (function, clause) in CITED or is_of_c and clause in {it for _, it in CITED}
+    is_cited = (function, clause) in CITED or is_of_c and clause in {name for _, name in CITED}
     assert is_cited, "docs/CONTRACTS.md does not name it"
 
 
@@ -167,7 +171,8 @@ def test_call_of_console(name):
     assert name in CODE.findall(Document("docs/USING.md").prose)
 
 
-SHOWN = [(str(it), block.number, "\n".join([*block.lines, ""])) for it in DOCUMENTS for block in it.blocks
+SHOWN = [(str(document), block.number, "\n".join([*block.lines, ""]))
+         for document in DOCUMENTS for block in document.blocks
          if block.language == "text" and block.lines[0].startswith("pub record ")]
 
 

@@ -39,8 +39,8 @@ def port_registers():
                 for offset, latched, clear, only in re.findall(
                     r"offset == (\d) then (?:\(if dlab then (\w+) else (\w+)\)|(\w+))", REGISTER_MAP)
                 for is_latched in (False, True)}
-    yield compare("how many registers an access reaches", {(it.offset, latched) for it in SERIAL.values()
-                                                          for latched in (False, True)}, {*variants})
+    yield compare("how many registers an access reaches", {(row.offset, latched) for row in SERIAL.values()
+                                                           for latched in (False, True)}, {*variants})
     written = {*re.findall(r"\bwrite_step (\w+) \w+", STEP)} - {"_"}
     for name, (_, offset, _, bits, latched, access, ignored) in SERIAL.items():
         variant = {"RBR": "Data", "THR": "Data", "FCR": "Iir"}.get(name, name.capitalize())
@@ -79,14 +79,15 @@ def port_bits():
     for bit, name in SERIAL["IER"].bits:
         yield compare(f"bit {name} of IER in DEVICES.md", True, is_told(name, "IER"))
     outputs = re.findall(r"mcr_(\w+)_bit then msr_(\w+)_bit", REGISTER_MAP)
-    yield compare("what loopback shows", SERIAL_FACTS["loopback"], {out.upper(): it.upper() for out, it in outputs},
+    yield compare("what loopback shows", SERIAL_FACTS["loopback"],
+                  {out.upper(): shown.upper() for out, shown in outputs},
                   dict(re.findall(r"(\w+) as (\w+)", re.search(r"the outputs of MCR above them: (.*?)\.", PAGE)[1])))
 
 
 def clock_results():
     """Offsets, accesses, the bytes of the identification, and a new clock."""
     variants = {int(offset, 16): name for offset, name in re.findall(r"offset == 0x(\w+) then (\w+)", RTC)}
-    yield compare("the offsets of registers", {it["offset"] for it in CLOCK_FACTS["registers"]}, {*variants})
+    yield compare("the offsets of registers", {row["offset"] for row in CLOCK_FACTS["registers"]}, {*variants})
     accesses = {letter: dict(re.findall(rf"is_{kind} (\w+) = (true|false)", RTC))
                 for letter, kind in (("r", "readable"), ("w", "writable"))}
     shown = dict(re.findall(r"clock_register_read (\w+) guest state = (?:Some )?(\S+)", RTC))
@@ -97,7 +98,7 @@ def clock_results():
             for letter in "rw":
                 stated = accesses[letter].get(variant, accesses[letter]["_"]) == "true"
                 yield compare(f"{letter} of {name}", letter in register.access, stated)
-            words = next(it for it in CLOCK_FACTS["registers"] if it["name"] == name).get("read", "None").strip("`")
+            words = next(row for row in CLOCK_FACTS["registers"] if row["name"] == name).get("read", "None").strip("`")
             yield compare(f"what {name} shows", {"guest time": "guest", "ris & imsc": "(bit_and"}.get(words, words),
                           shown[variant].removeprefix("state."))
     first = next(register.offset for name, register in CLOCK.items() if name == "ID0")

@@ -138,7 +138,7 @@ def test_lengths():
 # ---- The table, and the definitions
 
 def test_header_of_definitions():
-    assert bytes(int(it, 16) for it in re.findall(r"0x(\w\w)", definition("magic"))) == MAGIC
+    assert bytes(int(digits, 16) for digits in re.findall(r"0x(\w\w)", definition("magic"))) == MAGIC
     assert int(definition("version")) == ENCODING["version"]
     kinds = [int(definition(f"{name}_kind")) for name in ("serial", "clock", "console")]
     assert kinds == [KINDS[name] for name in ("serial port", "clock", "console")]
@@ -148,20 +148,22 @@ def test_header_of_definitions():
 def test_fields_of_definitions():
     """Their order, and the width of each number."""
     of_port = definition("register_bytes", words(CORE / "specs/Serial.antt"))
-    assert re.findall(r"\bs\.(\w+) ∷", of_port) == [it["name"] for it in PORT_FIELDS.values()]
-    assert [it["name"] for it in SERIAL["fields"]] == [*(it["name"] for it in PORT_FIELDS.values()), "in_buffer"]
+    assert re.findall(r"\bs\.(\w+) ∷", of_port) == [field["name"] for field in PORT_FIELDS.values()]
+    assert [field["name"] for field in SERIAL["fields"]] == [
+        *(field["name"] for field in PORT_FIELDS.values()), "in_buffer"]
     contents = definition("clock_contents")
     of_clock = re.findall(r"(?:to_le_bytes w(\d+)|(flag)) \(?(?:cast_unsigned w\d+ )?state\.(\w+)", contents)
     assert [(name, 1 if flag else int(bits) // 8) for bits, flag, name in of_clock] == [
-        (it["name"], BYTES[it["type"]]) for it in CLOCK["fields"]]
-    assert re.findall(r"cast_unsigned w\d+ state\.(\w+)", contents) == [it["name"] for it in CLOCK["fields"] if it["type"] == "i64"]
+        (field["name"], BYTES[field["type"]]) for field in CLOCK["fields"]]
+    assert re.findall(r"cast_unsigned w\d+ state\.(\w+)", contents) == [
+        field["name"] for field in CLOCK["fields"] if field["type"] == "i64"]
 
 
 def test_struct_of_the_clock():
     """It has the fields of the table, in the order of its struct, with their types there."""
     source = (CORE / "src/rtc_pl031.rt").read_text(encoding="utf-8")
     struct = re.search(r"^pub struct Pl031 \{\n(.*?)^\}", source, re.M | re.S)[1]
-    kinds = {it["name"]: it.get("in_struct", it["type"]) for it in CLOCK["fields"]}
+    kinds = {field["name"]: field.get("in_struct", field["type"]) for field in CLOCK["fields"]}
     assert re.findall(r"^    pub (\w+): (\w+),$", struct, re.M) == [
         (name, kinds.pop(name)) for name in CLOCK["struct"]["fields"]]
     assert not kinds
@@ -170,22 +172,22 @@ def test_struct_of_the_clock():
 def test_struct_of_the_console():
     source = (CONSOLE_CRATE / "src/lib.rt").read_text(encoding="utf-8")
     struct = re.search(r"^pub struct Console \{\n(.*?)^\}", source, re.M | re.S)[1]
-    kept = [it for it in CONSOLE["fields"] if it["type"] in BYTES]
+    kept = [field for field in CONSOLE["fields"] if field["type"] in BYTES]
     assert re.findall(r"^    pub (\w+): (u\d+),$", struct, re.M) == [
-        (it["name"], it["type"].replace("bool", "u8")) for it in kept]
+        (field["name"], field["type"].replace("bool", "u8")) for field in kept]
     assert OUTPUT_SIZE == int(re.search(r"OUTPUT_SIZE: usize = (\d+);", words(CONSOLE_CRATE / "src/output_ring.rt"))[1])
 
 
 def test_flags_of_definitions():
     flags = re.findall(r"bit_if c\.(\w+) (\d+)", definition("flags_of", words(CONSOLE_CRATE / "specs/Saved.antt")))
-    assert flags == [(it["name"], str(it["flag"])) for it in CONSOLE["fields"] if "flag" in it]
+    assert flags == [(field["name"], str(field["flag"])) for field in CONSOLE["fields"] if "flag" in field]
 
 
 def test_errors_of_definitions():
     """Their cases, what they hold, and their texts, in the order of their numbers."""
     cases = re.search(r"^pub enum SavedStateError \{\n(.*?)^\}", DECLARED, re.M | re.S)[1]
     assert re.findall(r"^    (\w+)(?:\((\w+)\))?,$", cases, re.M) == [
-        (it["case"], it.get("holds", "")) for it in ERRORS]
+        (error["case"], error.get("holds", "")) for error in ERRORS]
     texts = re.findall(r'saved_state_error_text \(?(\w+)(?: _\))? = Some \(codes "(.*?)"\)', SPECS)
-    assert texts == [(it["case"], told(it["text"])) for it in at_least(8, ERRORS)]
-    assert [word_of(it) for it in ERRORS] == [*SAVED_STATE_ERRORS]
+    assert texts == [(error["case"], told(error["text"])) for error in at_least(8, ERRORS)]
+    assert [word_of(error) for error in ERRORS] == [*SAVED_STATE_ERRORS]

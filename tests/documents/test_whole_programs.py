@@ -182,7 +182,7 @@ def test_rules_of_the_event_loop(tmp_path):
 
 
 @pytest.mark.needs("cc")
-@pytest.mark.parametrize("rule, edit", FORGETFUL, ids=lambda it: it if isinstance(it, str) else "")
+@pytest.mark.parametrize("rule, edit", FORGETFUL, ids=lambda value: value if isinstance(value, str) else "")
 def test_an_event_loop_that_breaks_a_rule(rule, edit, tmp_path):
     program = code("docs/C.md", "c", "int main")
     assert program.count(edit[0]) == 1
@@ -384,7 +384,7 @@ def test_rules_of_a_bus(built, tmp_path):
 def test_accesses_in_rust(line, built, tmp_path):
     """As in C: each reaches the console once, and its work is carried out, whatever the line refuses."""
     program, is_level = without_main(rust_program_for(line)), line == "levels"
-    made = MADE_IN_RUST.format(*(str(it).lower() for it in (is_level, line == "a loader that polls")))
+    made = MADE_IN_RUST.format(*(str(flag).lower() for flag in (is_level, line == "a loader that polls")))
     if is_level:
         program = edited(program, [(SET_LINE_IN_RUST, SET_BOTH_IN_RUST)])
         made = edited(made, LEVEL_FIELD[1:])
