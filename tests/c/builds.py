@@ -55,4 +55,4 @@ def run_rules(monitor, folder):
     return run([folder / "rules", seed(), 20])
 
 
-assert {f"{it}-linux" for it in ("x86_64", "aarch64")} == {*TARGETS}
+assert {f"{processor}-linux" for processor in ("x86_64", "aarch64")} == {*TARGETS}

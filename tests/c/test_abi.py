@@ -78,7 +78,7 @@ def arguments_of(source, function, states):
 
 
 def places(arguments):
-    return [it for it in arguments if isinstance(it, Place)]
+    return [argument for argument in arguments if isinstance(argument, Place)]
 
 
 def value_of(result):
@@ -90,9 +90,9 @@ def value_of(result):
 
 def call(library, function, arguments):
     """The result of a call, as a value, and what it left behind each pointer."""
-    pointers = [it.pointer if isinstance(it, Place) else it for it in arguments]
+    pointers = [argument.pointer if isinstance(argument, Place) else argument for argument in arguments]
     result = getattr(library, function.name)(*pointers)
-    return value_of(result), [it.content() for it in places(arguments)]
+    return value_of(result), [place.content() for place in places(arguments)]
 
 
 def writable_pieces(path):
@@ -112,14 +112,14 @@ def made(library):
     """Calls of all functions in turn, with their arguments, results, what they left, and whether the library's own
     memory is as it was."""
     source, states, calls, pieces = random_source("abi"), [b""], [], writable_pieces(library._name)
-    own_memory = [ctypes.string_at(*it) for it in pieces]
+    own_memory = [ctypes.string_at(*piece) for piece in pieces]
     for _ in range(ROUNDS):
         for function in FUNCTIONS:
             arguments = arguments_of(source, function, states)
             result, left = call(library, function, arguments)
             if function.name.endswith("_save"):
                 states.append(left[-1][:result])
-            before, own_memory = own_memory, [ctypes.string_at(*it) for it in pieces]
+            before, own_memory = own_memory, [ctypes.string_at(*piece) for piece in pieces]
             calls.append((function, arguments, result, left, before == own_memory))
     return calls
 
@@ -138,7 +138,7 @@ def test_name(library):
 
 def test_guards(made):
     """Nothing beside what a pointer leads to is written."""
-    assert not failures(made, lambda _, arguments, *rest: all(it.is_guarded() for it in places(arguments)))
+    assert not failures(made, lambda _, arguments, *rest: all(place.is_guarded() for place in places(arguments)))
 
 
 def test_const(made):
@@ -151,7 +151,7 @@ def test_const(made):
 def test_counts(made):
     """A result that counts the bytes of an array: behind them it is as it was."""
     counted = [row for row in made if row[0].result is ctypes.c_size_t
-               and any(it.is_pointer and not it.is_const for it in row[0].parameters)]
+               and any(parameter.is_pointer and not parameter.is_const for parameter in row[0].parameters)]
     assert counted
     assert not failures(counted, lambda function, arguments, result, left, _:
                         left[-1][result:] == places(arguments)[-1].content_before()[result:])
@@ -159,7 +159,8 @@ def test_counts(made):
 
 def test_earlier_results(made):
     """What a call left is the same after all later calls."""
-    assert not failures(made, lambda _, arguments, __, left, ___: left == [it.content() for it in places(arguments)])
+    assert not failures(made, lambda _, arguments, __, left, ___:
+                        left == [place.content() for place in places(arguments)])
 
 
 def test_no_state(made):
@@ -172,7 +173,8 @@ def test_same_again(library, made):
     it is passed, and devices that take turns do what each does alone."""
     source, different = random_source("again"), set()
     for function, arguments, result, left, _ in reversed(made):
-        again = [Place(source, it.content_before()) if isinstance(it, Place) else it for it in arguments]
+        again = [Place(source, argument.content_before()) if isinstance(argument, Place) else argument
+                 for argument in arguments]
         if call(library, function, again) != (result, left):
             different.add(function.name)
     assert not different
@@ -324,5 +326,5 @@ def test_damaged(library, kind):
                 assert saved(library, kind, device) == damaged
             else:
                 assert bytes(device) == bytes([0xA5]) * ctypes.sizeof(struct)
-        refused = sum(loaded(library, kind, it)[0] != 0 for it in flipped[:8 * HEADER] + other_lengths)
+        refused = sum(loaded(library, kind, changed)[0] != 0 for changed in flipped[:8 * HEADER] + other_lengths)
         assert refused == 8 * HEADER + len(other_lengths)

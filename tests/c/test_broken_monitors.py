@@ -46,7 +46,7 @@ BROKEN = at_least(20, {
 }.items())
 
 
-@pytest.mark.parametrize("said, edit", BROKEN, ids=lambda it: it if isinstance(it, str) else "")
+@pytest.mark.parametrize("said, edit", BROKEN, ids=lambda value: value if isinstance(value, str) else "")
 def test_a_monitor_that_breaks_a_rule(said, edit, tmp_path):
     text = (ROOT / "examples/c/monitor.c").read_text(encoding="utf-8")
     assert text.count(edit[0]) == 1

@@ -146,29 +146,32 @@ def test_mistake(compiler, row, tmp_path):
     source = tmp_path / "mistake.c"
     source.write_text(CALLER.format(call), "ascii")
     said = run([*compiler.split(), *WARNINGS, "-c", source, "-o", "/dev/null"]).stdout
-    assert said == "" if wanted == "nothing" else all(it in said for it in wanted.split(", "))
+    assert said == "" if wanted == "nothing" else all(warning in said for warning in wanted.split(", "))
 
 
 def callers(name, parameters):
     """Callers of a function. In each one, an argument is not set, or is a byte too small. If the caller says how many
     bytes there are, it says ten."""
     def call(argument="", by=""):
-        words = [by if it.name == argument else it.name if it.kind.endswith("*") or it.length else
-                 "10" if it.kind == "size_t" else "0" for it in parameters]
+        words = [by if parameter.name == argument else
+                 parameter.name if parameter.kind.endswith("*") or parameter.length else
+                 "10" if parameter.kind == "size_t" else "0" for parameter in parameters]
         return f"{name}({', '.join(words)})"
 
-    for argument, length in [(it.name, it.length or 10) for it in parameters if it.name == "bytes"]:
+    for argument, length in [(parameter.name, parameter.length or 10) for parameter in parameters
+                             if parameter.name == "bytes"]:
         yield f"{name}_{argument}", f"uint8_t memory[{length}];", call(argument, "memory")
         yield f"{name}_few", f"uint8_t memory[{length} - 1]; fill(memory);", call(argument, "memory")
-    for argument, kind in [(it.name, it.kind.strip("*").split()[-1]) for it in parameters if "superio" in it.kind]:
+    for argument, kind in [(parameter.name, parameter.kind.strip("*").split()[-1]) for parameter in parameters
+                           if "superio" in parameter.kind]:
         yield f"{name}_{argument}", f"{kind} memory;", call(argument, "&memory")
 
 
 @pytest.mark.needs("cc")
 def test_memory_of_arguments(tmp_path):
     """Gcc warns of each argument that is read and not set, of each that is too small, and of no other."""
-    made = at_least(50, [it for name, function in read_header().functions.items()
-                         for it in callers(name, function.parameters)])
+    made = at_least(50, [caller for name, function in read_header().functions.items()
+                         for caller in callers(name, function.parameters)])
     source = "".join(OF_MEMORY.format(name=name, memory=memory, call=call) for name, memory, call in made)
     (tmp_path / "memory.c").write_text(f"#include <superio.h>\nvoid fill(uint8_t *memory);\n{source}", "ascii")
     said = run(["gcc", "-std=c99", *WARNINGS, "-Wno-unused-result", "-c", "memory.c", "-o", "/dev/null"], cwd=tmp_path)

@@ -72,13 +72,13 @@ def from_source(tmp_path_factory):
 
 def cases(*processors):
     """Compilers, each with the processor that it is for."""
-    return [pytest.param(*it.values, processor, id=f"{processor} {it.id}", marks=it.marks)
-            for processor in processors for it in compilers_for(processor)]
+    return [pytest.param(*compiler.values, processor, id=f"{processor} {compiler.id}", marks=compiler.marks)
+            for processor in processors for compiler in compilers_for(processor)]
 
 
 def in_c(parameters):
     """Those compilers that compile C."""
-    return [it for it in parameters if "-xc " in it.values[0]]
+    return [compiler for compiler in parameters if "-xc " in compiler.values[0]]
 
 
 PREBUILT, SOURCE = at_least(5, cases("x86_64", "aarch64")), at_least(6, cases(HOST, *OTHERS))
