@@ -135,7 +135,7 @@ OWN_TESTS = at_least(4, sorted((PACKAGE / "tests").glob("*.test.mjs")))
 
 
 @pytest.mark.needs("node")
-@pytest.mark.parametrize("path", OWN_TESTS, ids=lambda it: it.name)
+@pytest.mark.parametrize("path", OWN_TESTS, ids=lambda path: path.name)
 def test_own_tests(path):
     """Of the package, which compare it with superio.d.ts and package.json. All that are written pass, and no other
     ends. No text depends on the language of a user: here it writes other digits."""

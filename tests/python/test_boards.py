@@ -92,15 +92,15 @@ def test_near_lines(name):
     fields = ("6869" if digits == BYTES else "0123456789abcdef"[-digits:] for digits in LINES[name][1:])
     line = " ".join([name, *fields]).encode()
     places = range(len(line) + 1)
-    near = [line, *(line[:it] + line[it + 1:] for it in places)]
-    near += [line[:it] + bytes([byte]) + line[it + less:] for it in places for less in (0, 1)
-             for byte in (range(256) if it in (0, len(line)) else b"\0\t\n\r +-/09:@AFGafgx\xff")]
+    near = [line, *(line[:place] + line[place + 1:] for place in places)]
+    near += [line[:place] + bytes([byte]) + line[place + less:] for place in places for less in (0, 1)
+             for byte in (range(256) if place in (0, len(line)) else b"\0\t\n\r +-/09:@AFGafgx\xff")]
     assert is_parsed(line)
     for text in near:
         assert is_parsed(text) == bool(PATTERNS[False].fullmatch(text.decode("latin-1"))), text
 
 
-@pytest.mark.parametrize("test", KEPT, ids=lambda it: it.place)
+@pytest.mark.parametrize("test", KEPT, ids=lambda test: test.place)
 def test_kept_script(test):
     assert_replies(test)
 
@@ -116,7 +116,7 @@ def test_random_scripts():
         assert_replies(test)
 
 
-@pytest.mark.parametrize("test", IN_SHELL, ids=lambda it: it.place)
+@pytest.mark.parametrize("test", IN_SHELL, ids=lambda test: test.place)
 def test_in_the_shell(test):
     """The trace then has the script's lines. So has the script for the program, if the program knows them."""
     session, replies = run_session(lines_of(test.script))

@@ -107,8 +107,8 @@ class Watched:
     def noted(self):
         """The calls since the last time, and the works that they left to do."""
         called, self.called = self.called, []
-        works = [it[-1] if isinstance(it[-1], Work) else getattr(it[-1], "work", None) for it in called]
-        return called, [it for it in works if it]
+        works = [call[-1] if isinstance(call[-1], Work) else getattr(call[-1], "work", None) for call in called]
+        return called, [work for work in works if work]
 
 
 class Machine:
@@ -122,7 +122,7 @@ class Machine:
         at_once = module["at_once"]
 
         def narrow(call, *words):   # the terminal takes a part of what it gets
-            return at_once(call, *(it[:999] if isinstance(it, bytes) else it for it in words))
+            return at_once(call, *(word[:999] if isinstance(word, bytes) else word for word in words))
         module["at_once"] = narrow
         self.held_for, self.monitor = module["HELD_FOR"], module["Monitor"]()
         self.monitor.console = self.console = Watched(self.monitor)
@@ -163,9 +163,9 @@ class Machine:
         """After an access of the guest, or a turn: what it left to do was done, and no more. The loop, which goes round
         again, may also wake itself."""
         called, works = self.console.noted()
-        assert self.edges == sum(it.interrupts for it in works), "other edges are raised"
+        assert self.edges == sum(work.interrupts for work in works), "other edges are raised"
         is_woken, self.edges = self.is_woken(), 0
-        assert not is_guest or is_woken == any(it.wakes for it in works), "the loop is not woken, or for nothing"
+        assert not is_guest or is_woken == any(work.wakes for work in works), "the loop is not woken, or for nothing"
         if is_guest:
             return
         for name, *arguments, result in called:
@@ -177,7 +177,7 @@ class Machine:
                 self.is_stuck = False
             if name == "output":
                 self.waiting = result
-        names = [it[0] for it in called if it[0] not in ("wants", "output", "is_full")]
+        names = [call[0] for call in called if call[0] not in ("wants", "output", "is_full")]
         assert names.count("turn") == 1 and names[-1] == "turn", "no turn, or not at the end"
         assert self.told == names.count("consume"), "nobody is told of room"
         self.told = 0
@@ -257,7 +257,7 @@ def test_rules_of_a_monitor():
     assert play(EXAMPLE.read_text(encoding="utf-8")) > 1
 
 
-@pytest.mark.parametrize("rule, edit", FORGETFUL, ids=lambda it: it if isinstance(it, str) else "")
+@pytest.mark.parametrize("rule, edit", FORGETFUL, ids=lambda value: value if isinstance(value, str) else "")
 def test_a_monitor_that_breaks_a_rule(rule, edit):
     text = EXAMPLE.read_text(encoding="utf-8")
     assert text.count(edit[0]) == 1

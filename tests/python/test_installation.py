@@ -29,7 +29,7 @@ NEWER = re.compile(r"\b(removeprefix|removesuffix|randbytes|bit_count|pairwise|b
 CLEAN = {**{name: value for name, value in ENVIRONMENT.items() if name not in ("PYTHONPATH", library.VARIABLE)},
          "PIP_DISABLE_PIP_VERSION_CHECK": "1", "PIP_NO_INDEX": "1", "PIP_NO_BUILD_ISOLATION": "0"}
 LIBRARY = library.open_library()._name
-BUILD = "from setuptools import build_meta as it; import sys; print(getattr(it, sys.argv[1])(sys.argv[2]))"
+BUILD = "from setuptools import build_meta; import sys; print(getattr(build_meta, sys.argv[1])(sys.argv[2]))"
 PYTHON = "/usr/bin/python3"   # which has what a build needs, as Debian's packages have it: no test asks a network
 PIP = [PYTHON, "-m", "pip", "--quiet"]
 MACHINES = sorted(path.parent.name.partition("-")[0] for path in ROOT.glob(f"prebuilt/*-linux/{library.FILE_NAME}"))
@@ -40,7 +40,7 @@ SOURCES = at_least(17, [*(PACKAGE / "superio").glob("*.py"), PACKAGE / "setup.py
                         *(ROOT / "examples" / "python").glob("*.py")])
 
 
-@pytest.mark.parametrize("path", SOURCES, ids=lambda it: it.name)
+@pytest.mark.parametrize("path", SOURCES, ids=lambda path: path.name)
 def test_python_3_8_takes(path):
     text = path.read_text(encoding="utf-8")
     ast.parse(text, str(path), feature_version=(3, 8))

@@ -68,7 +68,7 @@ def test_pieces(runs, most):
     assert max(written) == 8_192
 
 
-@pytest.mark.parametrize("test", [LONG, BAD], ids=lambda it: it.place)
+@pytest.mark.parametrize("test", [LONG, BAD], ids=lambda test: test.place)
 @pytest.mark.parametrize("count", [0, 1, 3, 9_000])
 def test_a_fault(runs, test, count):
     """Of a read, after so many bytes, before which nothing is printed; or of a write, even if a line was bad."""

@@ -56,8 +56,8 @@ class Devices(Board):
         return f"{bytes(registers).hex()} {held.hex() or '-'} {room:02x}" if reply == "ok" else reply
 
     def cs(self):
-        it = self.clock.state
-        return f"{it.lr:08x} {it.offset} {it.mr:08x} {it.imsc:08x} {it.ris:08x}{' armed' * it.armed}"
+        state = self.clock.state
+        return f"{state.lr:08x} {state.offset} {state.mr:08x} {state.imsc:08x} {state.ris:08x}{' armed' * state.armed}"
 
     def cl(self, lr, offset, mr, imsc, ris, *armed):
         lr, mr, imsc, ris = (int(field, 16) for field in (lr, mr, imsc, ris))

@@ -94,7 +94,7 @@ def test_short_forms():
     (b"sr 05\nrefuse 0000000000000001\n", "a mask comes before every other line"),
     # Numbers at which a machine, a list of Python and its reader of numbers end. A wrong line, so that no call is made.
     *((b"9" * digits + b" sr 5\n", 'trace:1: "9+.*": no line has this name') for digits in (7, 12, 20, 5000))],
-    ids=lambda it: str(it)[:30])
+    ids=lambda value: str(value)[:30])
 def test_faults(trace, reason):
     with pytest.raises(BadLine, match=reason):
         steps_of(trace)
@@ -156,7 +156,7 @@ def test_each_reply_that_differs(line):
         assert f"recorded: {shown}" in table(steps) and f"recorded: {shown}" in said(Viewer(steps, "trace", None), "last")
 
 
-@pytest.mark.parametrize("trace, parts", PICTURES, ids=lambda it: str(it)[:30])
+@pytest.mark.parametrize("trace, parts", PICTURES, ids=lambda value: str(value)[:30])
 def test_bars(trace, parts):
     drawn = picture(steps_of(trace), "a <title> & more")
     ElementTree.fromstring(drawn)

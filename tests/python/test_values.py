@@ -29,7 +29,7 @@ def ways(device):
 @given(state=SERIAL)
 def test_port_there_and_back(state):
     port = Serial.from_state(state)
-    assert [it.state for it in ways(port)] == [state] * 5
+    assert [device.state for device in ways(port)] == [state] * 5
     moved = json.loads(json.dumps(state.to_vm_superio()))
     assert SerialState.from_vm_superio(moved) == state
 
@@ -37,13 +37,13 @@ def test_port_there_and_back(state):
 @given(state=CLOCK)
 def test_clock_there_and_back(state):
     clock, five = Rtc.from_state(state), replace(state, armed=False)
-    assert [it.state for it in ways(clock)] == [state] * 5
+    assert [device.state for device in ways(clock)] == [state] * 5
     assert RtcState.from_vm_superio(json.loads(json.dumps(five.to_vm_superio()))) == five
 
 
 @given(state=CONSOLE)
 def test_console_there_and_back(state):
-    assert [it.state for it in ways(Console.from_state(state))] == [state] * 5
+    assert [device.state for device in ways(Console.from_state(state))] == [state] * 5
 
 
 @pytest.mark.parametrize("device", [Console, Serial, Rtc])
