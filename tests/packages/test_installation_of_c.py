@@ -150,7 +150,7 @@ WRONG = at_least(5, [(EXPECTED[:-1], 0), (EXPECTED[:-2] + "2\n", 0), (EXPECTED +
 
 @pytest.mark.needs("pkg-config")
 @pytest.mark.parametrize("flag", FLAGS.values())
-@pytest.mark.parametrize("printed, status", [*WRONG, (EXPECTED, 0)], ids=lambda it: str(it)[-8:])
+@pytest.mark.parametrize("printed, status", [*WRONG, (EXPECTED, 0)], ids=lambda value: str(value)[-8:])
 def test_installcheck_fails(installed, flag, printed, status, tmp_path):
     """If the machine over one of the libraries does something else. This compiler makes a machine that does, and a good
     one over the other library."""

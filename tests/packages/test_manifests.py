@@ -126,7 +126,8 @@ def test_tests():
 
 
 def test_copyright():
-    shown = [{key: value for key, value in it.items() if key != "Comment"} for it in paragraphs("debian/copyright")]
+    shown = [{key: value for key, value in paragraph.items() if key != "Comment"}
+             for paragraph in paragraphs("debian/copyright")]
     assert shown == COPYRIGHT
 
 
@@ -138,7 +139,7 @@ def test_changelog():
 
 def test_line_for_the_installed_crate():
     """Of docs/RELEASE.md. Debian's test of the package tries the same."""
-    [block] = [it.lines for it in Document("docs/RELEASE.md").blocks if it.language == "toml"]
+    [block] = [found.lines for found in Document("docs/RELEASE.md").blocks if found.language == "toml"]
     makefile = contents("Makefile")
     [crate] = re.findall(r"^CRATE = (.*)$", makefile, re.M)
     tried = [line.strip().replace("$(CRATE)", crate) for line in makefile.splitlines()]

@@ -69,11 +69,13 @@ def test_archive(releases, name):
     and may be read by everybody."""
     with tarfile.open(releases / "two" / f"{name}.tar.gz") as archive:
         members = archive.getmembers()
-    assert {(it.uid, it.gid, it.uname, it.gname, it.mtime) for it in members} == {(0, 0, "root", "root", MOMENT)}
-    assert {it.name.partition("/")[0] for it in members} == {name}
-    assert members == sorted(members, key=lambda it: it.name.split("/"))
+    assert {(member.uid, member.gid, member.uname, member.gname, member.mtime) for member in members} == {
+        (0, 0, "root", "root", MOMENT)}
+    assert {member.name.partition("/")[0] for member in members} == {name}
+    assert members == sorted(members, key=lambda member: member.name.split("/"))
     modes = {0o755: {"d", "x"}, 0o644: {"f"}, 0o777: {"l"}}
-    kinds = {(it.mode, "d" if it.isdir() else "l" if it.issym() else "x" if it.mode & 0o100 else "f") for it in members}
+    kinds = {(member.mode, "d" if member.isdir() else "l" if member.issym() else "x" if member.mode & 0o100 else "f")
+             for member in members}
     assert all(kind in modes.get(mode, ()) for mode, kind in kinds), kinds
 
 
@@ -156,7 +158,8 @@ def test_clean(releases):
 
 def commands_for_debian():
     """The commands of docs/RELEASE.md that unpack the sources for Debian, and the one that builds the packages."""
-    [block] = [it for it in Document("docs/RELEASE.md").blocks if any("debian/rules" in line for line in it.lines)]
+    [block] = [block for block in Document("docs/RELEASE.md").blocks
+               if any("debian/rules" in line for line in block.lines)]
     *unpacking, building = [line.replace("VERSION", VERSION) for line in block.lines]
     return "\n".join(unpacking), building
 
@@ -217,7 +220,7 @@ def test_the_same_packages(builds):
 @needs_debian
 def test_a_build_tests_the_library(builds):
     """Unless it is told not to."""
-    said = [re.findall(r"^\d+ calls did the same, 0 did not$", it, re.M) for it in builds.values()]
+    said = [re.findall(r"^\d+ calls did the same, 0 did not$", text, re.M) for text in builds.values()]
     assert [*map(len, said)] == [1, 0]
 
 
@@ -236,10 +239,10 @@ def of_debian():
     machine = check(["dpkg-architecture", "-qDEB_HOST_MULTIARCH"]).strip()
     libdir, docdir = f"lib/{machine}", "share/doc/libsuperio-dev"
     files = installation(PREBUILT / "x86_64-linux", libdir, docdir)
-    files = {name: it for name, it in files.items() if not name.startswith("share/licenses/")}
+    files = {name: file for name, file in files.items() if not name.startswith("share/licenses/")}
     files[f"{libdir}/libsuperio.a"] = files[f"{libdir}/{SHARED}"] = 0o644, None
     made = {f"libsuperio{ABI}": {f"{libdir}/{SHARED}": files.pop(f"{libdir}/{SHARED}")}, "libsuperio-dev": files,
-            "libsuperio-rust-dev": {f"share/superio/{name}": it for name, it in crate_files().items()
+            "libsuperio-rust-dev": {f"share/superio/{name}": file for name, file in crate_files().items()
                                     if "/LICENSE-" not in name}}
     for package, has in made.items():
         has.update({f"share/doc/{package}/{name}": (0o644, None)
@@ -304,7 +307,7 @@ STATE = "RtcState { lr: 0, offset: 0, mr: 0, imsc: 0, ris: 0 }\n"
 
 @pytest.mark.parametrize("printed, status", at_least(5, [
     (STATE, 0), (STATE, 1), ("", 0), (STATE.replace(" }", "1 }"), 0), (STATE.replace("lr: 0", "lr: 01"), 0),
-    (STATE + STATE, 0)]), ids=lambda it: str(it)[-12:])
+    (STATE + STATE, 0)]), ids=lambda value: str(value)[-12:])
 def test_installcheck_of_the_crate_fails(printed, status, tmp_path):
     """If the crate does something else. This cargo runs such a program."""
     (tmp_path / "printed").write_text(printed, encoding="ascii")

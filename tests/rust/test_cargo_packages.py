@@ -60,9 +60,10 @@ def pages(packed):
     for crate in PACKAGES:
         cargo = packed[crate][0]
         cargo.check("doc", "--no-deps", "--quiet", RUSTDOCFLAGS="-D warnings")
-        [top] = [it.parent for it in (Path(cargo.environment["CARGO_TARGET_DIR"]) / "doc").glob("*/all.html")
-                 if it.parent.name == packed[crate][1]["targets"][0]["name"]]
-        made[crate] = {it.relative_to(top).as_posix(): it.read_text(encoding="utf-8") for it in top.rglob("*.html")}
+        [top] = [path.parent for path in (Path(cargo.environment["CARGO_TARGET_DIR"]) / "doc").glob("*/all.html")
+                 if path.parent.name == packed[crate][1]["targets"][0]["name"]]
+        made[crate] = {path.relative_to(top).as_posix(): path.read_text(encoding="utf-8")
+                       for path in top.rglob("*.html")}
     return made
 
 
@@ -77,13 +78,14 @@ def test_documented(pages, crate):
 @pytest.mark.parametrize("crate", PACKAGES[:2])
 def test_calls_are_linked(packed, pages, crate):
     """A call that a page names, other than a field or an argument of that name, is a link there."""
-    sources = [it.read_text("utf-8") for name in PACKAGES[:2] for it in (packed[name][0].folder / "src").rglob("*.rs")]
+    sources = [path.read_text("utf-8") for name in PACKAGES[:2]
+               for path in (packed[name][0].folder / "src").rglob("*.rs")]
     calls = {name for page in pages[crate].values() for name in re.findall(r'id="(?:ty)?method\.(\w+)"', page)}
     calls &= {name for source in sources for name in re.findall(r"\bfn (\w+)", source)}
     calls -= {name for source in sources for name in re.findall(r"^ *pub (\w+):", source, re.M)}
     tried = {path: re.sub(r"(?s)<pre.*?</pre>", "", page) for path, page in pages[crate].items()
              if not re.match(r"(struct|fn|all)\b", path)}
-    named = {path: {it.split("::")[-1] for it in re.findall(r"<code>([\w:]+)(?:\(\))?</code>", page)} & calls
+    named = {path: {name.split("::")[-1] for name in re.findall(r"<code>([\w:]+)(?:\(\))?</code>", page)} & calls
              for path, page in tried.items()}
     linked = {path: {*re.findall(r"<a [^>]*><code>(?:\w+::)*(\w+)", page)} for path, page in tried.items()}
     assert linked["index.html"] >= {"interrupt_line", "alarm_due", "character_timeout"}
@@ -115,7 +117,7 @@ def test_files(packed, crate):
 def test_links(packed, crate):
     package = packed[crate][2]
     links = map("".join, LINK.findall(CODE.sub("", (package / "README.md").read_text(encoding="utf-8"))))
-    assert not [it for it in links if not re.match(r"#|\w+:", it) and not (package / it).exists()]
+    assert not [link for link in links if not re.match(r"#|\w+:", link) and not (package / link).exists()]
 
 
 @pytest.fixture(scope="module")

@@ -20,7 +20,7 @@ from toolchains import toolchain_for, toolchains
 
 pytestmark = pytest.mark.needs("cargo")
 
-CRATES = pytest.mark.parametrize("crate", [DEVICES, DROP_IN], ids=lambda it: it.name)
+CRATES = pytest.mark.parametrize("crate", [DEVICES, DROP_IN], ids=lambda crate: crate.name)
 # Where the two languages might evaluate the same text in another order.
 ORDER_LINTS = ["-D", "clippy::mixed_read_write_in_expression", "-D", "clippy::diverging_sub_expression"]
 # Where Debian's packages put crates.
@@ -40,7 +40,8 @@ RANDOM_RUNS = 25_000   # of 40 calls each
 
 def oldest():
     """The oldest Rust that the crate promises, as Debian 12 has it."""
-    [found] = [it for it in toolchains() if it.version.startswith("1.63.")][:1] or pytest.fail("there is no Rust 1.63")
+    [found] = ([toolchain for toolchain in toolchains() if toolchain.version.startswith("1.63.")][:1]
+               or pytest.fail("there is no Rust 1.63"))
     return found
 
 
@@ -114,7 +115,8 @@ def public_paths(file, before=""):
         for path in (before + name for name in names.strip().split(", ")):
             yield path
             if module:
-                inner = next(it for it in (folder / f"{names}.rs", folder / names / "mod.rs") if it.exists())
+                inner = next(source for source in (folder / f"{names}.rs", folder / names / "mod.rs")
+                             if source.exists())
                 yield from public_paths(inner, f"{path}::")
 
 
