@@ -85,7 +85,7 @@ def fetch(name):
     if files(name)[0]:
         return
     if source.is_source:
-        packages = [it.package for it in SOURCES.values() if it.folder == source.folder]
+        packages = [other.package for other in SOURCES.values() if other.folder == source.folder]
         make_whole(source.folder, lambda folder: download_sources(folder, source.release, packages))
     else:
         make_whole(source.folder, lambda folder: download(folder, source.release, [source.package]))

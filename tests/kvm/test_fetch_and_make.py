@@ -54,12 +54,12 @@ def test_fetch(fetch):
 
 def test_commands_of_the_page(fetch):
     """They make the monitor, and start it with what was fetched."""
-    [block] = [it for it in Document("docs/MONITOR.md").blocks if it.language == "sh"]
+    [block] = [block for block in Document("docs/MONITOR.md").blocks if block.language == "sh"]
     made, fetched, started = [line.partition("#")[0].split() for line in block.lines]
     kvm = HERE.relative_to(ROOT).as_posix()
     assert (made, fetched[:-1], started[0]) == (["make", "-C", kvm], [f"{kvm}/fetch"], f"{kvm}/monitor")
     status, said, folder = fetch()
-    assert [(folder / Path(it).relative_to(fetched[-1])).is_file() for it in started[1:]] == [True, True]
+    assert [(folder / Path(path).relative_to(fetched[-1])).is_file() for path in started[1:]] == [True, True]
 
 
 @pytest.mark.parametrize("program", PROGRAMS)
@@ -89,7 +89,7 @@ def parts():
 
 
 @pytest.mark.needs("make")
-@pytest.mark.parametrize("part", parts(), ids=lambda it: it.name)
+@pytest.mark.parametrize("part", parts(), ids=lambda part: part.name)
 def test_a_change_is_built(part, tmp_path):
     """After a change of any part, and only then, `make` has something to do."""
     folder = tmp_path / "kvm"

@@ -127,7 +127,7 @@ class State:
 
     def __init__(self, data):
         names = "rax rbx rcx rdx rsi rdi rsp rbp r8 r9 r10 r11 r12 r13 r14 r15 rip rflags".split()
-        self.general = {name: it for name, it in zip(names, struct.unpack_from("<18Q", data)) if it}
+        self.general = {name: value for name, value in zip(names, struct.unpack_from("<18Q", data)) if value}
         self.segments = {}
         for place, name in enumerate("cs ds es fs gs ss".split()):
             base, limit, selector, *bits = struct.unpack_from("<QIH8B", data, 144 + 24 * place)
@@ -182,7 +182,7 @@ def test_linux_begins(monitor, words):
     first = state.words(state.cr3, 512)
     second = state.words(first[0] & ~0xFFF, 512)
     third = state.words(second[0] & ~0xFFF, 512)
-    assert [it & 0xFFF for it in (first[0], second[0])] == [3, 3] and not any(first[1:]) and not any(second[1:])
+    assert [entry & 0xFFF for entry in (first[0], second[0])] == [3, 3] and not any(first[1:]) and not any(second[1:])
     assert [*third] == [page << 21 | 0x83 for page in range(512)]
     head = {0x210: 0xFF, 0x218: INITRAMFS, 0x21C: 3000}
     assert {place: state.number(parameters + place, 1 if place == 0x210 else 4) for place in head} == head
@@ -196,8 +196,8 @@ def test_linux_begins(monitor, words):
     assert state.memory[at:at + WORDS_SIZE + 1].split(b"\0")[0] == words[:WORDS_SIZE - 1].encode()
     assert state.memory[image.pref_address:image.pref_address + image.size] == b"\xCC" * image.size
     tables = state.cr3, first[0] & ~0xFFF, second[0] & ~0xFFF
-    rest, used = bytearray(state.memory), [(base, limit + 1), *((it, 4096) for it in tables), (parameters, 4096),
-                                           (at, WORDS_SIZE), (image.pref_address, image.size)]
+    rest, used = bytearray(state.memory), [(base, limit + 1), *((address, 4096) for address in tables),
+                                           (parameters, 4096), (at, WORDS_SIZE), (image.pref_address, image.size)]
     for start, size in used:
         assert start + size <= LOW_END or start >= HIGH_START
         rest[start:start + size] = bytes(size)

@@ -75,13 +75,13 @@ def guest(tmp_path_factory):
 
 def shortened(text):
     """A text where what is seen again and again, and many equal bytes, stand once, with their number."""
-    text = re.sub(r"(  [a-z]+(?: \w+)?)\1+(?!\S)", lambda it: f"{it[1]} x{len(it[0]) // len(it[1])}", text)
-    return re.sub(r"(?<= )(\w\w)\1{7,}(?!\S)", lambda it: f"{it[1]}*{len(it[0]) // 2}", text)
+    text = re.sub(r"(  [a-z]+(?: \w+)?)\1+(?!\S)", lambda found: f"{found[1]} x{len(found[0]) // len(found[1])}", text)
+    return re.sub(r"(?<= )(\w\w)\1{7,}(?!\S)", lambda found: f"{found[1]}*{len(found[0]) // 2}", text)
 
 
 def check_script(folder, script):
     """The monitor of a folder does what stands behind the lines of a script."""
-    full = re.sub(r"(\w\w)\*(\d+)", lambda it: it[1] * int(it[2]), script)
+    full = re.sub(r"(\w\w)\*(\d+)", lambda found: found[1] * int(found[2]), script)
     command, *lines = (line.partition("  ")[0] for line in full.splitlines())
     given = "".join(f"{line}\n" for line in lines[:-1])   # the last one is the status
     ran = run([f"./{command.split()[0]}", *command.split()[1:]], cwd=folder, input=given)
@@ -90,7 +90,7 @@ def check_script(folder, script):
     assert seen == script, "\n".join(difflib.ndiff(script.splitlines(), seen.splitlines()))
 
 
-@pytest.mark.parametrize("script", SCRIPTS, ids=lambda it: it.splitlines()[0].strip()[:40])
+@pytest.mark.parametrize("script", SCRIPTS, ids=lambda script: script.splitlines()[0].strip()[:40])
 def test_script(over_host, script):
     check_script(over_host, script)
 
