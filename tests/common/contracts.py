@@ -89,7 +89,7 @@ def found_functions(text):
             clauses += [(found[2], found[3])] if found[1] == "ensures" else []
         has_body = bool(found) and found[0] == "{"
         end = end_of_braces(code, found.start()) if has_body else found.start() if found else len(code)
-        kind, header = next((it[2:] for it in reversed(blocks) if it[0] <= head.start() < it[1]), ("", ""))
+        kind, header = next((block[2:] for block in reversed(blocks) if block[0] <= head.start() < block[1]), ("", ""))
         is_public = bool(head[1] or kind == "trait" or " for " in header)
         path = (owner_of(header), head[2]) if header else (head[2],)
         names, starred = [name for _, name in clauses], [name for star, name in clauses if star]

@@ -10,7 +10,7 @@ from harness import ROOT
 
 def of_tests(line):
     """A line of Python over the modules here, in tests/guests and in tools."""
-    folders = [str(ROOT / it) for it in ("tests/common", "tests/guests", "tools")]
+    folders = [str(ROOT / folder) for folder in ("tests/common", "tests/guests", "tools")]
     return f"import sys; sys.path[:0] = {folders}; {line}"
 
 

@@ -133,7 +133,7 @@ def kept_scripts():
                        for folder in (TESTS, FURTHER_TESTS))
     yield from (of_test(test, True) for test in shared if not test.end.startswith(("input", "out")))
     yield from (of_test(test, False) for test in [*further, *of_documents()])
-    yield from (of_test(test, True) for test in [*(it.by_program for it in further), *refused_scripts()])
+    yield from (of_test(test, True) for test in [*(script.by_program for script in further), *refused_scripts()])
 
 
 def load_scripts():

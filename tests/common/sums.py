@@ -36,7 +36,7 @@ def number_of_tests(crate):
 def of_sources():
     """What the sources have for Cargo and for rt, which have to try all of it."""
     numbers = {"must-fail edits of crates": rattle.number_of_edits(), "tests of crates": rattle.number_of_tests(),
-               **{f"tests of {it.relative_to(ROOT)}": number_of_tests(it) for it in (DEVICES, DROP_IN)}}
+               **{f"tests of {crate.relative_to(ROOT)}": number_of_tests(crate) for crate in (DEVICES, DROP_IN)}}
     return {row: number for row, number in numbers.items() if number}
 
 

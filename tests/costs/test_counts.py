@@ -48,12 +48,14 @@ def test_count(row, column):
 @pytest.mark.where(RUSTC)
 def test_replies_are_those_of_the_rust_crate(row, column):
     """So are the interrupts, and the registers and bytes after it."""
-    assert [it.replies for it in counts_of(column)[row.name]] == [it.replies for it in counts_of(RUST)[row.name]]
+    assert [count.replies for count in counts_of(column)[row.name]] == [
+        count.replies for count in counts_of(RUST)[row.name]]
 
 
 @pytest.mark.parametrize("row, column", cases([CONSOLE], [row for row in ROWS if PORT in row.numbers]))
 def test_replies_of_a_console_are_those_of_the_port(row, column):
-    assert [it.replies for it in counts_of(column)[row.name]] == [it.replies for it in counts_of(PORT)[row.name]]
+    assert [count.replies for count in counts_of(column)[row.name]] == [
+        count.replies for count in counts_of(PORT)[row.name]]
 
 
 @pytest.mark.parametrize("row, column", cases([RUST]))
@@ -61,7 +63,7 @@ def test_asks_for_the_hosts_time_only_where_guest_time_matters(row, column):
     assert counts_of(column)[row.name][0].asked == row.asks
 
 
-@pytest.mark.parametrize("column", [pytest.param(it, marks=NEEDS[it]) for it in (RUST, LIBRARY)])
+@pytest.mark.parametrize("column", [pytest.param(column, marks=NEEDS[column]) for column in (RUST, LIBRARY)])
 @pytest.mark.needs("valgrind")
 @pytest.mark.where("Linux on x86-64")
 def test_a_byte_more_of_an_enqueue(column):

@@ -49,12 +49,12 @@ def without_contracts(text):
 
 def models(text, code):
     """Each struct of a source that has a model, with the fields that its view leaves out."""
-    views = {it[1]: (it[2], text[it.end():end_of_braces(text, it.end())]) for it in VIEW.finditer(text)}
+    views = {found[1]: (found[2], text[found.end():end_of_braces(text, found.end())]) for found in VIEW.finditer(text)}
     for struct in re.findall(r"\bModel for (\w+)", code):
         fields = re.search(rf"\bstruct {struct}\b[^;{{(]*(?:{{([^}}]*)}}|\(([^;]*)\);)", code)
         argument, view = views.get(struct, ("", ""))
-        named = re.findall(r"(\w+):(?!:)", fields[1] or "") or [str(it) for it in range(fields[2].count(",") + 1)]
-        yield struct, [it for it in named if not re.search(rf"\b{argument}\.{it}\b", view)]
+        named = re.findall(r"(\w+):(?!:)", fields[1] or "") or [str(place) for place in range(fields[2].count(",") + 1)]
+        yield struct, [field for field in named if not re.search(rf"\b{argument}\.{field}\b", view)]
 
 
 def compact(code):
@@ -68,7 +68,7 @@ def unseen(name, text, code):
     for kind, pattern, words in LISTS:
         good = [*f"{words} {MORE.get(name, '')}".split(), *(TRAITS if kind == "as an impl" else ())]
         for found in re.findall(pattern, code, re.M):
-            yield from (f"{it} {kind}" for it in re.findall(r"\w+", found) or [found] if it not in good)
+            yield from (f"{word} {kind}" for word in re.findall(r"\w+", found) or [found] if word not in good)
     for function in functions_of(text):
         if not function.clauses and " for " not in function.header and name != "superio/src/main.rt":
             yield f"{function.name} without a clause"
@@ -107,5 +107,5 @@ HIDDEN = ["impl<T: Trigger> Drop for I8042Device<T> {}", "pub static COUNT: u8 =
 @pytest.mark.parametrize("code", HIDDEN)
 def test_hidden_code_is_found(code, blank):
     """However its lines are broken."""
-    text = re.sub(" |(?<=[!#*])(?=[(\\[*])|(?=::)|(?<=for)(?=<)", lambda it: blank, code)
+    text = re.sub(" |(?<=[!#*])(?=[(\\[*])|(?=::)|(?<=for)(?=<)", lambda _: blank, code)
     assert list(unseen("vm_superio/src/i8042.rt", "", without_contracts(text))), text

@@ -73,13 +73,13 @@ def is_pattern(code, at, end):
 def places(name, text):
     """The places of a source, in their order, each with where it begins."""
     body, functions, numbers, inside = code(text), list(functions_of(text)), Counter(), 0
-    found = sorted((it.start(), kind, it) for kind, begin in KINDS.items() for it in re.finditer(begin, body))
-    for at, kind, it in found:
+    found = sorted((match.start(), kind, match) for kind, begin in KINDS.items() for match in re.finditer(begin, body))
+    for at, kind, match in found:
         if kind == "error":
-            end = it.end() - it[0].endswith("(")
+            end = match.end() - match[0].endswith("(")
             if at < inside or is_pattern(body, at, end):
                 continue
-            inside = end_of_group(body, end) if it[0].endswith("(") else inside
+            inside = end_of_group(body, end) if match[0].endswith("(") else inside
         for function in functions:
             if function.has_body and function.start <= at < function.end:
                 numbers[str(function), kind] += 1

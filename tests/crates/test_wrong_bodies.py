@@ -49,7 +49,7 @@ def functions():
             for function in functions_of(path.read_text(encoding="utf-8")):
                 is_wanted = function.is_public and function.has_body and "laws" not in str(path)
                 if is_wanted and function.path[0] != "NoEvents":
-                    is_edited = any(it == path and function.start <= at < function.end for it, at in edits)
+                    is_edited = any(file == path and function.start <= at < function.end for file, at in edits)
                     yield "::".join(function.path[-2:]), is_edited
 
 
