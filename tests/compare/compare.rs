@@ -92,13 +92,13 @@ impl Devices {
         self.serial = Serial::from_state(state, object.clone(), events, object.clone()).map_err(name_of)?;
         let (mut state, room) = (self.serial.state(), self.serial.fifo_capacity());
         let registers = registers_of(&mut state).map(|register| *register);
-        Ok(format!("{} {} {room:02x}", text_of(&registers), text_of(&state.in_buffer)))
+        Ok(format!("{} {} {room:02x}", hex_of(&registers), hex_of(&state.in_buffer)))
     }
 
     /// The same of a clock, which has no alarm then.
     fn restore_clock(&mut self, state: &RtcState) -> Outcome {
         self.clock = Rtc::from_state(state, Arc::clone(self.clock.events()));
-        Ok(text_of_clock(&self.clock.state()))
+        Ok(clock_as_text(&self.clock.state()))
     }
 }
 
@@ -127,7 +127,7 @@ fn clock_of(words: &[&str]) -> RtcState {
     RtcState { lr, offset: words[2].parse().expect("a decimal number"), mr, imsc, ris }
 }
 
-fn text_of_clock(RtcState { lr, offset, mr, imsc, ris }: &RtcState) -> String {
+fn clock_as_text(RtcState { lr, offset, mr, imsc, ris }: &RtcState) -> String {
     format!("{lr:08x} {offset} {mr:08x} {imsc:08x} {ris:08x}")
 }
 
@@ -145,7 +145,7 @@ fn bytes_of(word: &str) -> Vec<u8> {
     (0..digits.len()).step_by(2).map(|place| byte(&digits[place..place + 2])).collect()
 }
 
-fn text_of(bytes: &[u8]) -> String {
+fn hex_of(bytes: &[u8]) -> String {
     if bytes.is_empty() { "-".into() } else { bytes.iter().map(|byte| format!("{byte:02x}")).collect() }
 }
 

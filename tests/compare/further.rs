@@ -6,7 +6,7 @@ use superio::serial::SerialState;
 use superio::serial::line::InterruptLine;
 use superio::serial::timeout::CharacterTimeout;
 
-use crate::{Devices, Outcome, bytes_of, clock_of, hex, name_of, number, text_of, text_of_clock};
+use crate::{Devices, Outcome, bytes_of, clock_as_text, clock_of, hex, hex_of, name_of, number};
 
 impl Devices {
     pub fn carry_out_further(&mut self, words: &[&str]) -> Outcome {
@@ -15,13 +15,13 @@ impl Devices {
             ["sp"] => self.serial.retry_interrupts().map(|()| "ok".into()).map_err(|_| "trigger".into()),
             ["sh"] => hex(self.serial.interrupt_line().into()),
             ["sf"] => hex(self.serial.state().is_coherent().into()),
-            ["sb"] => self.serial.state().to_bytes().map(|bytes| text_of(&bytes)).map_err(fault),
+            ["sb"] => self.serial.state().to_bytes().map(|bytes| hex_of(&bytes)).map_err(fault),
             ["sl", encoding] => self.load(&SerialState::from_bytes(&bytes_of(encoding)).map_err(fault)?),
             ["ch"] => hex(self.clock.interrupt_line().into()),
             ["cd", moment] => {
                 Ok(self.clock.alarm_due(number(moment)).map_or("never".into(), |due| format!("{due:08x}")))
             }
-            ["cb"] => Ok(text_of(&self.clock.snapshot().to_bytes())),
+            ["cb"] => Ok(hex_of(&self.clock.snapshot().to_bytes())),
             ["cl", .., "armed"] => {
                 self.take_snapshot(&RtcSnapshot { armed: true, ..RtcSnapshot::from_five(clock_of(words)) })
             }
@@ -43,7 +43,7 @@ impl Devices {
 
     pub fn take_snapshot(&mut self, snapshot: &RtcSnapshot) -> Outcome {
         self.clock = Rtc::from_snapshot(snapshot, self.clock.events().clone());
-        Ok(text_of_clock(&self.clock.state()) + if self.clock.is_armed() { " armed" } else { "" })
+        Ok(clock_as_text(&self.clock.state()) + if self.clock.is_armed() { " armed" } else { "" })
     }
 }
 
