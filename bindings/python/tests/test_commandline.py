@@ -19,7 +19,7 @@ from support import ENVIRONMENT, ROOT, TIMEOUT, FolderTest, ended, run
 import superio
 from superio import Rtc, RtcState, Serial, SerialState, registers
 
-TOP = ROOT / "superio"
+TOP = ROOT / "shell"
 EXAMPLE = ROOT / "examples" / "three_devices.script"
 BOOT = ROOT / "examples" / "linux-boot" / "boot.recording.xz"
 NOWHERE = "/nowhere/at/all: No such file or directory\n"
