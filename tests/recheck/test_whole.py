@@ -236,7 +236,7 @@ def compared(root, folder, rustc="rustc"):
 def test_rustc_reads_the_same(tmp_path):
     """Debian's rustc does."""
     found = compared(ROOT, tmp_path, "/usr/bin/rustc")
-    assert [folder.name for folder, count in found if count > 900] == ["superio", "from-source", "rust"]
+    assert [folder.name for folder, count in found if count > 900] == ["superio", "from-source", "vm-superio"]
 
 
 @pytest.mark.needs("cargo")
