@@ -1,0 +1,66 @@
+# SPDX-License-Identifier: Apache-2.0 OR BSD-3-Clause
+"""Whoever follows a list of CONTRIBUTING.md edits no file by hand that the list does not name. Each file of the folder
+`changes` has the edits of one change. They are made in a copy of the repository, where `tools/generate` runs.
+Then tests that such a change can break pass there, over the C library as Cargo compiles it of the edited code. The
+prover is not asked here, so nothing tells whether the edited definitions and code fit each other."""
+import os
+import re
+import sys
+import tomllib
+from pathlib import PurePath
+
+import pytest
+from documents import CODE, Document, copy_repository
+from harness import ROOT, at_least, check
+
+CHANGES = at_least(4, sorted((ROOT / "tests/tools/changes").glob("*.toml")))
+GUIDE = Document("CONTRIBUTING.md").text
+CRATES = re.findall(r"(\w+) is `(crates/\w+)`", GUIDE)
+STEPS = "facts", "rust", "lines", "interface"
+BUILD = ["cargo", "rustc", "--crate-type", "cdylib", "--release", "--quiet", "--offline", "--target-dir", "out",
+         "--manifest-path", "bindings/c/from-source/Cargo.toml"]
+# Of the boards only the scripts that are kept: the random ones take a minute.
+TESTS = ["tests/documents/test_registers.py", "tests/documents/test_saved_states.py", "tests/tools/test_made_facts.py",
+         "tests/python/test_boards.py", "-k", "documents or made_facts or test_lines or test_made or kept_script"]
+PATHS = "tools:tests/common:tests/devices:bindings/python"
+SCRIPTS = ("import json; from script_tests import kept_scripts, made_scripts; "
+           "print(json.dumps([*kept_scripts(), *made_scripts('changes', 200)]))")
+
+
+def is_named(file, text):
+    """Whether a step of a list has all parts of a path: in code, as a crate's short name, or as a page."""
+    for step in re.split(r"^\d+\. ", text, flags=re.M)[1:]:
+        parts = {*CODE.findall(step), *re.findall(r"[A-Z-]+\.md", step),
+                 *(crate for word, crate in CRATES if re.search(rf"\b{word}\b", step))}
+        part = f"(?:{'|'.join(map(re.escape, parts))})"
+        if re.fullmatch(rf"(?:docs/)?(?:{part}/)*{part}(?:{re.escape(PurePath(file).suffix)})?", file):
+            return True
+    return False
+
+
+def make(edits, top):
+    """Makes the edits, each in the one place of its file that has the old text."""
+    for edit in edits:
+        path = top / edit["file"]
+        text = path.read_text("utf-8")
+        assert text.count(edit["old"]) == 1, edit
+        path.write_text(text.replace(edit["old"], edit["new"]), "utf-8")
+
+
+@pytest.mark.needs("cargo", "cc", "node")
+@pytest.mark.parametrize("path", CHANGES, ids=lambda path: path.stem)
+def test_change(path, tmp_path):
+    change = tomllib.loads(path.read_text("utf-8"))
+    text = re.search(rf"^{re.escape(change['list'])}.*?(?=^#|^\*\*|\Z)", GUIDE, re.M | re.S)[0]
+    files = {edit["file"] for edit in change["edits"]}
+    assert [file for file in files if not is_named(file, text)] == []
+    assert int(re.search(r"change (?:these )?(\d+) files", text)[1]) == len(files)
+    copy_repository(tmp_path)
+    make(change["edits"], tmp_path)
+    check([tmp_path / "tools/generate", *STEPS], cwd=tmp_path)
+    check(BUILD, cwd=tmp_path)
+    library = {**os.environ, "SUPERIO_LIBRARY": str(tmp_path / "out/release/libsuperio_c.so")}
+    check([sys.executable, "-m", "pytest", "-q", "--without", "kit", *TESTS], cwd=tmp_path, env=library)
+    if any("superio_script" in file for file in files):   # the page's board has the devices as they were
+        scripts = check([sys.executable, "-c", SCRIPTS], cwd=tmp_path, env={**os.environ, "PYTHONPATH": PATHS})
+        check(["node", "bindings/js/tests/run_scripts.mjs"], cwd=tmp_path, input=scripts)
