@@ -125,7 +125,7 @@ WRONG += [(SPECS + "superio_console/specs/" + file, old, new, {"ConsoleLaws"}) f
 ]]
 WRONG += [(C_FUNCTIONS, old, new, {"CFunctions"}) for old, new in [
     ("oldest.len().min(count)", "oldest.len()"),
-    ("Console::new(is_polled)", "Console::new(!is_polled)"),
+    ("console.set_polled(is_polled)", "console.set_polled(!is_polled)"),
 ]]
 # Conditions of laws that no call meets.
 WRONG += [(SPECS + "superio_laws/specs/Serial/Laws/GuestDriver.antt", old, old + "  pub never : IsTrue false\n", {"PortLaws", "Witnesses"})
