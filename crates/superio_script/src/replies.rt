@@ -10,11 +10,11 @@ use arrayvec::ArrayVec;
 use std::error::Error;
 use std::fmt;
 
-/// The longest reply: 512 digits, for the 256 bytes that the serial port's output can hold, and LF.
-pub const REPLY_LIMIT: usize = 513;
-
 /// A reply with its LF.
-pub type ReplyText = ArrayVec<u8, REPLY_LIMIT>;
+pub type ReplyText = ArrayVec<u8, 513>;
+
+/// The capacity of a [`ReplyText`]: 512 digits, for the 256 bytes that the serial port's output can hold, and LF.
+pub const REPLY_LIMIT: usize = 513;
 
 /// The text, and LF.
 pub(crate) fn reply_text(text: &[u8]) -> ReplyText
