@@ -3,7 +3,7 @@
 import re
 
 import pytest
-from common.facts import ERRORS
+from common.facts import CLOCK, ERRORS
 from generators import facts, facts_of_pages, facts_of_tests
 from harness import ROOT, at_least
 
@@ -73,6 +73,22 @@ def test_expressions():
     for text in "<clock nothing=1>", "<port mr=1>":
         with pytest.raises(ValueError):
             facts_of_tests.expanded(text)
+
+
+def test_differences_of_the_clock(monkeypatch):
+    """A register that is only read, one that is only written, and a field have rows beside those that are there."""
+    before = facts_of_pages.differences_of_the_clock()
+    registers = [{"name": "FR", "offset": 0x20, "read": "1", "why": "One."},
+                 {"name": "TR", "offset": 0x24, "write": "sets [the trim](#the-trim)", "vm_superio": "RTCTR is read.",
+                  "why": "Two."}]
+    fields = [{"name": "tr", "about": "RTCTR, the trim", "why": "Three."}]
+    monkeypatch.setitem(CLOCK, "registers", [*CLOCK["registers"], *registers])
+    monkeypatch.setitem(CLOCK, "fields", [*CLOCK["fields"], *fields])
+    rows = [row for row in facts_of_pages.differences_of_the_clock() if row not in before]
+    assert rows == [
+        "| An access at 0x020 is invalid. | A read of RTCFR shows 1. A write is invalid. | One. |",
+        "| RTCTR is read. | A read of RTCTR is invalid. A write of v sets [the trim](DEVICES.md#the-trim). | Two. |",
+        "| There is no `tr`. | `tr`: RTCTR, the trim. | Three. |"]
 
 
 def test_parts():

@@ -18,7 +18,7 @@ from generators.facts_of_python import module
 from generators.facts_of_tests import TEMPLATES, made_of
 
 MODULE = "bindings/python/superio/_facts.py"
-PAGES = ["docs/DEVICES.md", "docs/SAVED-STATES.md"]
+PAGES = ["docs/DEVICES.md", "docs/DIFFERENCES.md", "docs/SAVED-STATES.md"]
 MARK = re.compile(r"(?<=^<!-- Made by tools/generate from interface\.toml: )(.+)( -->\n\n)(?:.+\n)+", re.M)
 
 PRINTED = '            SavedStateError::{case}[(_)] => f.write_str("{text}"),'
