@@ -38,13 +38,21 @@ def is_named(file, text):
     return False
 
 
+def changed(text, edit):
+    """A text with a number that is raised by one, or with the new text in place of the old one. There is one place."""
+    if "raised" in edit:
+        form, new = rf"(?<=^{edit['raised']} = )\d+$", lambda number: f"{int(number[0]) + 1}"
+    else:
+        form, new = re.escape(edit["old"]), lambda _: edit["new"]
+    made, count = re.subn(form, new, text, flags=re.M)
+    assert count == 1, edit
+    return made
+
+
 def make(edits, top):
-    """Makes the edits, each in the one place of its file that has the old text."""
     for edit in edits:
         path = top / edit["file"]
-        text = path.read_text("utf-8")
-        assert text.count(edit["old"]) == 1, edit
-        path.write_text(text.replace(edit["old"], edit["new"]), "utf-8")
+        path.write_text(changed(path.read_text("utf-8"), edit), "utf-8")
 
 
 @pytest.mark.needs("cargo", "cc", "node")

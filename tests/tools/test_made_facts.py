@@ -3,7 +3,7 @@
 import re
 
 import pytest
-from common.facts import CLOCK, ERRORS
+from common.facts import CLOCK, ERRORS, word_of
 from generators import facts, facts_of_pages, facts_of_tests
 from harness import ROOT, at_least
 
@@ -73,6 +73,21 @@ def test_expressions():
     for text in "<clock nothing=1>", "<port mr=1>":
         with pytest.raises(ValueError):
             facts_of_tests.expanded(text)
+
+
+def test_invalid_states():
+    """A row stands for each invalid state of its device. Of each error there is one, and of those of the header one for
+    each device."""
+    made = [facts_of_tests.made_of("one.in", f"x\nsl <invalid {device}> = <reply>\ny\n").splitlines()
+            for device in facts_of_tests.CONTENTS]
+    for head, first, *rows, last in made:
+        assert (head, first, last) == ("# Made by tools/generate from one.in and interface.toml.", "x", "y")
+        assert rows[0] == "sl - = too short" and all(re.fullmatch("sl ([0-9a-f]+|-) = [a-z0-9 ]+", row) for row in rows)
+    replies = [{row.partition(" = ")[2] for row in rows} for rows in made]
+    assert "unknown version fe" in replies[0] and {word_of(error) for error in ERRORS[:3]} <= set.intersection(*replies)
+    assert all(any(found.startswith(word_of(error)) for found in set.union(*replies)) for error in ERRORS)
+    in_script = facts_of_tests.made_of("two.in", "cl <invalid clock>  <reply>\n")
+    assert "\ncl   too short\ncl 53494f53020119  too short\n" in in_script
 
 
 def test_differences_of_the_clock(monkeypatch):

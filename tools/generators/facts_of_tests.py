@@ -11,13 +11,16 @@ An expression stands between < and >, and may have others in it. It begins with 
 - less=NUMBER, if so many bytes are missing at the end of what follows the header, and the length says so;
 - magic=BYTES, kind=NUMBER, version=NUMBER and length=NUMBER, for another header. version=+1 is the next version;
 - cut=NUMBER, if so many bytes are missing at the end, and first=NUMBER, if only so many are there.
+
+A row with <invalid DEVICE> and a <reply> stands for a row of each such device that interface.toml has below its errors.
 """
 import re
 
-from common.facts import BYTES, CLOCK, ENCODING, KINDS, MAGIC, PORT_FIELDS
+from common.facts import BYTES, CLOCK, ENCODING, ERRORS, KINDS, MAGIC, PORT_FIELDS, word_of
 
 TEMPLATES = ["tests/c/console.in", "tests/c/shared.in", "tests/data/further/saved_states.in"]
 EXPRESSION = re.compile(r"<(port|clock|console)((?: [^\s<>]+)*)>")
+INVALID = re.compile("^(.*)<invalid (port|clock|console)>(.*)<reply>$", re.M)
 MADE = "# Made by tools/generate from {} and interface.toml.\n"
 
 
@@ -67,6 +70,15 @@ def expanded(text):
     return text
 
 
+def invalid_rows(found):
+    """A row for each invalid state of a device, with its error. In a recorded call `-` stands for no bytes."""
+    call, device, gap = found.groups()
+    none = "-" if gap == " = " else ""
+    states = ((word_of(error), *expanded(state).split(" "))
+              for error in ERRORS for state in error["fails"].get(device, []))
+    return "\n".join(f"{call}{digits or none}{gap}{' '.join([word, *held])}" for word, digits, *held in states)
+
+
 def made_of(template, text):
     """What is made of a template's text."""
-    return MADE.format(template.rpartition("/")[2]) + expanded(text)
+    return MADE.format(template.rpartition("/")[2]) + expanded(INVALID.sub(invalid_rows, text))
