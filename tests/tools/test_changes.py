@@ -10,18 +10,20 @@ import tomllib
 from pathlib import PurePath
 
 import pytest
+from common.cargo import Cargo
 from documents import CODE, Document, copy_repository
 from harness import ROOT, at_least, check
 
-CHANGES = at_least(4, sorted((ROOT / "tests/tools/changes").glob("*.toml")))
+CHANGES = at_least(5, sorted((ROOT / "tests/tools/changes").glob("*.toml")))
 GUIDE = Document("CONTRIBUTING.md").text
 CRATES = re.findall(r"(\w+) is `(crates/\w+)`", GUIDE)
 STEPS = "facts", "rust", "lines", "interface"
 BUILD = ["cargo", "rustc", "--crate-type", "cdylib", "--release", "--quiet", "--offline", "--target-dir", "out",
          "--manifest-path", "bindings/c/from-source/Cargo.toml"]
 # Of the boards only the scripts that are kept: the random ones take a minute.
-TESTS = ["tests/documents/test_registers.py", "tests/documents/test_saved_states.py", "tests/tools/test_made_facts.py",
-         "tests/python/test_boards.py", "-k", "documents or made_facts or test_lines or test_made or kept_script"]
+TESTS = ["tests/documents/test_differences.py", "tests/documents/test_registers.py",
+         "tests/documents/test_saved_states.py", "tests/tools/test_made_facts.py", "tests/python/test_boards.py",
+         "-k", "documents or made_facts or test_lines or test_made or kept_script"]
 PATHS = "tools:tests/common:tests/devices:bindings/python"
 SCRIPTS = ("import json; from script_tests import kept_scripts, made_scripts; "
            "print(json.dumps([*kept_scripts(), *made_scripts('changes', 200)]))")
@@ -67,6 +69,8 @@ def test_change(path, tmp_path):
     make(change["edits"], tmp_path)
     check([tmp_path / "tools/generate", *STEPS], cwd=tmp_path)
     check(BUILD, cwd=tmp_path)
+    if "rust/vm-superio/src/rtc_pl031.rs" in files:
+        Cargo(tmp_path / "rust/vm-superio").check("check")
     library = {**os.environ, "SUPERIO_LIBRARY": str(tmp_path / "out/release/libsuperio_c.so")}
     check([sys.executable, "-m", "pytest", "-q", "--without", "kit", *TESTS], cwd=tmp_path, env=library)
     if any("superio_script" in file for file in files):   # the page's board has the devices as they were
