@@ -48,7 +48,7 @@ def test_rows(name):
     assert facts.replaced(text, form, facts.rows(template, [*ERRORS, FLOOD])) == text.replace(rows, rows + ADDED[name])
 
 
-@pytest.mark.parametrize("name, form, value", at_least(23, facts.PLACES))
+@pytest.mark.parametrize("name, form, value", at_least(25, facts.PLACES))
 def test_place(name, form, value):
     """Another value takes the place of this one, and nothing else changes."""
     text = text_of(name)

@@ -41,6 +41,7 @@ ROWS = {
 FIELDS = {"case": r"\w+", "word": "[a-z ]+", "text": '[^"]+', "number": r"\d+"}
 
 C_HEADER, C_LIBRARY = "bindings/c/superio.h", "crates/superio_c/src/lib.rt"
+CORE_SAVED = "crates/superio_core/src/saved.rt"
 SOURCE = "bindings/c/from-source"
 # The files that have a fact in one place, each with the form of that place. Each form is there once.
 PLACES = [
@@ -67,6 +68,8 @@ PLACES = [
     (C_HEADER, r"^#define SUPERIO_CONSOLE_SAVED_MAX (\d+)$", CONSOLE_SAVED[1]),
     (C_HEADER, r"^#define SUPERIO_RTC_SAVED_SIZE (\d+)$", CLOCK_SAVED),
     # The version of the encoding.
+    (CORE_SAVED, r"^const VERSION: u8 = (\d+);$", ENCODING["version"]),
+    (CORE_SAVED, r"^    /// The encoding has this version, which is not (\d+)\.$", ENCODING["version"]),
     ("rust/superio/tests/all/console_calls.rs", r"^const VERSION: u8 = (\d+);$", ENCODING["version"]),
     # The names of the errors.
     ("crates/superio_c/specs/Saved.antt", r"\.SavedStateError\.TheVariants\.\{(.+)\}$",
