@@ -15,7 +15,7 @@ from common.facts import (ABI, CLOCK, CLOCK_SAVED, CONSOLE_SAVED, ENCODING, ERRO
                           VERSION, told, word_of)
 from generators.facts_of_pages import PARTS
 from generators.facts_of_python import module
-from generators.facts_of_tests import TEMPLATES, made_of
+from generators.facts_of_tests import REFUSED, TEMPLATES, made_of, refused
 
 MODULE = "bindings/python/superio/_facts.py"
 PAGES = ["docs/DEVICES.md", "docs/DIFFERENCES.md", "docs/SAVED-STATES.md"]
@@ -142,7 +142,7 @@ def with_parts(text):
 
 def made(read):
     """Each file that has facts, as it is to be. `read` gives the text of a file by its name."""
-    files = {MODULE: module(), **{f"{name.removesuffix('.in')}.txt": made_of(name, read(name)) for name in TEMPLATES}}
+    files = {MODULE: module(), REFUSED: refused(), **{f"{name.removesuffix('.in')}.txt": made_of(name, read(name)) for name in TEMPLATES}}
     for name in PAGES:
         files[name] = with_parts(read(name))
     for name, form, text in [*PLACES, *((name, rows_of(template), rows(template)) for name, template in ROWS.items()),
