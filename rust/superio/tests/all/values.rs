@@ -89,6 +89,13 @@ fn clocks_are_equal_if_their_states_are() {
     assert_ne!(with_alarm(1), Pl031::new());
 }
 
+/// C shows the places of the ring, and a new port has nothing there.
+#[test]
+fn a_new_port_has_zeros_in_its_places() {
+    let ArrayFifo { head, len, bytes } = Uart::new().in_buffer;
+    assert_eq!((head, len, bytes), (0, 0, [0; 64]));
+}
+
 /// The five fields of vm-superio make a state without an alarm, and only such a state gives them back.
 #[test]
 fn a_state_with_an_alarm_is_not_five_fields() {
