@@ -269,6 +269,46 @@ def test_other_accesses(line, old, new, said, tmp_path):
     assert accesses(line, program.replace(old, new), tmp_path) == f"{said}\n"
 
 
+# Edits of the functions of docs/C.md for the other devices, and the first step of clock.c that goes wrong.
+OTHER_CLOCKS = at_least(8, [
+    ("if (due != SUPERIO_RTC_NEVER)\n", "if (due != 0)\n", "no alarm is set"),
+    ("(machine->now + due)", "due", "an alarm is set"),
+    (" - machine->ahead", "", "an alarm is set"),
+    ("TFD_TIMER_ABSTIME", "0", "an alarm is set"),
+    ("offset != 0x00C", "offset != 0x100", "RTCCR is written"),
+    ("if (is_up != machine->clock_was_up)\n", "", "no alarm is set"),
+    ("machine->clock_was_up = is_up;", "(void)is_up;", "the interrupt is cleared"),
+    ("return value >> 8 * within;", "return value;", "a byte is read"),
+    ("within + count > 4", "within + count > 8", "two words are read"),
+    ("(uint8_t)(port - COM1), value)", "0, value)", "the port is written"),
+])
+
+
+def clock(functions, folder):
+    """What clock.c says of the functions."""
+    program = (ROOT / "tests/documents/clock.c").read_text(encoding="utf-8")
+    assert program.count("FUNCTIONS\n\n") == 1
+    compile_c(folder, "clock", program.replace("FUNCTIONS\n", functions), LIBRARY, "-o", "clock")
+    return run([folder / "clock"]).stdout
+
+
+def clock_functions():
+    return code("docs/C.md", "c", "set_clock_line") + code("docs/C.md", "c", "static void port_write")
+
+
+@pytest.mark.needs("cc")
+def test_clock(tmp_path):
+    """The guest's accesses reach the devices, and the clock's line and timer follow."""
+    assert clock(clock_functions(), tmp_path) == "each step is right\n"
+
+
+@pytest.mark.needs("cc")
+@pytest.mark.parametrize("old, new, said", OTHER_CLOCKS)
+def test_other_clocks(old, new, said, tmp_path):
+    assert clock_functions().count(old) == 1
+    assert clock(clock_functions().replace(old, new), tmp_path) == f"{said}\n"
+
+
 @pytest.mark.needs("cc")
 def test_commands(tmp_path):
     """As the page says, in a folder that has what the repository's top has. The page shows the program but for the line
