@@ -1,5 +1,5 @@
 /* SPDX-License-Identifier: Apache-2.0 OR BSD-3-Clause */
-/* The clock of docs/C.md: its functions for the bus and for the clock's line and timer stand at FUNCTIONS. After each
+/* A machine with the clock of docs/CLOCK.md and the bus of docs/C.md, whose functions stand at FUNCTIONS. After each
  * step the line has to have the level that the clock gives, and the timer has to go off when the alarm is due. The first
  * step after which one of them does not is named, and ends the program with status 1. */
 #define _GNU_SOURCE
@@ -90,8 +90,9 @@ int main(void) {
     machine.ahead += 3 * DAY;
     follow_clock(&machine);
     expect(goes_off_in(&machine) == 0 && levels == 0, "the alarm is due");
-    expect(memory_read(&machine, CLOCK + RTCMIS, 4) == 1, "RTCMIS is read");
+    alarm_is_due(&machine);
     expect(goes_off_in(&machine) == -1 && line && levels == 1, "the alarm is found");
+    expect(memory_read(&machine, CLOCK + RTCMIS, 4) == 1 && levels == 1, "RTCMIS is read");
     memory_write(&machine, CLOCK + RTCICR, 1);
     expect(goes_off_in(&machine) == -1 && !line && levels == 2, "the interrupt is cleared");
 

@@ -269,7 +269,7 @@ def test_other_accesses(line, old, new, said, tmp_path):
     assert accesses(line, program.replace(old, new), tmp_path) == f"{said}\n"
 
 
-# Edits of the functions of docs/C.md for the other devices, and the first step of clock.c that goes wrong.
+# Edits of the functions of docs/CLOCK.md and docs/C.md, and the first step of clock.c that goes wrong.
 OTHER_CLOCKS = at_least(8, [
     ("if (due != SUPERIO_RTC_NEVER)\n", "if (due != 0)\n", "no alarm is set"),
     ("(machine->now + due)", "due", "an alarm is set"),
@@ -277,7 +277,7 @@ OTHER_CLOCKS = at_least(8, [
     ("TFD_TIMER_ABSTIME", "0", "an alarm is set"),
     ("offset != 0x00C", "offset != 0x100", "RTCCR is written"),
     ("if (is_up != machine->clock_was_up)\n", "", "no alarm is set"),
-    ("machine->clock_was_up = is_up;", "(void)is_up;", "the interrupt is cleared"),
+    ("machine->clock_was_up = is_up;", "(void)is_up;", "RTCMIS is read"),
     ("return value >> 8 * within;", "return value;", "a byte is read"),
     ("within + count > 4", "within + count > 8", "two words are read"),
     ("(uint8_t)(port - COM1), value)", "0, value)", "the port is written"),
@@ -293,7 +293,7 @@ def clock(functions, folder):
 
 
 def clock_functions():
-    return code("docs/C.md", "c", "set_clock_line") + code("docs/C.md", "c", "static void port_write")
+    return code("docs/CLOCK.md", "c") + code("docs/C.md", "c", "static void port_write")
 
 
 @pytest.mark.needs("cc")
