@@ -18,7 +18,7 @@ HI = ("the event loop wakes, and reads input\n2 bytes accepted, 1 interrupt to r
       "for what is left, turn asks for 1 interrupt\n")
 MONITOR = "fn event_loop"   # which the whole monitor of docs/RUST.md has
 # What the program of docs/RUST.md with a bus prints: the clock twice, a read of the port, and the reset.
-BUS = "".join(f"{line}\n" for line in [*["clock: line false, alarm in Some(60) s"] * 2, *[
+BUS = "".join(f"{line}\n" for line in [*["the timer goes off at 1700000060"] * 2, *[
     "Work { interrupts: 0, is_up: false, wakes: false }"] * 2])
 # The lines of a write; and around a line that loses edges, others.
 WRITE = re.compile(r"^    if \(interrupt\(superio_console_write\(.*\n.*\n", re.M)
@@ -413,8 +413,10 @@ def test_rules_of_a_bus(built, tmp_path):
     """The bus of docs/RUST.md, with each access at each place in place of its `main`."""
     program = edited(without_main(code("docs/RUST.md", "rust", "is_reset_command")), [
         ('println!("{work:?}");', "DONE.lock().unwrap().push(work);"),
-        ('println!("clock: line {}, alarm in {:?} s", self.clock.interrupt_line(), self.clock.alarm_due(self.now));',
-         "FOLLOWED.fetch_add(1, Relaxed);")])
+        ("let is_up = self.clock.interrupt_line();", "FOLLOWED.fetch_add(1, Relaxed);\nlet is_up = self.clock.interrupt_line();"),
+        ('println!("the clock\'s line: {is_up}");', "LINE.store(is_up, Relaxed);"),
+        ('println!("the timer goes off at {}", self.now + due)', "TIMER.store(self.now + due, Relaxed)"),
+        ('println!("the timer is stopped")', "TIMER.store(u64::MAX, Relaxed)")])
     rules = (ROOT / "tests/documents/bus_rules.rs").read_text("utf-8")
     run_rust(program + rules, "each rule is kept\n", "", built, tmp_path)
 
