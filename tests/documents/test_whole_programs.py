@@ -355,10 +355,10 @@ def run_rust(program, printed, typed, built, folder):
 
 @pytest.mark.needs("cargo")
 @pytest.mark.parametrize("document, of, typed, printed", [
-    ("README.md", "Console", "", HI), ("docs/RUST.md", "Cell", "", "h"), ("docs/RUST.md", "from_snapshot", "", "h"),
+    ("README.md", "Console", "", HI), ("docs/PORT.md", "Cell", "", "h"), ("docs/PORT.md", "from_snapshot", "", "h"),
     ("docs/RUST.md", "CONSOLE_SAVED_MAX", "", "h"), ("docs/RUST.md", "is_reset_command", "", BUS),
     ("docs/RUST.md", "RtcState", "", "the line is up: true\n"),
-    ("docs/RUST.md", MONITOR, "hello\n", "HELLO\n"), ("docs/PORT.md", "Serial", "", "all came back\n")])
+    ("docs/RUST.md", MONITOR, "hello\n", "HELLO\n"), ("docs/PORT.md", "L: Trigger", "", "all came back\n")])
 def test_rust(document, of, typed, printed, built, tmp_path):
     run_rust(code(document, "rust", of), printed, typed, built, tmp_path)
 
@@ -379,6 +379,35 @@ def edited(program, edits):
         assert program.count(old) == 1
         program = program.replace(old, new)
     return program
+
+
+# How the program of docs/RUST.md polls its standard input and output, which do not block. That they may be ready is enough.
+FILES_IN_RUST = """
+    const O_NONBLOCK: i32 = 0o4000;
+    let input = OpenOptions::new().read(true).custom_flags(O_NONBLOCK).open("/dev/stdin").unwrap();
+    let output = OpenOptions::new().write(true).custom_flags(O_NONBLOCK).open("/dev/stdout").unwrap();
+    spawn(move || looping.poll_loop(input, output, |wants| {
+        std::thread::sleep(Duration::from_micros(if wants.turn { 50 } else { 100 }));
+        (wants.input > 0, wants.output)
+    }));
+"""
+
+
+@pytest.mark.needs("cargo")
+def test_event_loop_over_files_in_rust(built, tmp_path):
+    """More input comes back than all queues hold, through pipes that are often full."""
+    program, loop = code("docs/RUST.md", "rust", MONITOR), code("docs/RUST.md", "rust", "fn poll_loop")
+    start, end = program.index("    /// The event loop. It sends"), program.index("/// Reads input when")
+    serving = program.index("fn main()")
+    program = program[:start] + loop + program[serving:]
+    program, count = re.subn(r"    (?:let \(reads|let \(writes|let \[for_input|spawn\(move \|\| serve).*\n", "", program)
+    assert end < serving and count == 5
+    program = edited(program, [
+        ("use superio::console::{Console, Work};", "use std::fs::OpenOptions;\nuse std::os::unix::fs::OpenOptionsExt;\n"
+         "use superio::console::{Console, Wants, Work};"),
+        ("    spawn(move || looping.event_loop(woken, reads, writes));\n", FILES_IN_RUST)])
+    text = "the quick brown fox " * 5_000 + "\n"
+    run_rust(f"#![allow(unused)]\n{program}", text.upper(), text, built, tmp_path)
 
 
 @pytest.mark.needs("cargo")
