@@ -272,6 +272,8 @@ def test_other_accesses(line, old, new, said, tmp_path):
 # Edits of the functions of docs/CLOCK.md and docs/C.md, and the first step of clock.c that goes wrong.
 OTHER_CLOCKS = at_least(8, [
     ("if (due != SUPERIO_RTC_NEVER)\n", "if (due != 0)\n", "no alarm is set"),
+    ("seconds(CLOCK_REALTIME)", "seconds(CLOCK_MONOTONIC)", "the clock is opened"),
+    ("(seconds(CLOCK_BOOTTIME) + machine->ahead)", "seconds(CLOCK_BOOTTIME)", "the clock is opened"),
     ("(machine->now + due)", "due", "an alarm is set"),
     (" - machine->ahead", "", "an alarm is set"),
     ("TFD_TIMER_ABSTIME", "0", "an alarm is set"),
