@@ -16,7 +16,7 @@ LICENSES = LICENSE.partition(": ")[2]
 RUST = "1.63"       # the oldest, which Debian 12 has
 REPLACED = "0.8.2"  # the version of vm-superio in whose place the crate of that name is
 # Where users read which Rust they need.
-PAGES = ["README.md", "docs/RUST.md", "docs/USING.md",
+PAGES = ["README.md", "docs/RUST.md",
          *(f"{crate}/README.md" for crate in ("rust/superio", "rust/vm-superio", "bindings/c/from-source"))]
 
 OF_ALL = {"edition": "2021", "rust-version": RUST}
