@@ -22,6 +22,16 @@ let page = null;
 /** Whether the page has opened each time. One that has not is not waited for again. */
 let opens = true;
 
+/** Makes the page that of a user who writes other digits: they are in each text that does not name its language. */
+function speakPersian({ Number, BigInt, Date }) {
+  for (const { prototype } of [Number, BigInt, Date]) {
+    for (const name of Object.getOwnPropertyNames(prototype).filter((one) => one.startsWith("toLocale"))) {
+      const call = prototype[name];
+      prototype[name] = function (language = "fa", ...more) { return call.call(this, language, ...more); };
+    }
+  }
+}
+
 /** Opens the page anew, with a fragment of its address. */
 async function open(fragment, width = WIDTH, scheme = SCHEME) {
   if (!opens) throw new Error("the page has not opened before");
@@ -33,6 +43,7 @@ async function open(fragment, width = WIDTH, scheme = SCHEME) {
   await until(() => frame.contentWindow.superio, 20_000);
   opens = true;
   page = frame.contentWindow;
+  speakPersian(page);
 }
 
 const by = (id) => page.document.getElementById(id);
@@ -145,7 +156,6 @@ const SEEN = {
   flipped: () => texts("#registers .flipped").join(" "),
   ignored: () => labels("#registers [aria-label$=ignored]"),
   invalid: () => labels("[aria-invalid=true]"),
-  disabled: () => labels(":disabled"),
   lit: () => texts("#port .lit").join(", "),
   held: () => by("fifo").querySelector("text").textContent,
   ring: () => all("#fifo path").map((path) => path.getAttribute("class") || "-").join(" "),
