@@ -165,6 +165,10 @@ FORGETFUL = at_least(12, {
     "a console is called without its lock": ("    pthread_mutex_lock(&lock);\n    superio_console_read_effects",
                                              "    superio_console_read_effects"),
 }.items())
+FORGETFUL += [("a limit is by a clock that can be set", edit) for edit in (
+    ("clock_gettime(CLOCK_MONOTONIC", "clock_gettime(CLOCK_REALTIME"),
+    ("&attributes, CLOCK_MONOTONIC", "&attributes, CLOCK_REALTIME"),
+    ("pthread_condattr_setclock(&attributes, CLOCK_MONOTONIC);", ";"))]
 
 
 def watched(program, folder):
