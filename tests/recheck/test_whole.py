@@ -7,7 +7,7 @@ import shutil
 import subprocess
 
 import pytest
-from harness import run
+from harness import at_least, run
 from test_plants import C_FUNCTIONS, DEVICES, ROOT, SHELL, copy_sources
 
 import expanded
@@ -201,6 +201,20 @@ def test_refused(name, sources, tmp_path):
     changed(sources, root, changes)
     with pytest.raises(rust2coq.Refused, match=re.escape(why).replace("LINE", r"\d+")):
         rerun.translated(root)
+
+
+# The numbers of the header, except those that tell a monitor where a device is, and its version.
+NUMBERS = {name: number for name, number in re.findall(
+    r"^#define (SUPERIO_\w+) (\d+)$", (ROOT / HEADERS[0]).read_text("ascii"), re.M)
+    if not re.match("SUPERIO_(VERSION|SERIAL_PORTS)", name)}
+
+
+@pytest.mark.parametrize("name", at_least(6, NUMBERS))
+def test_each_number_of_the_header_is_compared(name, sources, tmp_path):
+    line = f"#define {name} {NUMBERS[name]}\n"
+    changed(sources, tmp_path / "root", in_header(line, line.replace(NUMBERS[name], f"{int(NUMBERS[name]) + 1}")))
+    with pytest.raises(rust2coq.Refused, match=rf"superio\.h: {name} is not |superio\.h: superio_\w+: "):
+        rerun.translated(tmp_path / "root")
 
 
 # What Cargo and rustup read in a folder, for all that is built below it: in each folder from the root to the three crates,
