@@ -226,7 +226,14 @@ function contrast(one) {
   return (light + 0.05) / (dark + 0.05);
 }
 
-/** Tries whether the page fits its window, each text that is in use stands out, and each control has a name. */
+/** The ids that an element names: of what it is for, of what it is called by, and of where it leads. */
+const named = (one) => [...["for", "aria-labelledby", "aria-describedby"].map((name) => one.getAttribute(name) ?? ""),
+  /^#(.*)/.exec(one.getAttribute("href"))?.[1] ?? ""].join(" ").split(" ").filter(Boolean);
+
+/**
+ * Tries whether the page fits its window, each text that is in use stands out, each control has a name, and what names
+ * another element finds it.
+ */
 async function tryLooks(width, scheme) {
   await open(shown, width, scheme);
   const visible = all("body *").filter((one) => one.checkVisibility());
@@ -241,6 +248,9 @@ async function tryLooks(width, scheme) {
     "is not reached by Tab": visible.filter((one) => one.tabIndex < 0 && !one.disabled && (controls.includes(one) ||
       /auto|scroll/.test(page.getComputedStyle(one).overflowY) && one.scrollHeight > one.clientHeight + 1)),
     "is too wide": [page.document.scrollingElement].filter((one) => one.scrollWidth > width),
+    "has no language": [page.document.documentElement].filter((one) => !one.lang),
+    "names what is not there": all("*").filter((one) => named(one).some((id) => !by(id))),
+    "has the id of another": all("[id]").filter((one) => by(one.id) !== one),
   };
   tell("looks", `${width} ${scheme}`, Object.entries(faults).flatMap(([what, elements]) =>
     elements.map((one) => `this ${what}: ${start(one)}`)), controls.length);
