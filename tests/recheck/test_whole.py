@@ -203,6 +203,20 @@ def test_refused(name, sources, tmp_path):
         rerun.translated(root)
 
 
+# What else the preprocessor could be told: to read another file, to pass over lines, to lay structs out in another way,
+# or to take a word for another.
+DIRECTIVES = ["#include <string.h>", "#include <stdint>", '#include "stdint.h"', "#include <sys/stdint.h>", "#if 1",
+              "#ifdef OTHER", "#ifndef OTHER", "#pragma pack(1)", "#define other 1", "#undef uint8_t", "#line 1",
+              "#error no", "# define other 1"]
+
+
+@pytest.mark.parametrize("directive", DIRECTIVES)
+def test_no_other_directive(directive, sources, tmp_path):
+    changed(sources, tmp_path / "root", in_header("#include <stdint.h>\n", f"#include <stdint.h>\n{directive}\n"))
+    with pytest.raises(rust2coq.Refused, match=rf"superio\.h: {re.escape(directive)}$"):
+        rerun.translated(tmp_path / "root")
+
+
 # The numbers of the header, except those that tell a monitor where a device is, and its version.
 NUMBERS = {name: number for name, number in re.findall(
     r"^#define (SUPERIO_\w+) (\d+)$", (ROOT / HEADERS[0]).read_text("ascii"), re.M)
