@@ -11,6 +11,7 @@ import sys
 
 import common.seed
 import expanded
+import monitors
 import pytest
 import rerun
 import rust2coq
@@ -18,13 +19,13 @@ import test_consoles
 import test_counts
 import test_files
 import test_header
-from builds import HOST, prebuilt
+from builds import HOST, make_words, prebuilt
 from common.seed import VARIABLE, seed
 from contracts import functions_of
 from documents import BUILT
 from generators import counts
 from generators.libraries import replace_lines
-from harness import ROOT, at_least, check
+from harness import ROOT, at_least, check, run
 from recorded import difference, recordings
 from script_tests import Script
 from seeds import random_source, seeds
@@ -389,6 +390,27 @@ def test_warnings_of_the_header(line, tmp_path, monkeypatch):
         assert refuses(test_header.test_header, compiler, tmp_path) == is_warned
         assert refuses(test_header.test_mistake, compiler, ["(void)port;", "nothing"], tmp_path) == is_warned
     assert refuses(test_header.test_mistake, compiler, ["(void)port;", "unused-result"], tmp_path)
+
+
+# What each sanitizer finds: a read behind memory, and a sum that is too large.
+FAULTS = ["char *bytes = malloc((size_t)count); return bytes[count] == 1;",
+          "int most = INT_MAX; return most + count == 1;"]
+FAULT = "#include <limits.h>\n#include <stdlib.h>\nint main(int count, char **words) {{\n    (void)words;\n    {}\n}}\n"
+MADE_BY_C = make_words("gcc -xc -std=c99", HOST, "", "")
+SANITIZED = {"tests/c": [word for words in MADE_BY_C if str(words).startswith("CC=") for word in words[3:].split()],
+             "tests/kvm": ["cc", "-xc", *(word for word in monitors.COMPILERS["host"] if "sanitize" in str(word))]}
+
+
+@pytest.mark.needs("cc")
+@pytest.mark.parametrize("fault", FAULTS)
+@pytest.mark.parametrize("folder", SANITIZED)
+def test_sanitizers(folder, fault, tmp_path):
+    """They are on where tests say so: a program with a fault prints more than it should."""
+    (tmp_path / "fault.c").write_text(FAULT.format(fault), "ascii")
+    check([*SANITIZED[folder], "-O1", tmp_path / "fault.c", "-o", tmp_path / "fault"], "")
+    ran = run([tmp_path / "fault"])
+    assert "Sanitizer" in ran.stdout or "runtime error" in ran.stdout
+    assert ran.returncode or folder == "tests/kvm", "tests/c looks at the status"
 
 
 COUNTED = at_least(2, [row for row in test_counts.ROWS if {counts.THEIRS, counts.RUST} <= {*row.numbers}])[0]
