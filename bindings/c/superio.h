@@ -123,9 +123,10 @@
  * by `reg-io-width` and `reg-shift`. Each of these is one register, not four:
  * pass its lowest byte, and fill a read up with zeros.
  *
- * The clock takes four bytes at a multiple of four. Answer a narrower read from
- * the four bytes around it, and a wider one with ones. Ignore narrower and
- * wider writes. No driver that we know makes a wider access.
+ * The clock takes four bytes at any offset, and knows which are invalid. Answer
+ * a narrower read from the four aligned bytes around it, and a wider one with
+ * ones. Ignore narrower and wider writes. No driver that we know makes a wider
+ * access.
  *
  * Edges or levels. Your interrupt controller decides. The PIC of a PC takes
  * edges, and so do the inputs of an I/O APIC for ISA interrupts. These take

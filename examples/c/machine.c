@@ -144,7 +144,8 @@ static struct machine migrate(const struct machine *machine) {
     uint8_t console[SUPERIO_CONSOLE_SAVED_MAX], clock[SUPERIO_RTC_SAVED_SIZE];
     size_t count = superio_console_save(&machine->console, console);
     superio_rtc_save(&machine->clock, clock);
-    struct machine other = {.now = machine->now, .has_level = machine->has_level};
+    struct machine other = {.has_level = machine->has_level};
+    other.now = machine->now; /* guest time goes on where it stopped */
     check(superio_console_load(&other.console, console, count) == SUPERIO_LOAD_OK, "loading the console");
     check(superio_rtc_load(&other.clock, clock, sizeof clock) == SUPERIO_LOAD_OK, "loading the clock");
     printf("moved a clock, and a console of %zu bytes\n", count);

@@ -94,8 +94,8 @@ def test_likely_bug(name):
             found = [function_at(*place) for _, *place in places(edit)]
             assert found and found == found[:1] * len(found)
     else:
-        source = (ROOT / "crates/superio_tests/src" / f"{module}.rt").read_text(encoding="utf-8")
-        assert f"#[test]\nfn {test}(" in source
+        sources = [path.read_text(encoding="utf-8") for path in ROOT.glob(f"crates/*/src/{module}.rt")]
+        assert any(f"#[test]\nfn {test}(" in source for source in sources)
 
 
 @pytest.mark.parametrize("edit", at_least(5, shared()))

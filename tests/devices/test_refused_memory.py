@@ -1,7 +1,7 @@
 # SPDX-License-Identifier: Apache-2.0 OR BSD-3-Clause
 """Memory that is refused, one allocation after another, to the program and to tests in Rattle.
 
-Each script below, and each test of `refused_memory` in crates/superio_tests, runs without its first allocation, without
+Each script below, and each test of a module `refused_memory` of the crates, runs without its first allocation, without
 its second, and so on, until a run has them all. Each of a script's other runs must end as out of memory, and print the
 replies before the line that wanted it. A test must pass each time: it knows what may be left.
 """
@@ -43,8 +43,11 @@ SCRIPTS = [
     (["kr 04  00", "sq 61  01", "ss  ok", "sr 00  61", "kr 5", "bad line 5"], [0, 0, 0, 2, 2]),
     (["kr 5", "bad line 1"], [0, 0, 0]),
 ]
-SOURCE = (ROOT / "crates/superio_tests/src/refused_memory.rt").read_text(encoding="utf-8")
-NAMES = at_least(14, re.findall(r"^#\[test\]\n(?:#\[.*\n)*(?:pub )?fn (\w+)", SOURCE, re.M))
+# The tests in Rattle, each by its crate and its name.
+NAMES = at_least(14, [
+    (path.parts[-3], name) for path in sorted(CRATES.glob("*/src/refused_memory.rt"))
+    for name in re.findall(r"^#\[test\]\n(?:#\[.*\n)*(?:pub )?fn (\w+)", path.read_text(encoding="utf-8"), re.M)
+])
 
 
 @pytest.fixture(scope="module")
@@ -58,11 +61,12 @@ def refusing(tmp_path_factory):
 
 @pytest.fixture(scope="module")
 def tests():
-    """The proved tests of superio_tests, which are proved and built if they are missing or older than the sources."""
+    """The proved tests of each crate, which are proved and built if they are missing or older than the sources."""
     sources = max(path.stat().st_mtime for path in CRATES.glob("*/src/**/*.rt"))
     with alone():
-        if not TESTS.exists() or TESTS.stat().st_mtime < sources:
-            build(("superio_tests", "test"))
+        for crate, built in TESTS.items():
+            if not built.exists() or built.stat().st_mtime < sources:
+                build((crate, "test"))
     return TESTS
 
 
@@ -90,20 +94,21 @@ def test_script(refusing, program, rows, printed):
     assert len(found) == len(printed) + 1
 
 
-@pytest.mark.parametrize("name", NAMES)
-def test_in_rattle(refusing, tests, name):
+@pytest.mark.parametrize("crate, name", NAMES)
+def test_in_rattle(refusing, tests, crate, name):
     """A test passes without each of its allocations, of which it has some."""
-    found = list(runs(refusing, [tests, f"refused_memory::{name}"]))
+    found = list(runs(refusing, [tests[crate], f"refused_memory::{name}"]))
     for number, _, (status, _, errors) in found:
         assert status == 0, f"without allocation {number}: {errors.decode(errors='replace')}"
     assert len(found) > 1
 
 
 def test_each_is_named(tests):
-    listed = run([tests, "--list"]).stdout
-    assert sorted(re.findall(r"^refused_memory::(\w+): test$", listed, re.M)) == sorted(NAMES)
+    listed = [(crate, name) for crate, built in tests.items()
+              for name in re.findall(r"^refused_memory::(\w+): test$", run([built, "--list"]).stdout, re.M)]
+    assert sorted(listed) == sorted(NAMES)
 
 
 def test_number_of_allocations(refusing, tests):
     """66 runs in all, of which each test has one with all its allocations."""
-    assert sum(len(list(runs(refusing, [tests, f"refused_memory::{name}"]))) for name in NAMES) >= 66
+    assert sum(len(list(runs(refusing, [tests[crate], f"refused_memory::{name}"]))) for crate, name in NAMES) >= 66

@@ -1,18 +1,20 @@
 // SPDX-License-Identifier: Apache-2.0 OR BSD-3-Clause
 // The rules of the bus of docs/RUST.md, in place of its `main`: what each access at each place does, by the rules of
 // docs/USING.md, and by devices of its own. `DONE` has the work of consoles that was carried out, and `FOLLOWED` is how
-// many times the clock's line and timer were set.
+// many times the clock's line and timer were set: `LINE` is the level, and `TIMER` the moment at which the timer goes off.
 
-use std::sync::atomic::{AtomicUsize, Ordering::Relaxed};
+use std::sync::atomic::{AtomicBool, AtomicU64, AtomicUsize, Ordering::Relaxed};
 use std::sync::Mutex;
 
 static DONE: Mutex<Vec<Work>> = Mutex::new(Vec::new());
 static FOLLOWED: AtomicUsize = AtomicUsize::new(0);
+static LINE: AtomicBool = AtomicBool::new(false);
+static TIMER: AtomicU64 = AtomicU64::new(u64::MAX);
 const NOW: u64 = 1_700_000_000;
 
 /// A machine of which no access leaves all as it is: a byte is held, RDA is pending and an alarm is due.
 fn used_machine() -> Machine {
-    let mut machine = Machine { console: Console::new(false), clock: Pl031::new(), now: NOW };
+    let mut machine = Machine { console: Console::new(false), clock: Pl031::new(), clock_was_up: false, now: NOW };
     let _ = machine.console.write(1, 0x03);
     let _ = machine.console.receive(b"hi");
     machine.clock.write(0x010, 1, NOW - 60);
@@ -29,11 +31,17 @@ fn assert_same<T: PartialEq + std::fmt::Debug>(
     let (mut machine, mut other) = (used_machine(), used_machine());
     DONE.lock().unwrap().clear();
     FOLLOWED.store(0, Relaxed);
+    LINE.store(false, Relaxed);
+    TIMER.store(u64::MAX, Relaxed);
     let found = access(&mut machine);
     let (reply, work, followed) = by_rule(&mut other);
     assert_eq!((found, FOLLOWED.load(Relaxed)), (reply, followed), "{place}");
     assert_eq!(*DONE.lock().unwrap(), Vec::from_iter(work), "{place}");
     assert!(machine.console == other.console && machine.clock == other.clock, "{place}: another state");
+    if followed > 0 {
+        let timer = machine.clock.alarm_due(NOW).map_or(u64::MAX, |due| NOW + due);
+        assert_eq!((LINE.load(Relaxed), TIMER.load(Relaxed)), (machine.clock.interrupt_line(), timer), "{place}");
+    }
 }
 
 fn main() {

@@ -21,6 +21,8 @@ int __real_poll(struct pollfd *files, nfds_t count, int timeout);
 int __real_pthread_mutex_lock(pthread_mutex_t *mutex);
 int __real_pthread_mutex_unlock(pthread_mutex_t *mutex);
 int __real_pthread_cond_broadcast(pthread_cond_t *condition);
+int __real_clock_gettime(clockid_t clock, struct timespec *time);
+int __real_pthread_condattr_setclock(pthread_condattr_t *attributes, clockid_t clock);
 ssize_t __real_read(int file, void *bytes, size_t count);
 ssize_t __real_write(int file, const void *bytes, size_t count);
 superio_console_read_effects __real_superio_console_read(superio_console *console, uint8_t offset);
@@ -43,6 +45,7 @@ static bool is_full, is_held, is_stuck, has_to_tell;
 static size_t not_received, not_consumed;
 static uint64_t dropped;     /* when the guest was held in vain */
 static long edges, refusals, holds;
+static bool is_monotonic;
 static const superio_console *watched;
 static volatile bool is_over;
 /* Of the event loop. */
@@ -93,7 +96,20 @@ int __wrap_pthread_mutex_unlock(pthread_mutex_t *mutex) {
     return __real_pthread_mutex_unlock(mutex);
 }
 
+/* A limit of time is one of CLOCK_MONOTONIC, which nobody can set. */
+int __wrap_clock_gettime(clockid_t clock, struct timespec *time) {
+    need(clock == CLOCK_MONOTONIC, "a limit is by a clock that can be set");
+    return __real_clock_gettime(clock, time);
+}
+
+int __wrap_pthread_condattr_setclock(pthread_condattr_t *attributes, clockid_t clock) {
+    need(clock == CLOCK_MONOTONIC, "a limit is by a clock that can be set");
+    is_monotonic = true;
+    return __real_pthread_condattr_setclock(attributes, clock);
+}
+
 int __wrap_pthread_cond_timedwait(pthread_cond_t *condition, pthread_mutex_t *mutex, const struct timespec *end) {
+    need(is_monotonic, "a limit is by a clock that can be set");
     need(end && is_full && !is_stuck, "a guest is held for nothing");
     release();
     if (++holds % 2 == 0) {

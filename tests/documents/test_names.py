@@ -171,17 +171,6 @@ def test_call_of_console(name):
     assert name in CODE.findall(Document("docs/USING.md").prose)
 
 
-SHOWN = [(str(document), block.number, "\n".join([*block.lines, ""]))
-         for document in DOCUMENTS for block in document.blocks
-         if block.language == "text" and block.lines[0].startswith("pub record ")]
-
-
-@pytest.mark.parametrize("document, line, shown", at_least(1, SHOWN))
-def test_definition(document, line, shown):
-    """A definition that a document shows is one of specs, as it stands there."""
-    assert any(shown in path.read_text(encoding="utf-8") for path in ROOT.glob("crates/*/specs/**/*.antt")), shown
-
-
 @pytest.mark.needs("kit")
 def test_version():
     """README.md shows the logic of the kit."""

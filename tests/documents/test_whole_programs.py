@@ -18,7 +18,7 @@ HI = ("the event loop wakes, and reads input\n2 bytes accepted, 1 interrupt to r
       "for what is left, turn asks for 1 interrupt\n")
 MONITOR = "fn event_loop"   # which the whole monitor of docs/RUST.md has
 # What the program of docs/RUST.md with a bus prints: the clock twice, a read of the port, and the reset.
-BUS = "".join(f"{line}\n" for line in [*["clock: line false, alarm in Some(60) s"] * 2, *[
+BUS = "".join(f"{line}\n" for line in [*["the timer goes off at 1700000060"] * 2, *[
     "Work { interrupts: 0, is_up: false, wakes: false }"] * 2])
 # The lines of a write; and around a line that loses edges, others.
 WRITE = re.compile(r"^    if \(interrupt\(superio_console_write\(.*\n.*\n", re.M)
@@ -165,6 +165,10 @@ FORGETFUL = at_least(12, {
     "a console is called without its lock": ("    pthread_mutex_lock(&lock);\n    superio_console_read_effects",
                                              "    superio_console_read_effects"),
 }.items())
+FORGETFUL += [("a limit is by a clock that can be set", edit) for edit in (
+    ("clock_gettime(CLOCK_MONOTONIC", "clock_gettime(CLOCK_REALTIME"),
+    ("&attributes, CLOCK_MONOTONIC", "&attributes, CLOCK_REALTIME"),
+    ("pthread_condattr_setclock(&attributes, CLOCK_MONOTONIC);", ";"))]
 
 
 def watched(program, folder):
@@ -269,6 +273,48 @@ def test_other_accesses(line, old, new, said, tmp_path):
     assert accesses(line, program.replace(old, new), tmp_path) == f"{said}\n"
 
 
+# Edits of the functions of docs/CLOCK.md and docs/C.md, and the first step of clock.c that goes wrong.
+OTHER_CLOCKS = at_least(8, [
+    ("if (due != SUPERIO_RTC_NEVER)\n", "if (due != 0)\n", "no alarm is set"),
+    ("seconds(CLOCK_REALTIME)", "seconds(CLOCK_MONOTONIC)", "the clock is opened"),
+    ("(seconds(CLOCK_BOOTTIME) + machine->ahead)", "seconds(CLOCK_BOOTTIME)", "the clock is opened"),
+    ("(machine->now + due)", "due", "an alarm is set"),
+    (" - machine->ahead", "", "an alarm is set"),
+    ("TFD_TIMER_ABSTIME", "0", "an alarm is set"),
+    ("offset != 0x00C", "offset != 0x100", "RTCCR is written"),
+    ("if (is_up != machine->clock_was_up)\n", "", "no alarm is set"),
+    ("machine->clock_was_up = is_up;", "(void)is_up;", "RTCMIS is read"),
+    ("return value >> 8 * within;", "return value;", "a byte is read"),
+    ("within + count > 4", "within + count > 8", "two words are read"),
+    ("(uint8_t)(port - COM1), value)", "0, value)", "the port is written"),
+])
+
+
+def clock(functions, folder):
+    """What clock.c says of the functions."""
+    program = (ROOT / "tests/documents/clock.c").read_text(encoding="utf-8")
+    assert program.count("FUNCTIONS\n\n") == 1
+    compile_c(folder, "clock", program.replace("FUNCTIONS\n", functions), LIBRARY, "-o", "clock")
+    return run([folder / "clock"]).stdout
+
+
+def clock_functions():
+    return code("docs/CLOCK.md", "c") + code("docs/C.md", "c", "static void port_write")
+
+
+@pytest.mark.needs("cc")
+def test_clock(tmp_path):
+    """The guest's accesses reach the devices, and the clock's line and timer follow."""
+    assert clock(clock_functions(), tmp_path) == "each step is right\n"
+
+
+@pytest.mark.needs("cc")
+@pytest.mark.parametrize("old, new, said", OTHER_CLOCKS)
+def test_other_clocks(old, new, said, tmp_path):
+    assert clock_functions().count(old) == 1
+    assert clock(clock_functions().replace(old, new), tmp_path) == f"{said}\n"
+
+
 @pytest.mark.needs("cc")
 def test_commands(tmp_path):
     """As the page says, in a folder that has what the repository's top has. The page shows the program but for the line
@@ -315,10 +361,10 @@ def run_rust(program, printed, typed, built, folder):
 
 @pytest.mark.needs("cargo")
 @pytest.mark.parametrize("document, of, typed, printed", [
-    ("README.md", "Console", "", HI), ("docs/RUST.md", "Cell", "", "h"), ("docs/RUST.md", "from_snapshot", "", "h"),
+    ("README.md", "Console", "", HI), ("docs/PORT.md", "Cell", "", "h"), ("docs/PORT.md", "from_snapshot", "", "h"),
     ("docs/RUST.md", "CONSOLE_SAVED_MAX", "", "h"), ("docs/RUST.md", "is_reset_command", "", BUS),
     ("docs/RUST.md", "RtcState", "", "the line is up: true\n"),
-    ("docs/RUST.md", MONITOR, "hello\n", "HELLO\n"), ("docs/PORT.md", "Serial", "", "all came back\n")])
+    ("docs/RUST.md", MONITOR, "hello\n", "HELLO\n"), ("docs/PORT.md", "L: Trigger", "", "all came back\n")])
 def test_rust(document, of, typed, printed, built, tmp_path):
     run_rust(code(document, "rust", of), printed, typed, built, tmp_path)
 
@@ -339,6 +385,35 @@ def edited(program, edits):
         assert program.count(old) == 1
         program = program.replace(old, new)
     return program
+
+
+# How the program of docs/RUST.md polls its standard input and output, which do not block. That they may be ready is enough.
+FILES_IN_RUST = """
+    const O_NONBLOCK: i32 = 0o4000;
+    let input = OpenOptions::new().read(true).custom_flags(O_NONBLOCK).open("/dev/stdin").unwrap();
+    let output = OpenOptions::new().write(true).custom_flags(O_NONBLOCK).open("/dev/stdout").unwrap();
+    spawn(move || looping.poll_loop(input, output, |wants| {
+        std::thread::sleep(Duration::from_micros(if wants.turn { 50 } else { 100 }));
+        (wants.input > 0, wants.output)
+    }));
+"""
+
+
+@pytest.mark.needs("cargo")
+def test_event_loop_over_files_in_rust(built, tmp_path):
+    """More input comes back than all queues hold, through pipes that are often full."""
+    program, loop = code("docs/RUST.md", "rust", MONITOR), code("docs/RUST.md", "rust", "fn poll_loop")
+    start, end = program.index("    /// The event loop. It sends"), program.index("/// Reads input when")
+    serving = program.index("fn main()")
+    program = program[:start] + loop + program[serving:]
+    program, count = re.subn(r"    (?:let \(reads|let \(writes|let \[for_input|spawn\(move \|\| serve).*\n", "", program)
+    assert end < serving and count == 5
+    program = edited(program, [
+        ("use superio::console::{Console, Work};", "use std::fs::OpenOptions;\nuse std::os::unix::fs::OpenOptionsExt;\n"
+         "use superio::console::{Console, Wants, Work};"),
+        ("    spawn(move || looping.event_loop(woken, reads, writes));\n", FILES_IN_RUST)])
+    text = "the quick brown fox " * 5_000 + "\n"
+    run_rust(f"#![allow(unused)]\n{program}", text.upper(), text, built, tmp_path)
 
 
 @pytest.mark.needs("cargo")
@@ -373,8 +448,10 @@ def test_rules_of_a_bus(built, tmp_path):
     """The bus of docs/RUST.md, with each access at each place in place of its `main`."""
     program = edited(without_main(code("docs/RUST.md", "rust", "is_reset_command")), [
         ('println!("{work:?}");', "DONE.lock().unwrap().push(work);"),
-        ('println!("clock: line {}, alarm in {:?} s", self.clock.interrupt_line(), self.clock.alarm_due(self.now));',
-         "FOLLOWED.fetch_add(1, Relaxed);")])
+        ("let is_up = self.clock.interrupt_line();", "FOLLOWED.fetch_add(1, Relaxed);\nlet is_up = self.clock.interrupt_line();"),
+        ('println!("the clock\'s line: {is_up}");', "LINE.store(is_up, Relaxed);"),
+        ('println!("the timer goes off at {}", self.now + due)', "TIMER.store(self.now + due, Relaxed)"),
+        ('println!("the timer is stopped")', "TIMER.store(u64::MAX, Relaxed)")])
     rules = (ROOT / "tests/documents/bus_rules.rs").read_text("utf-8")
     run_rust(program + rules, "each rule is kept\n", "", built, tmp_path)
 

@@ -189,14 +189,19 @@ superio_console_wanted __wrap_serial_turn(void) {
 }
 
 int __wrap_tcgetattr(int fd, struct termios *settings) {
+    if (fd != STDIN_FILENO)
+        fail("settings of another terminal");
     *settings = BEFORE;
-    return fd;
+    return 0;
 }
 
+/* Settings that come later wait for the reader of the output, who may take nothing, or lose what was typed. */
 int __wrap_tcsetattr(int fd, int when, const struct termios *settings) {
     bool is_restored = memcmp(settings, &BEFORE, sizeof BEFORE) == 0;
+    if (fd != STDIN_FILENO || when != TCSANOW)
+        fail("settings of another terminal, or not at once");
     SEE(is_restored ? "  restored" : settings->c_lflag == 0 ? "  raw" : "  neither");
-    return fd + when;
+    return 0;
 }
 
 ssize_t __wrap_write(int fd, const void *bytes, size_t count) {

@@ -11,11 +11,16 @@ from documents import Document
 from harness import ROOT, at_least, check, run
 
 HERE = ROOT / "examples" / "kvm"
-# What takes the place of each program, as long as FAILS does not name it. Of a package, dpkg unpacks the files.
+# What takes the place of each program, as long as FAILS does not name it. Of a package, dpkg unpacks the files. A guest
+# has no library, so that only the busybox of busybox-static runs there.
 PROGRAMS = {
     "apt-cache": 'echo "  Depends: linux-image-6"',
     "apt-get": 'shift; for package; do echo "$package" > "$package.deb"; done',
-    "dpkg": 'mkdir -p boot bin; echo kernel > boot/vmlinuz-6; cp "$(command -v busybox)" bin',
+    "dpkg": """mkdir -p boot bin
+case $2 in
+linux-image-6.deb) echo kernel > boot/vmlinuz-6 ;;
+busybox-static.deb) cp "$(command -v busybox)" bin ;;
+esac""",
     "busybox": 'cat; echo "$*"',
 }
 # What the guest does when it starts. Without one of these it has no programs, no `ps`, no console or no job control.

@@ -181,6 +181,25 @@ def test_words_of_a_command(goal, program, tmp_path):
     assert ran.stdout.startswith(wanted) and ran.returncode == 2, ran.stdout
 
 
+# What `make all` and `make check-library` write, and what others have beside it.
+BUILT = "bindings/c/from-source"
+WRITTEN = ["out/one", "out/two", f"{BUILT}/target/release/libsuperio_c.a", f"{BUILT}/Cargo.lock"]
+KEPT = ["out/other", "out/packages/environment", "out/one.txt", "tests/c/one.c", "examples/c/two.c", "target/other",
+        f"{BUILT}/Cargo.toml", f"{BUILT}/src/lib.rs", "bindings/c/superio.h"]
+
+
+@pytest.mark.parametrize("before", [[*WRITTEN, *KEPT], KEPT, [name for name in KEPT if not name.startswith("out/")]],
+                         ids=["after a build", "again", "in a fresh checkout"])
+def test_clean(before, tmp_path):
+    """It removes what the goals wrote that build and check, and nothing else."""
+    for name in before:
+        (tmp_path / name).parent.mkdir(parents=True, exist_ok=True)
+        (tmp_path / name).touch()
+    check(["make", "-s", "-C", tmp_path, "-f", ROOT / "Makefile", "clean"], "")
+    found = {path.relative_to(tmp_path).as_posix() for path in tmp_path.rglob("*") if path.is_file()}
+    assert found == {*before} - {*WRITTEN} and not (tmp_path / BUILT / "target").exists()
+
+
 def test_goals():
     """docs/RELEASE.md has each goal, and no other."""
     [phony] = re.findall(r"^\.PHONY: (.*)$", (ROOT / "Makefile").read_text(encoding="utf-8"), re.M)

@@ -1,8 +1,11 @@
 # SPDX-License-Identifier: Apache-2.0 OR BSD-3-Clause
-"""The manifests by which others' tools take a package, each field of them: those of Cargo, and those of Debian.
+"""The manifests by which others' tools take a package, each field of them: those of Cargo, of npm, of Python and of
+Debian.
 
 One table has what each field is. Versions, licenses and the oldest Rust stand once, above it.
 """
+import configparser
+import json
 import re
 import tomllib
 
@@ -13,10 +16,11 @@ from harness import ROOT, at_least, run
 from test_files import LICENSE
 
 LICENSES = LICENSE.partition(": ")[2]
+AUTHORS = "the Fimolavand authors"
 RUST = "1.63"       # the oldest, which Debian 12 has
 REPLACED = "0.8.2"  # the version of vm-superio in whose place the crate of that name is
 # Where users read which Rust they need.
-PAGES = ["README.md", "docs/RUST.md", "docs/USING.md",
+PAGES = ["README.md", "docs/RUST.md",
          *(f"{crate}/README.md" for crate in ("rust/superio", "rust/vm-superio", "bindings/c/from-source"))]
 
 OF_ALL = {"edition": "2021", "rust-version": RUST}
@@ -63,6 +67,37 @@ CRATES = {
         "profile": {"release": ABORTS},
         "workspace": {}},
 }
+
+# Of npm. tests/js compares its lists of files with what is there, and takes the package by each of its names.
+NPM = {
+    "name": "superio", "version": VERSION,
+    "description": "Proved legacy devices for virtual machine monitors, such as a 16550 serial port and a PL031 clock",
+    "keywords": ["16550", "uart", "pl031", "rtc", "i8042", "emulator", "vmm", "webassembly"],
+    "author": AUTHORS, "license": f"({LICENSES})", "engines": {"node": ">=18"},
+    "main": "./superio.cjs", "types": "./superio.d.ts",
+    "exports": {".": {"require": {"types": "./superio.d.ts", "default": "./superio.cjs"},
+                      "default": {"types": "./superio.d.mts", "default": "./superio.mjs"}},
+                "./package.json": "./package.json"},
+    "files": ["superio.mjs", "superio.d.mts", "superio.cjs", "superio.d.ts", "module.mjs", "registers.mjs", "README.md",
+              "LICENSE", "LICENSES"],
+    "scripts": {"prepack": "cp -R ../../LICENSE ../../LICENSES .", "postpack": "rm -R LICENSE LICENSES"}}
+# Of Python: the sections of setup.cfg, what builds a package, and the tests that its sources have.
+SETUP = {
+    "metadata": {
+        "name": "superio", "version": "attr: superio.__version__",
+        "description": "Legacy devices for virtual machine monitors, such as a 16550 serial port and a PL031 clock",
+        "long_description": "file: README.md", "long_description_content_type": "text/markdown",
+        "author": AUTHORS, "license": LICENSES, "license_files": "LICENSE-*",
+        "keywords": "16550, UART, PL031, RTC, i8042, emulator, VMM",
+        "classifiers": "\n".join([
+            "", "Development Status :: 4 - Beta", "Intended Audience :: Developers",
+            "Operating System :: POSIX :: Linux",
+            "Programming Language :: Python :: 3", "Programming Language :: Python :: 3 :: Only",
+            "Topic :: System :: Emulators", "Topic :: System :: Hardware", "Typing :: Typed"])},
+    "options": {"packages": "superio", "python_requires": ">=3.8"},
+    "options.package_data": {"superio": "py.typed, superio.abi"}}
+BUILD = {"build-system": {"requires": ["setuptools>=64"], "build-backend": "setuptools.build_meta"}}
+INCLUDED = "include tests/support.py tests/test_commandline.py tests/test_devices.py tests/test_words.py"
 
 # Of Debian: of a description the first line, which lists of packages show.
 EMULATED = "emulated legacy devices for a virtual machine monitor"
@@ -111,6 +146,18 @@ def test_cargo(crate):
     assert tomllib.loads(contents(f"{crate}/Cargo.toml")) == CRATES[crate]
 
 
+def test_npm():
+    assert json.loads(contents("bindings/js/package.json")) == NPM
+
+
+def test_python():
+    setup = configparser.ConfigParser(interpolation=None)
+    setup.read_string(contents("bindings/python/setup.cfg"))
+    assert {name: dict(setup[name]) for name in setup.sections()} == SETUP
+    assert tomllib.loads(contents("bindings/python/pyproject.toml")) == BUILD
+    assert re.findall(r"^[^#\n].*", contents("bindings/python/MANIFEST.in"), re.M) == [INCLUDED]
+
+
 @pytest.mark.parametrize("page", PAGES)
 def test_oldest_rust(page):
     assert {*re.findall(r"Rust (1\.\d+)\b", contents(page))} == {RUST}
@@ -129,6 +176,15 @@ def test_copyright():
     shown = [{key: value for key, value in paragraph.items() if key != "Comment"}
              for paragraph in paragraphs("debian/copyright")]
     assert shown == COPYRIGHT
+
+
+def test_license_of_debian():
+    """Its words are those of LICENSES, below the line of its authors. That of Apache is in each Debian."""
+    texts = dict(re.findall(r"^License: (\S+)\n((?: .*\n)+)", contents("debian/copyright"), re.M))
+    bsd, apache = LICENSES.split(" OR ")[1], LICENSES.split(" OR ")[0]
+    words = [word for word in texts[bsd].split() if word != "."]
+    assert words == contents(f"LICENSES/{bsd}.txt").partition("\n")[2].split()
+    assert texts[apache].split()[-1] == f"/usr/share/common-licenses/{apache}."
 
 
 def test_changelog():

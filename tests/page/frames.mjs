@@ -22,6 +22,16 @@ let page = null;
 /** Whether the page has opened each time. One that has not is not waited for again. */
 let opens = true;
 
+/** Makes the page that of a user who writes other digits: they are in each text that does not name its language. */
+function speakPersian({ Number, BigInt, Date }) {
+  for (const { prototype } of [Number, BigInt, Date]) {
+    for (const name of Object.getOwnPropertyNames(prototype).filter((one) => one.startsWith("toLocale"))) {
+      const call = prototype[name];
+      prototype[name] = function (language = "fa", ...more) { return call.call(this, language, ...more); };
+    }
+  }
+}
+
 /** Opens the page anew, with a fragment of its address. */
 async function open(fragment, width = WIDTH, scheme = SCHEME) {
   if (!opens) throw new Error("the page has not opened before");
@@ -33,6 +43,7 @@ async function open(fragment, width = WIDTH, scheme = SCHEME) {
   await until(() => frame.contentWindow.superio, 20_000);
   opens = true;
   page = frame.contentWindow;
+  speakPersian(page);
 }
 
 const by = (id) => page.document.getElementById(id);
@@ -145,7 +156,6 @@ const SEEN = {
   flipped: () => texts("#registers .flipped").join(" "),
   ignored: () => labels("#registers [aria-label$=ignored]"),
   invalid: () => labels("[aria-invalid=true]"),
-  disabled: () => labels(":disabled"),
   lit: () => texts("#port .lit").join(", "),
   held: () => by("fifo").querySelector("text").textContent,
   ring: () => all("#fifo path").map((path) => path.getAttribute("class") || "-").join(" "),
@@ -216,7 +226,14 @@ function contrast(one) {
   return (light + 0.05) / (dark + 0.05);
 }
 
-/** Tries whether the page fits its window, each text that is in use stands out, and each control has a name. */
+/** The ids that an element names: of what it is for, of what it is called by, and of where it leads. */
+const named = (one) => [...["for", "aria-labelledby", "aria-describedby"].map((name) => one.getAttribute(name) ?? ""),
+  /^#(.*)/.exec(one.getAttribute("href"))?.[1] ?? ""].join(" ").split(" ").filter(Boolean);
+
+/**
+ * Tries whether the page fits its window, each text that is in use stands out, each control has a name, and what names
+ * another element finds it.
+ */
 async function tryLooks(width, scheme) {
   await open(shown, width, scheme);
   const visible = all("body *").filter((one) => one.checkVisibility());
@@ -231,6 +248,9 @@ async function tryLooks(width, scheme) {
     "is not reached by Tab": visible.filter((one) => one.tabIndex < 0 && !one.disabled && (controls.includes(one) ||
       /auto|scroll/.test(page.getComputedStyle(one).overflowY) && one.scrollHeight > one.clientHeight + 1)),
     "is too wide": [page.document.scrollingElement].filter((one) => one.scrollWidth > width),
+    "has no language": [page.document.documentElement].filter((one) => !one.lang),
+    "names what is not there": all("*").filter((one) => named(one).some((id) => !by(id))),
+    "has the id of another": all("[id]").filter((one) => by(one.id) !== one),
   };
   tell("looks", `${width} ${scheme}`, Object.entries(faults).flatMap(([what, elements]) =>
     elements.map((one) => `this ${what}: ${start(one)}`)), controls.length);

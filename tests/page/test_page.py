@@ -54,6 +54,9 @@ FEATURES = {feature.split("\n")[0]: feature for feature in at_least(86, FEATURES
 LOOKS = {f"{width} {scheme}": (width, scheme) for width in (1280, 400) for scheme in ("light", "dark")}
 PICTURES = {picture[0]: picture for picture in PICTURES}
 LEAST_CONTROLS = 75   # in each of LOOKS
+# What a control has, and what the page says of that: the number of an option, and the line that a button makes.
+OPTIONS = re.findall(r'<option value="(\d+)"[^>]*>([^<]*)', PAGE.read_text("utf-8"))
+BUTTONS = re.findall(r'<button [^>]*data-line="([^"]*)" title="([^"]*)"', PAGE.read_text("utf-8"))
 
 
 # The file
@@ -81,6 +84,16 @@ def test_link(link):
     path = PAGE.parent / name
     assert path.is_file()
     assert not heading or heading in Document(path).anchors
+
+
+@pytest.mark.parametrize("number, said", at_least(4, OPTIONS))
+def test_an_option_says_its_number(number, said):
+    assert said == f"{int(number):,} calls a second"
+
+
+@pytest.mark.parametrize("line, said", at_least(2, BUTTONS))
+def test_a_button_says_its_line(line, said):
+    assert said.partition(":")[0] == line
 
 
 # In a browser
@@ -235,6 +248,42 @@ def test_runs_until_it_is_there(tmp_path):
     runs = [part["count"] for script in scripts if script["url"] != "awaits"
             for function in script["functions"] for part in function["ranges"]]
     assert len(runs) > 100 and sum(runs) < MOST_RUNS
+
+
+# Asks another host for something in each way that a page has, and for a worker, which no other host can give. Gives the
+# ways that the browser refused, by the names that a policy has for them, once no further one comes.
+ASKS = """(async () => {
+  const refused = [];
+  addEventListener("securitypolicyviolation", ({ effectiveDirective: name }) => refused.push(name));
+  const add = (name, attributes) =>
+    document.body.append(Object.assign(document.createElement(name), attributes));
+  const place = "https://127.0.0.1:9/other";
+  fetch(place).catch(() => {});
+  add("img", { src: place });
+  add("script", { src: place });
+  add("link", { rel: "stylesheet", href: place });
+  add("iframe", { src: place });
+  add("audio", { src: place });
+  add("object", { data: place });
+  new FontFace("other", `url(${place})`).load().catch(() => {});
+  new Worker("data:text/javascript,");
+  for (let before = -1; before < refused.length; await new Promise((done) => setTimeout(done, 300))) {
+    before = refused.length;
+  }
+  return refused.sort().join(" ");
+})()"""
+REFUSED = ["connect-src", "font-src", "frame-src", "img-src", "media-src", "object-src", "script-src-elem",
+           "style-src-elem", "worker-src"]
+
+
+@pytest.mark.needs("chromium")
+def test_the_browser_refuses_requests(tmp_path):
+    """Whatever the page's scripts do, nothing goes to another place."""
+    with debugged(tmp_path) as tell:
+        tell("Page.navigate", url=PAGE.as_uri())
+        tell("Runtime.evaluate", expression=UNTIL_THERE, awaitPromise=True)
+        said = tell("Runtime.evaluate", expression=ASKS, awaitPromise=True)["result"]["value"]
+    assert said.split() == REFUSED
 
 
 @pytest.mark.needs("chromium")

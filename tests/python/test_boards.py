@@ -79,6 +79,16 @@ def test_made():
             for_readers(other)
 
 
+def test_syntax_of_the_document():
+    """Each line that a table shows is one, with a digit for each letter. Only the first of a script is in no table."""
+    tables = re.findall(r"^\| Line \| Effect \| Reply \|\n((?:\|.*\n)+)", DOCUMENT.read_text("utf-8"), re.M)
+    shown = [text for row in "".join(tables).splitlines() for text in re.findall("`([^`]+)`", row.split(" | ")[0])]
+    for text in shown:
+        name, *fields = text.split(" ")
+        assert is_parsed(" ".join([name, *(re.sub("[A-Z.]", "0", field) for field in fields)]).encode()), text
+    assert {text.partition(" ")[0] for text in shown} == {*PROGRAM_LINES, *FURTHER_LINES} - {board.MASK}
+
+
 def is_parsed(line):
     try:
         return bool(parse(line, is_first=True))

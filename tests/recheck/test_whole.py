@@ -7,7 +7,7 @@ import shutil
 import subprocess
 
 import pytest
-from harness import run
+from harness import at_least, run
 from test_plants import C_FUNCTIONS, DEVICES, ROOT, SHELL, copy_sources
 
 import expanded
@@ -201,6 +201,34 @@ def test_refused(name, sources, tmp_path):
     changed(sources, root, changes)
     with pytest.raises(rust2coq.Refused, match=re.escape(why).replace("LINE", r"\d+")):
         rerun.translated(root)
+
+
+# What else the preprocessor could be told: to read another file, to pass over lines, to lay structs out in another way,
+# or to take a word for another.
+DIRECTIVES = ["#include <string.h>", "#include <stdint>", '#include "stdint.h"', "#include <sys/stdint.h>", "#if 1",
+              "#ifdef OTHER", "#ifndef OTHER", "#pragma pack(1)", "#define other 1", "#undef uint8_t", "#line 1",
+              "#error no", "# define other 1"]
+
+
+@pytest.mark.parametrize("directive", DIRECTIVES)
+def test_no_other_directive(directive, sources, tmp_path):
+    changed(sources, tmp_path / "root", in_header("#include <stdint.h>\n", f"#include <stdint.h>\n{directive}\n"))
+    with pytest.raises(rust2coq.Refused, match=rf"superio\.h: {re.escape(directive)}$"):
+        rerun.translated(tmp_path / "root")
+
+
+# The numbers of the header, except those that tell a monitor where a device is, and its version.
+NUMBERS = {name: number for name, number in re.findall(
+    r"^#define (SUPERIO_\w+) (\d+)$", (ROOT / HEADERS[0]).read_text("ascii"), re.M)
+    if not re.match("SUPERIO_(VERSION|SERIAL_PORTS)", name)}
+
+
+@pytest.mark.parametrize("name", at_least(6, NUMBERS))
+def test_each_number_of_the_header_is_compared(name, sources, tmp_path):
+    line = f"#define {name} {NUMBERS[name]}\n"
+    changed(sources, tmp_path / "root", in_header(line, line.replace(NUMBERS[name], f"{int(NUMBERS[name]) + 1}")))
+    with pytest.raises(rust2coq.Refused, match=rf"superio\.h: {name} is not |superio\.h: superio_\w+: "):
+        rerun.translated(tmp_path / "root")
 
 
 # What Cargo and rustup read in a folder, for all that is built below it: in each folder from the root to the three crates,

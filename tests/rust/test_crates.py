@@ -50,6 +50,21 @@ def test_erased():
     check([sys.executable, ROOT / "tools" / "erase", "--check"])
 
 
+# A crate whose tests pass with the checks that Cargo leaves out of a release.
+CHECKED = """#[test]
+fn an_overflow_and_an_assertion_are_checked() {
+    let most = std::hint::black_box(u8::MAX);
+    assert!(std::panic::catch_unwind(|| most + 1).is_err() && cfg!(debug_assertions));
+}
+"""
+
+
+def test_checks_of_overflow(tmp_path):
+    """Cargo's settings are those of a test, here and in tools/check."""
+    add_crate(tmp_path / "checked", CHECKED)
+    assert Cargo(tmp_path / "checked").test() == 1
+
+
 @CRATES
 def test_no_warning(crate, tmp_path):
     copied_crate(tmp_path, crate=crate).check("check", RUSTFLAGS="-D warnings")

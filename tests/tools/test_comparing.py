@@ -11,6 +11,7 @@ import sys
 
 import common.seed
 import expanded
+import monitors
 import pytest
 import rerun
 import rust2coq
@@ -18,14 +19,14 @@ import test_consoles
 import test_counts
 import test_files
 import test_header
-from builds import HOST, prebuilt
+from builds import HOST, make_words, prebuilt
 from common.seed import VARIABLE, seed
 from contracts import functions_of
 from documents import BUILT
 from generators import counts
 from generators.libraries import replace_lines
-from harness import ROOT, at_least, check
-from recorded import difference
+from harness import ROOT, at_least, check, run
+from recorded import difference, recordings
 from script_tests import Script
 from seeds import random_source, seeds
 
@@ -154,7 +155,15 @@ def test_a_seed_gives_the_same_in_each_process(monkeypatch):
 
 # Programs that replay calls
 
-CALLS, CONSOLE_CALLS = ["sr 05", "sw 00 41 u", "sq 6869", "sr 00", "cr 3e8 0000"], ["lr 05", "lw 01 01", "la", "li"]
+# Calls of each kind that a program knows. C shows and makes more of them than the others.
+CALLS = ["sr 05", "sw 00 41 u", "sq 6869", "sr 00", "sc", "si", "sp", "sh", "ss", "sl 0c000306036108b000 6162",
+         "cr 3e8 0000", "cw 3e8 0008 00000064", "cs", "cl 1 -2 3 1 0 armed", "kr 04", "kw 04 fe"]
+CONSOLE_CALLS = ["ln", "lr 05", "lw 01 01", "la", "lq 6869", "lc 5", "li", "lt", "lf", "lz", "ls", "lp 01", "lb",
+                 "ll 00"]
+CALLS_OF_C = ["sx", "sf", "sb", "sl 00", "cd 0", "ch", "cb", "cl 00", "lo 5", "lx"]
+NAMES_OF_C = re.findall(r'IS\("(\w+)"\)', (ROOT / "tests/c/replay.c").read_text("utf-8"))
+# What a console in JavaScript does not show, and its replay passes over.
+HIDDEN = {"lo", "lx"}
 
 
 @pytest.fixture(scope="module")
@@ -165,10 +174,18 @@ def replay(tmp_path_factory):
     return [program]
 
 
+def parts_of(calls):
+    """Calls in parts of ten, since a program shows no more that differ."""
+    return (calls[place:place + 10] for place in range(0, len(calls), 10))
+
+
 @pytest.mark.parametrize("program, calls", [
-    pytest.param("replay", CALLS + CONSOLE_CALLS, id="C", marks=pytest.mark.needs("cc")),
-    pytest.param("replay_calls", CALLS, id="JavaScript", marks=pytest.mark.needs("node")),
-    pytest.param("replay_consoles", CONSOLE_CALLS, id="JavaScript's consoles", marks=pytest.mark.needs("node"))])
+    *(pytest.param("replay", calls, id=f"C: {calls[0]}", marks=pytest.mark.needs("cc"))
+      for calls in parts_of(CALLS + CONSOLE_CALLS + CALLS_OF_C)),
+    *(pytest.param("replay_calls", calls, id=f"JavaScript: {calls[0]}", marks=pytest.mark.needs("node"))
+      for calls in parts_of(CALLS)),
+    *(pytest.param("replay_consoles", calls, id=f"JavaScript's consoles: {calls[0]}", marks=pytest.mark.needs("node"))
+      for calls in parts_of(CONSOLE_CALLS))])
 def test_replay(program, calls, request):
     words = (request.getfixturevalue("replay") if program == "replay" else
              ["node", ROOT / f"bindings/js/tests/{program}.mjs"])
@@ -183,6 +200,14 @@ def test_replay(program, calls, request):
     for wrong in zip(*map(altered, rows)):
         status, said = replayed(wrong)
         assert status == 1 and said.endswith(f"\n0 calls did the same, {len(rows)} did not\n"), said
+
+
+def test_calls_of_each_kind_are_replayed():
+    recorded = {row[:2] for recording in recordings().values() for row in recording.splitlines() if " = " in row}
+    assert recorded == {call[:2] for call in CALLS}
+    of_consoles = re.findall(r"^  (l\w)[:(]", (ROOT / "bindings/js/tests/replay_consoles.mjs").read_text("utf-8"), re.M)
+    assert {*of_consoles} - HIDDEN == {call[:2] for call in CONSOLE_CALLS}
+    assert {*NAMES_OF_C} == {call[:2] for call in CALLS + CONSOLE_CALLS + CALLS_OF_C}
 
 
 # In place of functions of the library: some that first read a byte before or behind what a pointer leads to, if TOUCH says
@@ -365,6 +390,27 @@ def test_warnings_of_the_header(line, tmp_path, monkeypatch):
         assert refuses(test_header.test_header, compiler, tmp_path) == is_warned
         assert refuses(test_header.test_mistake, compiler, ["(void)port;", "nothing"], tmp_path) == is_warned
     assert refuses(test_header.test_mistake, compiler, ["(void)port;", "unused-result"], tmp_path)
+
+
+# What each sanitizer finds: a read behind memory, and a sum that is too large.
+FAULTS = ["char *bytes = malloc((size_t)count); return bytes[count] == 1;",
+          "int most = INT_MAX; return most + count == 1;"]
+FAULT = "#include <limits.h>\n#include <stdlib.h>\nint main(int count, char **words) {{\n    (void)words;\n    {}\n}}\n"
+MADE_BY_C = make_words("gcc -xc -std=c99", HOST, "", "")
+SANITIZED = {"tests/c": [word for words in MADE_BY_C if str(words).startswith("CC=") for word in words[3:].split()],
+             "tests/kvm": ["cc", "-xc", *(word for word in monitors.COMPILERS["host"] if "sanitize" in str(word))]}
+
+
+@pytest.mark.needs("cc")
+@pytest.mark.parametrize("fault", FAULTS)
+@pytest.mark.parametrize("folder", SANITIZED)
+def test_sanitizers(folder, fault, tmp_path):
+    """They are on where tests say so: a program with a fault prints more than it should."""
+    (tmp_path / "fault.c").write_text(FAULT.format(fault), "ascii")
+    check([*SANITIZED[folder], "-O1", tmp_path / "fault.c", "-o", tmp_path / "fault"], "")
+    ran = run([tmp_path / "fault"])
+    assert "Sanitizer" in ran.stdout or "runtime error" in ran.stdout
+    assert ran.returncode or folder == "tests/kvm", "tests/c looks at the status"
 
 
 COUNTED = at_least(2, [row for row in test_counts.ROWS if {counts.THEIRS, counts.RUST} <= {*row.numbers}])[0]

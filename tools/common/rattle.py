@@ -14,7 +14,8 @@ from common.commands import ROOT
 
 CRATES = ROOT / "crates"
 PROGRAMS = "superio", "long_run"
-TESTS = CRATES / "superio_tests" / "out" / "superio_tests_tests"
+# The tests that tests/devices/test_refused_memory.py runs again.
+TESTS = {crate: CRATES / crate / "out" / f"{crate}_tests" for crate in ("script_tests", "superio_tests")}
 
 
 class NotBuilt(OSError):
@@ -99,6 +100,6 @@ def hand_over():
     for crate in rtlib.crates_below(str(ROOT)):
         if (library := Path(crate.folder, "out", "rlib")).is_dir():
             (library / "stamp").write_text(crate.stamp(), encoding="utf-8")
-    for program in (*map(path_of, PROGRAMS), TESTS):
+    for program in (*map(path_of, PROGRAMS), *TESTS.values()):
         if program.exists():
             program.touch()

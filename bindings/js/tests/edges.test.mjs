@@ -111,10 +111,27 @@ function declaredOf(name) {
   const [, body] = new RegExp(`^export class ${name} \\{\\n(.*?)\\n\\}`, "ms").exec(DECLARATIONS);
   const typesOf = (takes) => takes.split(", ").filter(Boolean).map((one) => {
     const [, mark, type] = /^\w+(\??): (.*)$/.exec(one);
-    return [...kindsOf(type), ...mark ? ["undefined"] : []].sort();
+    return { type, kinds: [...kindsOf(type), ...mark ? ["undefined"] : []].sort() };
   });
   const members = body.matchAll(/^  (?:static |readonly )?(\w+)(?:\((.*)\))?(?:: (.*))?;$/gm);
   return Array.from(members, ([, member, takes = "", gives]) => ({ member, gives, takes: typesOf(takes) }));
+}
+
+/** The fields of an interface, each with its declared type. */
+const fieldsOf = (name) => Array.from(new RegExp(`^export interface ${name} \\{(.*?)^\\}`, "ms").exec(DECLARATIONS)[1]
+  .matchAll(/(\w+): ([^;]+);/g), ([, field, type]) => [field, type]);
+
+/** Checks that a value is of a declared class, or has the fields of an interface, with their types, and no other. */
+function checkType(value, type, what) {
+  if (Object.hasOwn(superio, type)) {
+    assert.ok(value instanceof superio[type], `${what} is no ${type}`);
+  } else if (objects.has(type)) {
+    const fields = fieldsOf(type);
+    assert.deepEqual(Object.keys(value).sort(), fields.map(([field]) => field).sort(), `${what}: ${type}`);
+    for (const [field, inner] of fields) checkType(value[field], inner, `${what}.${field}`);
+  } else {
+    assert.ok(kindsOf(type).includes(kindOf(value)), `${what}: ${type}`);
+  }
 }
 
 const alarm = (due) => {
@@ -149,12 +166,14 @@ for (const [name, [makers, values]] of Object.entries(MADE)) {
       assert.deepEqual([...new Set(given.map(kindOf))].sort(), kindsOf(gives), `${member}: ${gives}`);
       const fields = /^\{ (.*) \}$/.exec(gives)?.[1].split("; ");
       if (fields) assert.deepEqual(fields, Object.entries(given[0]).map(([field, it]) => `${field}: ${kindOf(it)}`));
+      else if (objects.has(gives)) for (const value of given) checkType(value, gives, `${name}.${member}`);
     }
   });
 
   test(`each parameter of ${name} takes values of the types that are declared, and of no other`, () => {
     for (const { member, takes } of declaredOf(name)) {
-      for (const [place, types] of takes.entries()) {
+      for (const [place, { type, kinds }] of takes.entries()) {
+        if (objects.has(type)) checkType(values[member][place], type, `${member}, parameter ${place + 1}`);
         const samples = { ...SAMPLES, string: name === "Rtc" ? "MR" : "SCR",
           object: member === "fromState" ? values[member][0] : {} };
         const taken = Object.keys(samples).filter((one) => {
@@ -165,7 +184,7 @@ for (const [name, [makers, values]] of Object.entries(MADE)) {
           }
           return true;
         });
-        assert.deepEqual(taken.sort(), types, `${member}, parameter ${place + 1}`);
+        assert.deepEqual(taken.sort(), kinds, `${member}, parameter ${place + 1}`);
       }
     }
   });

@@ -134,8 +134,8 @@ class Session(Prompt):
         self._outside: Optional[Call] = None  # the first call that no script for the program can make
 
     def _now(self) -> int:
-        """The host's time, in seconds since 1970."""
-        return int(self._host_time())
+        """The host's time, in seconds since 1970, or 0 if it is before that."""
+        return max(0, int(self._host_time()))
 
     def carry_out(self, line: bytes) -> None:
         """Carries out a line, which may be blank or a comment. Most lines of a file are those of a script."""

@@ -131,6 +131,16 @@ class Dates(unittest.TestCase):
             self.assertEqual([f"{now & MOST[32]:08x}"], said(session, "cr now DR"))
             self.assertEqual(f"cr {now:016x} 0000", said(session, "trace")[-1])
 
+    def test_a_host_before_1970(self):
+        """Its time is 0 in each command."""
+        for now in (-0.5, -1, -1.5, -MOST[31]):
+            session = session_at(now, "clock write MR 9", "alarm +5", "clock read DR now+1", "cr now DR")
+            self.assertEqual(["cw 0000000000000000 0004 00000009", "cw 0000000000000000 0004 00000005",
+                              "cr 0000000000000001 0000", "cr 0000000000000000 0000"], said(session, "trace"))
+            rows = said(session, "regs")
+            self.assertIn(f"  DR   0x00000000  {DATES[0]}", rows)
+            self.assertIn("  alarm due in 5 s", rows)
+
 
 class Registers(unittest.TestCase):
     def test_values_of_the_clock(self):

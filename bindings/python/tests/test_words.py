@@ -7,6 +7,7 @@ import os
 import re
 import unittest
 from itertools import product
+from pathlib import Path
 from unittest import mock
 
 from support import PACKAGE, ROOT, FolderTest, run
@@ -448,6 +449,14 @@ class Words(FolderTest):
         with mock.patch("os.fsync", lambda file: seen.append((os.fstat(file).st_size, self.path.read_text()))):
             write_text(str(self.path), "new")
         self.assertEqual(([(3, "what was there")], "new"), (seen, self.path.read_text()))
+
+    def test_a_file_is_written_on_the_file_system_of_its_folder(self):
+        """It can only take its name there. That of other files that go again may be another."""
+        names = []
+        with mock.patch("os.replace", lambda *paths: names.append([Path(path) for path in paths])):
+            write_text(str(self.path), "new")
+        [(new, path)] = names
+        self.assertEqual((self.path.resolve(), True), (path, path.parent in new.parents))
 
     def test_an_end_of_input_ends_the_line_of_a_prompt(self):
         for prompt, expected in (("superio> ", "\n"), ("", "")):

@@ -11,9 +11,7 @@ use superio_examples::many_calls::make_by_run;
 use superio_examples::monitor::{MachineEvent, Monitor};
 use superio_examples::queues::OutputQueue;
 use superio_examples::saved_monitor::{move_monitor, restore_monitor, save_monitor};
-use superio_script::{
-    Board, Counts, Line, LineFault, LineRefused, Output, ScriptFault, drain, run_script,
-};
+use superio_script::{Counts, Line, LineRefused, Output, drain};
 use vm_superio::object_laws::saved::{
     serial_read_then_written, serial_written_then_read, state_to_uart_and_back,
     uart_to_state_and_back,
@@ -285,90 +283,6 @@ fn a_run_makes_no_call_or_records_a_refused_restore(rt: HostRuntime) -> Result<(
         None => return Err(Fail::from("no restore")),
     }
     Ok(())
-}
-
-// ---- scripts
-
-/// Whether these lines have these replies.
-fn replies(alloc: Global, board: &mut Board, lines: &[(&[u8], &[u8])]) -> bool {
-    for (line, reply) in lines {
-        match board.line(alloc, line) {
-            Ok(found) if found.as_slice() == *reply => {}
-            _ => return false,
-        }
-    }
-    true
-}
-
-#[test]
-fn a_board_is_made_and_restores_its_port_or_stays(rt: HostRuntime) -> Result<(), Fail> {
-    let alloc = rt.alloc();
-    let mut board = match Board::new(alloc, 0) {
-        Ok(board) => board,
-        Err(fault) => {
-            assert!(rt; fault == ScriptFault::Memory);
-            Board::new(alloc, 0)?
-        }
-    };
-    assert!(rt;
-        replies(
-            alloc,
-            &mut board,
-            &[
-                (b"sw 01 03", b"ok\n"),
-                (b"sq 61", b"01\n"),
-                (b"sw 00 42", b"ok\n"),
-            ]
-        )
-    );
-    if let Err(fault) = board.line(alloc, b"ss") {
-        assert!(rt; fault == LineFault::Memory);
-        assert!(rt;
-            replies(
-                alloc,
-                &mut board,
-                &[
-                    (b"st", b"0000000000000002\n"),
-                    (b"so", b"42\n"),
-                    (b"sc", b"3f\n"),
-                    (b"ss", b"ok\n"),
-                ]
-            )
-        );
-    }
-    assert!(rt;
-        replies(
-            alloc,
-            &mut board,
-            &[
-                (b"st", b"0000000000000004\n"),
-                (b"so", b"42\n"),
-                (b"sr 02", b"c6\n"),
-                (b"sr 00", b"61\n"),
-            ]
-        )
-    );
-    Ok(())
-}
-
-/// Runs a script over an output, which takes no memory.
-fn run_over(alloc: Global, script: &[u8]) -> (Result<(), ScriptFault>, Output) {
-    let mut reader = script;
-    let mut writer = Output::new();
-    let end = run_script(alloc, &mut reader, &mut writer);
-    (end, writer)
-}
-
-#[test]
-fn a_script_prints_the_replies_before_its_restore_or_nothing(rt: HostRuntime) {
-    let script = b"sw 01 01\nsq 616263\nss\nst\nsr 02\nsr 00\nsc\n";
-    let (mut end, mut printed) = run_over(rt.alloc(), script);
-    if end == Err(ScriptFault::Memory) {
-        assert!(rt; printed.bytes().is_empty() || printed.bytes() == b"ok\n03\n".as_slice());
-        (end, printed) = run_over(rt.alloc(), script);
-    }
-    assert!(rt; end == Ok(()));
-    assert!(rt; printed.bytes() == b"ok\n03\nok\n0000000000000002\nc4\n61\n3e\n".as_slice());
 }
 
 // ---- programs to copy

@@ -44,6 +44,34 @@ fn of_port(error: BusError<LineRefused, LineRefused>) -> Error<LineRefused> {
     }
 }
 
+/// A bus over objects of a log.
+type TestBus<'a> = Bus<Object<'a>, Object<'a>, Object<'a>, Object<'a>>;
+
+/// Sends a byte in one of three ways: by a port, by its bus, and with IER, which enables both conditions.
+fn send_by(bus: &mut TestBus<'_>, byte: u8, way: u8) -> Sent {
+    match way {
+        0 => bus.serial.write(0, byte),
+        1 => bus.write(COM1, byte).map_err(of_port),
+        _ => bus.port_out(COM1, &[byte, 0x03]).map_err(of_port),
+    }
+}
+
+/// Whether a byte is sent right in this way over a writer that does this. The guest then reads IIR.
+fn is_sent_right(
+    alloc: Global,
+    log: &Log,
+    bus: &mut TestBus<'_>,
+    writing: Writing,
+    byte: u8,
+    way: u8,
+) -> Result<bool, Fail> {
+    log.start(writing);
+    let sent = send_by(bus, byte, way);
+    let is_right = is_right(alloc, log, writing, &sent)?;
+    bus.serial.read(2);
+    Ok(is_right)
+}
+
 #[test]
 fn a_fault_of_the_writer_is_returned_as_it_is(rt: HostRuntime) -> Result<(), Fail> {
     let log = Log::new();
@@ -57,22 +85,31 @@ fn a_fault_of_the_writer_is_returned_as_it_is(rt: HostRuntime) -> Result<(), Fai
         let [byte, ..] = drawn(u64::from(number.unsigned_abs())).to_le_bytes();
         for writing in writings(number) {
             for way in 0..3u8 {
-                log.start(writing);
-                let sent = match way {
-                    0 => bus.serial.write(0, byte),
-                    1 => bus.write(COM1, byte).map_err(of_port),
-                    // IER enables both conditions.
-                    _ => bus.port_out(COM1, &[byte, 0x03]).map_err(of_port),
-                };
                 assert!(rt;
-                    is_right(rt.alloc(), &log, writing, &sent)?,
+                    is_sent_right(rt.alloc(), &log, &mut bus, writing, byte, way)?,
                     "{way} {number}"
                 );
-                bus.serial.read(2);
             }
         }
     }
     Ok(())
+}
+
+/// Whether a data write over a writer that does this makes these calls, and fails if it has to, or if the trigger
+/// refuses.
+fn is_in_order(
+    serial: &mut TestSerial<'_>,
+    log: &Log,
+    row: &(Writing, &[u8], bool),
+    is_refused: bool,
+) -> bool {
+    let (writing, letters, fails) = *row;
+    serial.read(2);
+    log.start(writing);
+    log.order.set(0);
+    let next = log.triggers.get().wrapping_add(1);
+    log.refused.set(if is_refused { next } else { 0 });
+    serial.write(0, b'x').is_err() == (is_refused || fails) && log.order.get() == in_order(letters)
 }
 
 #[test]
@@ -90,16 +127,9 @@ fn a_data_write_turns_to_the_writer_then_events_then_trigger(rt: HostRuntime) ->
         (no_write, b"WlT", true),
         (no_flush, b"WFlT", true),
     ];
-    for (writing, letters, fails) in rows {
-        for refused in [false, true] {
-            serial.read(2);
-            log.start(writing);
-            log.order.set(0);
-            let next = log.triggers.get().wrapping_add(1);
-            log.refused.set(if refused { next } else { 0 });
-            assert!(rt; serial.write(0, b'x').is_err() == (refused || fails));
-            assert!(rt; log.order.get() == in_order(letters));
-        }
+    for row in rows.iter() {
+        assert!(rt; is_in_order(&mut serial, &log, row, false));
+        assert!(rt; is_in_order(&mut serial, &log, row, true));
     }
     log.order.set(0);
     log.refused.set(0);
@@ -132,27 +162,35 @@ fn data_write_calls(way: u8) -> u64 {
     }
 }
 
+/// Whether a data write over such a writer returns its fault, and calls the objects in their order, and THRE is due.
+fn is_sent_over(serial: &mut TestSerial<'_>, log: &Log, way: u8) -> bool {
+    log.writing.set(writer(way));
+    log.order.set(0);
+    let sent = serial.write(0, b'A');
+    sent.is_ok() == (way == 0)
+        && matches!(sent, Err(Error::IOError(_))) == (way != 0)
+        && log.order.get() == data_write_calls(way)
+        && serial.read(2) == 0xC2
+}
+
+/// Whether three data writes over these writers change no read and no trigger call.
+fn is_unchanged(alloc: Global, ways: [u8; 3]) -> Result<bool, Fail> {
+    let log = Log::new();
+    let mut serial = port(alloc, &log)?;
+    let is_ready = serial.write(1, 0x02).is_ok() && serial.read(2) == 0xC2;
+    let mut are_sent = true;
+    let mut flushes = 0u64;
+    for way in ways {
+        are_sent = is_sent_over(&mut serial, &log, way) && are_sent;
+        flushes = flushes.saturating_add(u64::from(way != 1));
+    }
+    Ok(is_ready && are_sent && log.calls() == [4, 3, 3, flushes])
+}
+
 #[test]
 fn a_writer_that_fails_changes_no_read_and_no_trigger_call(rt: HostRuntime) -> Result<(), Fail> {
     for ways in all_threes() {
-        let log = Log::new();
-        let mut serial = port(rt.alloc(), &log)?;
-        assert!(rt; serial.write(1, 0x02).is_ok() && serial.read(2) == 0xC2);
-        let mut flushes = 0u64;
-        for way in ways {
-            log.writing.set(writer(way));
-            log.order.set(0);
-            let sent = serial.write(0, b'A');
-            assert!(rt; sent.is_ok() == (way == 0), "{ways:?}");
-            assert!(rt;
-                matches!(sent, Err(Error::IOError(_))) == (way != 0),
-                "{ways:?}"
-            );
-            assert!(rt; log.order.get() == data_write_calls(way), "{ways:?}");
-            assert!(rt; serial.read(2) == 0xC2, "{ways:?}");
-            flushes = flushes.saturating_add(u64::from(way != 1));
-        }
-        assert!(rt; log.calls() == [4, 3, 3, flushes], "{ways:?}");
+        assert!(rt; is_unchanged(rt.alloc(), ways)?, "{ways:?}");
     }
     Ok(())
 }
@@ -258,21 +296,36 @@ fn send(alloc: Global, out: Whole<'_>, way: u8) -> Result<bool, Fail> {
     })
 }
 
+/// Whether a byte that is sent in this way makes these calls of a writer that does this, and whether it is sent.
+fn is_sent_by(
+    alloc: Global,
+    way: u8,
+    writing: Writing,
+    letters: &[u8],
+    sends: bool,
+) -> Result<bool, Fail> {
+    let log = Log::new();
+    log.start(writing);
+    Ok(send(alloc, Whole(&log), way)? == sends && log.order.get() == in_order(letters))
+}
+
 /// The writer's `write` is not called.
 #[test]
 fn what_is_sent_is_one_call_of_the_writers_own_write_all(rt: HostRuntime) -> Result<(), Fail> {
+    // The calls if the writer takes the byte and if it fails, and whether it is then sent all the same.
+    static WAYS: [(u8, &[u8], &[u8], bool); 3] = [
+        (0, b"AFo", b"Al", false),
+        (1, b"AFo", b"Al", true),
+        (2, b"A", b"A", false),
+    ];
+    let takes = Writing::takes();
     let fails = Writing::failing(io::Error::from(io::ErrorKind::Other));
-    let ways: [(&[u8], &[u8]); 3] = [(b"AFo", b"Al"), (b"AFo", b"Al"), (b"A", b"A")];
-    for (way, (taken, failed)) in (0u8..).zip(ways) {
-        for (writing, letters, sends) in [
-            (Writing::takes(), taken, true),
-            (fails, failed, way == 1),
-        ] {
-            let log = Log::new();
-            log.start(writing);
-            assert!(rt; send(rt.alloc(), Whole(&log), way)? == sends);
-            assert!(rt; log.order.get() == in_order(letters), "{way}");
-        }
+    for (way, taken, failed, sends) in WAYS.iter() {
+        assert!(rt; is_sent_by(rt.alloc(), *way, takes, taken, true)?, "{way}");
+        assert!(rt;
+            is_sent_by(rt.alloc(), *way, fails, failed, *sends)?,
+            "{way}"
+        );
     }
     Ok(())
 }
@@ -295,12 +348,27 @@ fn an_event_is_one_write_and_returns_its_fault(rt: HostRuntime) -> Result<(), Fa
     Ok(())
 }
 
+/// Whether an output that is drained into a writer that does this makes one `write`, returns what that returns, and
+/// keeps these bytes.
+fn is_drained(alloc: Global, writing: Writing, left: &[u8]) -> Result<bool, Fail> {
+    let mut output = OutputQueue::restored(alloc, b"waiting", 7, 0)?;
+    let log = Log::new();
+    log.start(writing);
+    let drained = output.drain_into(&mut Object(&log));
+    let calls = log.calls();
+    log.start(writing);
+    let written = Object(&log).write(b"waiting");
+    let texts = [
+        format!(in alloc; "{drained:?}")?,
+        format!(in alloc; "{written:?}")?,
+    ];
+    Ok(calls == [0, 0, 1, 0] && texts[0] == texts[1] && output.waiting(alloc)?.as_slice() == left)
+}
+
 #[test]
 fn a_drained_output_is_one_write_and_returns_its_fault(rt: HostRuntime) -> Result<(), Fail> {
-    let alloc = rt.alloc();
     for number in 0..FAULTS {
-        let fault = fault_of(number);
-        let fails = Writing::failing(fault);
+        let fails = Writing::failing(fault_of(number));
         let takes_none = Writing {
             then: Then::TakesNone,
             ..fails
@@ -312,19 +380,7 @@ fn a_drained_output_is_one_write_and_returns_its_fault(rt: HostRuntime) -> Resul
             (takes_some, b"ting"),
         ];
         for (writing, left) in rows {
-            let mut output = OutputQueue::restored(alloc, b"waiting", 7, 0)?;
-            let log = Log::new();
-            log.start(writing);
-            let drained = output.drain_into(&mut Object(&log));
-            assert!(rt; log.calls() == [0, 0, 1, 0], "{fault:?}");
-            log.start(writing);
-            let written = Object(&log).write(b"waiting");
-            let texts = [
-                format!(in alloc; "{drained:?}")?,
-                format!(in alloc; "{written:?}")?,
-            ];
-            assert!(rt; texts[0] == texts[1], "{fault:?}");
-            assert!(rt; output.waiting(alloc)?.as_slice() == left, "{fault:?}");
+            assert!(rt; is_drained(rt.alloc(), writing, left)?, "{number}");
         }
     }
     Ok(())
