@@ -76,8 +76,8 @@ CHANGES = {
                         "a bound of EV"),
     "a smaller maximum in C": ([(f"bindings/c/{folder}superio.h", "SUPERIO_SERIAL_SAVED_MAX 81", "SUPERIO_SERIAL_SAVED_MAX 17") for folder in ("", "from-source/")],
                                "SUPERIO_SERIAL_SAVED_MAX is not SAVED_MAX"),
-    "another number of a fault in C": ([(f"bindings/c/{folder}superio.h", "OTHER_DEVICE = 3", "OTHER_DEVICE = 4") for folder in ("", "from-source/")],
-                                       "superio.h: otherdevice: 4, and in Rust 3"),
+    "another number of a fault in C": ([(f"bindings/c/{folder}superio.h", "TOO_SHORT = 1", "TOO_SHORT = 9") for folder in ("", "from-source/")],
+                                       "superio.h: tooshort: 9, and in Rust 1"),
     "settings of Cargo": ([("rust/superio/.cargo/config.toml", None, "")], "rust/superio/.cargo"),
 }
 
@@ -173,7 +173,7 @@ CHANGES |= {
     "a function that the header lacks": (
         in_header("bool superio_serial_is_coherent(const superio_serial *port)\n"
                   "    SUPERIO_MUST_USE SUPERIO_NONNULL SUPERIO_ACCESS(read_only, 1);\n", ""), "superio.h: superio_serial_is_coherent: None"),
-    "an error that the header lacks": (in_header("    SUPERIO_LOAD_INVALID_FLAGS = 8 ", "    "), "superio.h: invalidflags: None"),
+    "an error that the header lacks": (in_header("    SUPERIO_LOAD_TOO_SHORT = 1, ", "    "), "superio.h: tooshort: None"),
     "a field that the header lacks": (in_header("    uint8_t scratch; ", "    "), "superio.h: superio_serial: "),
 }
 
