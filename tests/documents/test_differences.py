@@ -5,6 +5,7 @@ from collections import defaultdict
 from itertools import zip_longest
 
 import pytest
+from common.facts import CLOCK
 from contracts import code_of, owner_of
 from harness import ROOT, at_least
 
@@ -46,6 +47,12 @@ COMMON = [[name for name in order if all(name in other for other in ORDERS)] for
 @pytest.mark.parametrize("owner, part", at_least(50, NAMES))
 def test_name_of_vm_superio(owner, part):
     assert part in HERE[owner]
+
+
+def test_fields_of_the_clock():
+    """The page says why a field is new, unless vm-superio has it."""
+    known = [field["name"] for field in CLOCK["fields"] if "why" not in field]
+    assert sorted(known) == [part for owner, part in NAMES if owner == "RtcState"]
 
 
 @pytest.mark.parametrize("rattle, rust", at_least(14, zip_longest(*COMMON)))

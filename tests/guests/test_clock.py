@@ -12,6 +12,7 @@ import cbmc
 import linux_clock
 import proofs
 import pytest
+from common.facts import CLOCK as FACTS
 from common.seed import seed
 from harness import ROOT, check, run
 from sources import HERE
@@ -71,12 +72,13 @@ CLOCK = (HERE / "monitor/clock_device.c").read_text(encoding="utf-8")
 
 
 def compared(folder, text):
-    """What a comparison says of a clock whose file has this text."""
+    """What a comparison says of a clock whose file has this text, by the registers that it has."""
     (folder / "clock_device.c").write_text(text, encoding="utf-8")
     (folder / "compare_clock.c").write_bytes((HERE / "monitor/compare_clock.c").read_bytes())
     built = folder / "compare_clock"
     check(["gcc", "-std=gnu11", "-O1", f"-I{ROOT}/bindings/c", folder / "compare_clock.c", LIBRARY, "-o", built])
-    return run([built, 2000000, seed()]).stdout
+    left_out = [register["offset"] for register in FACTS["registers"] if f"case {register['name']}:" not in text]
+    return run([built, 2000000, seed(), *left_out]).stdout
 
 
 def test_the_clock_of_the_proof(tmp_path):

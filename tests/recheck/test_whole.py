@@ -57,7 +57,7 @@ CHANGES = {
     "a layout of Rust": ([(DEVICES + "rtc_pl031.rs", "#[repr(C)]\n", "")], "Pl031 has not the layout of C"),
     "fields in another order": ([(C_FUNCTIONS, "    pub value: u32,\n    pub invalid_read: bool,", "    pub invalid_read: bool,\n    pub value: u32,")],
                                 "superio.h: superio_rtc_read_effects"),
-    "another binary interface": ([(C_FUNCTIONS, "ABI: u32 = 5", "ABI: u32 = 6")], "SUPERIO_ABI is not ABI"),
+    "another binary interface": ([(C_FUNCTIONS, "ABI: u32 = ", "ABI: u32 = 1")], "SUPERIO_ABI is not ABI"),
     "parameters in another order": ([(C_FUNCTIONS, "superio_i8042_write(offset: u8, value: u8)", "superio_i8042_write(value: u8, offset: u8)")],
                                     "superio.h: superio_i8042_write"),
     "another crate superio": ([("rust/vm-superio/Cargo.toml", '"../superio"', '"../other"')], "rust/vm-superio/Cargo.toml: dependencies: superio: path: ../other"),

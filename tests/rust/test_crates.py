@@ -90,7 +90,7 @@ def test_as_released(crate, tmp_path):
 
 
 @pytest.mark.needs("debian-rust")
-@pytest.mark.parametrize("crate, of_documentation", [(DEVICES, 5), (DROP_IN, 9)], ids=["superio", "rust"])
+@pytest.mark.parametrize("crate, of_documentation", [(DEVICES, 5), (DROP_IN, 9)], ids=["superio", "vm-superio"])
 def test_with_the_oldest_rust(crate, of_documentation, tmp_path):
     assert copied_crate(tmp_path, oldest(), crate).test() >= number_of_tests(crate) + of_documentation
 

@@ -10,19 +10,23 @@ import tomllib
 from pathlib import PurePath
 
 import pytest
+from common.cargo import Cargo
 from documents import CODE, Document, copy_repository
 from harness import ROOT, at_least, check
 
-CHANGES = at_least(4, sorted((ROOT / "tests/tools/changes").glob("*.toml")))
+CHANGES = at_least(5, sorted((ROOT / "tests/tools/changes").glob("*.toml")))
 GUIDE = Document("CONTRIBUTING.md").text
 CRATES = re.findall(r"(\w+) is `(crates/\w+)`", GUIDE)
 STEPS = "facts", "rust", "lines", "interface"
 BUILD = ["cargo", "rustc", "--crate-type", "cdylib", "--release", "--quiet", "--offline", "--target-dir", "out",
          "--manifest-path", "bindings/c/from-source/Cargo.toml"]
 # Of the boards only the scripts that are kept: the random ones take a minute.
-TESTS = ["tests/documents/test_registers.py", "tests/documents/test_saved_states.py",
-         "tests/documents/test_tables_of_devices.py", "tests/tools/test_made_facts.py", "tests/python/test_boards.py",
-         "-k", "documents or made_facts or test_lines or test_made or test_syntax or kept_script"]
+TESTS = ["tests/documents/test_differences.py", "tests/documents/test_registers.py",
+         "tests/documents/test_saved_states.py", "tests/documents/test_tables_of_devices.py",
+         "tests/tools/test_made_facts.py", "tests/python/test_boards.py", "tests/python/test_traces.py",
+         "bindings/python/tests/test_every_call.py", "-k",
+         "documents or made_facts or test_lines or test_made or test_syntax or kept_script or recording and console or "
+         "state_goes"]
 PATHS = "tools:tests/common:tests/devices:bindings/python"
 SCRIPTS = ("import json; from script_tests import kept_scripts, made_scripts; "
            "print(json.dumps([*kept_scripts(), *made_scripts('changes', 200)]))")
@@ -39,13 +43,21 @@ def is_named(file, text):
     return False
 
 
+def changed(text, edit):
+    """A text with a number that is raised by one, or with the new text in place of the old one. There is one place."""
+    if "raised" in edit:
+        form, new = rf"(?<=^{edit['raised']} = )\d+$", lambda number: f"{int(number[0]) + 1}"
+    else:
+        form, new = re.escape(edit["old"]), lambda _: edit["new"]
+    made, count = re.subn(form, new, text, flags=re.M)
+    assert count == 1, edit
+    return made
+
+
 def make(edits, top):
-    """Makes the edits, each in the one place of its file that has the old text."""
     for edit in edits:
         path = top / edit["file"]
-        text = path.read_text("utf-8")
-        assert text.count(edit["old"]) == 1, edit
-        path.write_text(text.replace(edit["old"], edit["new"]), "utf-8")
+        path.write_text(changed(path.read_text("utf-8"), edit), "utf-8")
 
 
 @pytest.mark.needs("cargo", "cc", "node")
@@ -60,6 +72,8 @@ def test_change(path, tmp_path):
     make(change["edits"], tmp_path)
     check([tmp_path / "tools/generate", *STEPS], cwd=tmp_path)
     check(BUILD, cwd=tmp_path)
+    if "rust/vm-superio/src/rtc_pl031.rs" in files:
+        Cargo(tmp_path / "rust/vm-superio").check("check")
     library = {**os.environ, "SUPERIO_LIBRARY": str(tmp_path / "out/release/libsuperio_c.so")}
     check([sys.executable, "-m", "pytest", "-q", "--without", "kit", *TESTS], cwd=tmp_path, env=library)
     if any("superio_script" in file for file in files):   # the page's board has the devices as they were

@@ -3,7 +3,7 @@
 import re
 
 import pytest
-from common.facts import ERRORS
+from common.facts import CLOCK, ERRORS, word_of
 from generators import facts, facts_of_pages, facts_of_tests
 from harness import ROOT, at_least
 
@@ -48,7 +48,7 @@ def test_rows(name):
     assert facts.replaced(text, form, facts.rows(template, [*ERRORS, FLOOD])) == text.replace(rows, rows + ADDED[name])
 
 
-@pytest.mark.parametrize("name, form, value", at_least(23, facts.PLACES))
+@pytest.mark.parametrize("name, form, value", at_least(25, facts.PLACES))
 def test_place(name, form, value):
     """Another value takes the place of this one, and nothing else changes."""
     text = text_of(name)
@@ -73,6 +73,37 @@ def test_expressions():
     for text in "<clock nothing=1>", "<port mr=1>":
         with pytest.raises(ValueError):
             facts_of_tests.expanded(text)
+
+
+def test_invalid_states():
+    """A row stands for each invalid state of its device. Of each error there is one, and of those of the header one for
+    each device."""
+    made = [facts_of_tests.made_of("one.in", f"x\nsl <invalid {device}> = <reply>\ny\n").splitlines()
+            for device in facts_of_tests.CONTENTS]
+    for head, first, *rows, last in made:
+        assert (head, first, last) == ("# Made by tools/generate from one.in and interface.toml.", "x", "y")
+        assert rows[0] == "sl - = too short" and all(re.fullmatch("sl ([0-9a-f]+|-) = [a-z0-9 ]+", row) for row in rows)
+    replies = [{row.partition(" = ")[2] for row in rows} for rows in made]
+    assert "unknown version fe" in replies[0] and {word_of(error) for error in ERRORS[:3]} <= set.intersection(*replies)
+    assert all(any(found.startswith(word_of(error)) for found in set.union(*replies)) for error in ERRORS)
+    in_script = facts_of_tests.made_of("two.in", "cl <invalid clock>  <reply>\n")
+    assert "\ncl   too short\ncl 53494f53020119  too short\n" in in_script
+
+
+def test_differences_of_the_clock(monkeypatch):
+    """A register that is only read, one that is only written, and a field have rows beside those that are there."""
+    before = facts_of_pages.differences_of_the_clock()
+    registers = [{"name": "FR", "offset": 0x20, "read": "1", "why": "One."},
+                 {"name": "TR", "offset": 0x24, "write": "sets [the trim](#the-trim)", "vm_superio": "RTCTR is read.",
+                  "why": "Two."}]
+    fields = [{"name": "tr", "about": "RTCTR, the trim", "why": "Three."}]
+    monkeypatch.setitem(CLOCK, "registers", [*CLOCK["registers"], *registers])
+    monkeypatch.setitem(CLOCK, "fields", [*CLOCK["fields"], *fields])
+    rows = [row for row in facts_of_pages.differences_of_the_clock() if row not in before]
+    assert rows == [
+        "| An access at 0x020 is invalid. | A read of RTCFR shows 1. A write is invalid. | One. |",
+        "| RTCTR is read. | A read of RTCTR is invalid. A write of v sets [the trim](DEVICES.md#the-trim). | Two. |",
+        "| There is no `tr`. | `tr`: RTCTR, the trim. | Three. |"]
 
 
 def test_parts():

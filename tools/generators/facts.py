@@ -15,10 +15,10 @@ from common.facts import (ABI, CLOCK, CLOCK_SAVED, CONSOLE_SAVED, ENCODING, ERRO
                           VERSION, told, word_of)
 from generators.facts_of_pages import PARTS
 from generators.facts_of_python import module
-from generators.facts_of_tests import TEMPLATES, made_of
+from generators.facts_of_tests import REFUSED, TEMPLATES, made_of, refused
 
 MODULE = "bindings/python/superio/_facts.py"
-PAGES = ["docs/DEVICES.md", "docs/SAVED-STATES.md"]
+PAGES = ["docs/DEVICES.md", "docs/DIFFERENCES.md", "docs/SAVED-STATES.md"]
 MARK = re.compile(r"(?<=^<!-- Made by tools/generate from interface\.toml: )(.+)( -->\n\n)(?:.+\n)+", re.M)
 
 PRINTED = '            SavedStateError::{case}[(_)] => f.write_str("{text}"),'
@@ -41,6 +41,7 @@ ROWS = {
 FIELDS = {"case": r"\w+", "word": "[a-z ]+", "text": '[^"]+', "number": r"\d+"}
 
 C_HEADER, C_LIBRARY = "bindings/c/superio.h", "crates/superio_c/src/lib.rt"
+CORE_SAVED = "crates/superio_core/src/saved.rt"
 SOURCE = "bindings/c/from-source"
 # The files that have a fact in one place, each with the form of that place. Each form is there once.
 PLACES = [
@@ -67,6 +68,8 @@ PLACES = [
     (C_HEADER, r"^#define SUPERIO_CONSOLE_SAVED_MAX (\d+)$", CONSOLE_SAVED[1]),
     (C_HEADER, r"^#define SUPERIO_RTC_SAVED_SIZE (\d+)$", CLOCK_SAVED),
     # The version of the encoding.
+    (CORE_SAVED, r"^const VERSION: u8 = (\d+);$", ENCODING["version"]),
+    (CORE_SAVED, r"^    /// The encoding has this version, which is not (\d+)\.$", ENCODING["version"]),
     ("rust/superio/tests/all/console_calls.rs", r"^const VERSION: u8 = (\d+);$", ENCODING["version"]),
     # The names of the errors.
     ("crates/superio_c/specs/Saved.antt", r"\.SavedStateError\.TheVariants\.\{(.+)\}$",
@@ -139,7 +142,7 @@ def with_parts(text):
 
 def made(read):
     """Each file that has facts, as it is to be. `read` gives the text of a file by its name."""
-    files = {MODULE: module(), **{f"{name.removesuffix('.in')}.txt": made_of(name, read(name)) for name in TEMPLATES}}
+    files = {MODULE: module(), REFUSED: refused(), **{f"{name.removesuffix('.in')}.txt": made_of(name, read(name)) for name in TEMPLATES}}
     for name in PAGES:
         files[name] = with_parts(read(name))
     for name, form, text in [*PLACES, *((name, rows_of(template), rows(template)) for name, template in ROWS.items()),

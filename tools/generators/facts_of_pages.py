@@ -1,6 +1,6 @@
 # SPDX-License-Identifier: Apache-2.0 OR BSD-3-Clause
-"""What docs/DEVICES.md and docs/SAVED-STATES.md have of interface.toml: their parts by the words of their marks, as
-lines."""
+"""What docs/DEVICES.md, docs/DIFFERENCES.md and docs/SAVED-STATES.md have of interface.toml: their parts by the words
+of their marks, as lines."""
 from common.facts import (BYTES, CLOCK, CLOCK_CONTENTS, CLOCK_SAVED, CONSOLE, CONSOLE_PREFIX, CONSOLE_SAVED, ENCODING,
                           ERRORS, FIFO_SIZE, HEADER_SIZE, IDENTIFICATION, KINDS, MAGIC, OUTPUT_SIZE, PORT_FIELDS,
                           PORT_REGISTERS, PORT_SAVED, SERIAL, told, told_of_port, word_of)
@@ -62,6 +62,25 @@ def identification():
     last = first + 4 * count
     return [f"The identification bytes are {hexes(IDENTIFICATION)}, each at four offsets: 0x{first:03X} to "
             f"0x{first + 3:03X} show the first and 0x{last - 4:03X} to 0x{last - 1:03X} the last."]
+
+
+# ---- docs/DIFFERENCES.md
+
+def accesses_of(register):
+    """What the accesses of a register of the clock do, in sentences."""
+    name = f"RTC{register['name']}"
+    read = f"shows {register['read']}" if "read" in register else "is invalid"
+    write = f"of v {register['write']}" if "write" in register else "is invalid"
+    return f"A read of {name} {read}. A write {write}.".replace("](#", "](DEVICES.md#")
+
+
+def differences_of_the_clock():
+    """The registers that differ from vm-superio's, and the fields that it does not have."""
+    registers = [[register.get("vm_superio", f"An access at 0x{register['offset']:03X} is invalid."),
+                  accesses_of(register), register["why"]] for register in CLOCK["registers"] if "why" in register]
+    fields = [[f"There is no `{field['name']}`.", f"`{field['name']}`: {field['about']}.", field["why"]]
+              for field in CLOCK["fields"] if "why" in field]
+    return table(["vm-superio 0.8.2", "Here", "Why"], registers + fields)
 
 
 # ---- docs/SAVED-STATES.md
@@ -156,6 +175,7 @@ PARTS = {
     "bits": port_bits,
     "registers of the clock": clock_registers,
     "identification": identification,
+    "differences of the clock": differences_of_the_clock,
     "header": header,
     "size of a port": lambda: sizes(*PORT_SAVED, " plus the number of held bytes"),
     "port": port_contents,

@@ -1,6 +1,6 @@
 # SPDX-License-Identifier: Apache-2.0 OR BSD-3-Clause
 """The saved states in the data of tests. A file NAME.in has them as expressions, and NAME.txt, which is made of it, as
-bytes, in hexadecimal digits. tests/page/features.txt has expressions too.
+bytes, in hexadecimal digits. tests/page/features.txt has expressions too. refused.rs, for Rust, has invalid ones alone.
 
 An expression stands between < and >, and may have others in it. It begins with the device: `port`, `clock` or
 `console`. These words may follow, each number in hexadecimal digits:
@@ -11,14 +11,23 @@ An expression stands between < and >, and may have others in it. It begins with 
 - less=NUMBER, if so many bytes are missing at the end of what follows the header, and the length says so;
 - magic=BYTES, kind=NUMBER, version=NUMBER and length=NUMBER, for another header. version=+1 is the next version;
 - cut=NUMBER, if so many bytes are missing at the end, and first=NUMBER, if only so many are there.
+
+A row with <invalid DEVICE> and a <reply> stands for a row of each such device that interface.toml has below its errors.
 """
 import re
 
-from common.facts import BYTES, CLOCK, ENCODING, KINDS, MAGIC, PORT_FIELDS
+from common.facts import BYTES, CLOCK, ENCODING, ERRORS, KINDS, MAGIC, PORT_FIELDS, word_of
 
 TEMPLATES = ["tests/c/console.in", "tests/c/shared.in", "tests/data/further/saved_states.in"]
 EXPRESSION = re.compile(r"<(port|clock|console)((?: [^\s<>]+)*)>")
+INVALID = re.compile("^(.*)<invalid (port|clock|console)>(.*)<reply>$", re.M)
 MADE = "# Made by tools/generate from {} and interface.toml.\n"
+REFUSED = "rust/superio/tests/all/refused.rs"
+REFUSED_HEAD = """\
+// SPDX-License-""" """Identifier: Apache-2.0 OR BSD-3-Clause
+// Made by tools/generate from interface.toml.
+//! Bytes that are no saved device, in hexadecimal digits, each with the case of its error.
+"""
 
 
 def port_contents(words):
@@ -67,6 +76,28 @@ def expanded(text):
     return text
 
 
+def invalid(device):
+    """Each invalid state of a device: its error, its digits, and perhaps what the error holds."""
+    return [(error, *expanded(state).split(" ")) for error in ERRORS for state in error["fails"].get(device, [])]
+
+
+def invalid_rows(found):
+    """A row for each invalid state of a device. In a recorded call `-` stands for no bytes."""
+    call, device, gap = found.groups()
+    none = "-" if gap == " = " else ""
+    return "\n".join(f"{call}{digits or none}{gap}{' '.join([word_of(error), *held])}"
+                     for error, digits, *held in invalid(device))
+
+
+def refused():
+    """The text of refused.rs: the invalid states for the tests of rust/superio."""
+    tables = []
+    for device in CONTENTS:
+        rows = "".join(f'    ("{error["case"]}", "{digits}"),\n' for error, digits, *_ in invalid(device))
+        tables.append(f"\n#[rustfmt::skip]\npub const {device.upper()}S: &[(&str, &str)] = &[\n{rows}];\n")
+    return REFUSED_HEAD + "".join(tables)
+
+
 def made_of(template, text):
     """What is made of a template's text."""
-    return MADE.format(template.rpartition("/")[2]) + expanded(text)
+    return MADE.format(template.rpartition("/")[2]) + expanded(INVALID.sub(invalid_rows, text))

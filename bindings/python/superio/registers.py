@@ -196,9 +196,10 @@ class MovableState(State):
 
         Raises `AlarmIsSetError` if a clock has an alarm set. `dataclasses.replace(state, armed=False)` gives it up.
         """
-        if getattr(self, "armed", False):
+        moved = self._moved()
+        if any(getattr(self, one.name) != one.default for one in fields(self) if one.name not in moved):
             raise AlarmIsSetError("an alarm is set, and the five fields of vm-superio's RtcState cannot hold it")
-        values = {name: getattr(self, name) for name in self._moved()}
+        values = {name: getattr(self, name) for name in moved}
         return {name: list(value) if isinstance(value, bytes) else value for name, value in values.items()}
 
     @classmethod

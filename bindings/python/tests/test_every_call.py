@@ -210,11 +210,12 @@ class EveryState(unittest.TestCase):
         for kind, state in self.drawn("moved"):
             if kind is Console:  # which vm-superio has not
                 continue
-            if getattr(state, "armed", False):
+            new = type(state)()
+            known = dataclasses.replace(new, **{name: getattr(state, name) for name in new.to_vm_superio()})
+            if known != state:
                 self.assertRaises(AlarmIsSetError, state.to_vm_superio)
-                state = dataclasses.replace(state, armed=False)
-            named = state.to_vm_superio()
-            self.assertEqual(state, type(state).from_vm_superio(json.loads(json.dumps(named))))
+            named = known.to_vm_superio()
+            self.assertEqual(known, type(state).from_vm_superio(json.loads(json.dumps(named))))
             for name in named:
                 less = {other: value for other, value in named.items() if other != name}
                 self.assertRaises(ValueError, type(state).from_vm_superio, less)

@@ -1,7 +1,8 @@
 /* SPDX-License-Identifier: Apache-2.0 OR BSD-3-Clause */
 /*
  * The clock of superio.h in C, for a verifier of C. By hand, from the Rust code of
- * rust/superio/src/devices/rtc_pl031.rs. compare_clock.c compares both by random calls.
+ * rust/superio/src/devices/rtc_pl031.rs. compare_clock.c compares both by random calls. A register that the data sheet
+ * does not have, so that no driver knows it, may be left out here.
  */
 #include "superio.h"
 

@@ -327,8 +327,8 @@ fn refused() -> Vec<(Vec<u8>, SavedStateError)> {
     list.extend([0, 32, 34].map(|length| (with(6, length), WrongLength)));
     list.push((with(7, 1), WrongLength));
     list.push(([EXAMPLE, &[0]].concat(), WrongLength));
-    // Too little for the flags and the counts, or for the output.
-    list.extend((0..11).map(|count| (framed(&EXAMPLE[FLAGS..FLAGS + count]), WrongLength)));
+    // Too little for the flags and the counts, or for the output. A header alone is in refused.rs.
+    list.extend((1..11).map(|count| (framed(&EXAMPLE[FLAGS..FLAGS + count]), WrongLength)));
     list.push((framed(&[&EXAMPLE[FLAGS..COUNT], &[4, 0], b"out"].concat()), WrongLength));
     // More output than a console has, though it is there.
     list.push((with_output(4097, 4097), WrongLength));

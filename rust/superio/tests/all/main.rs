@@ -3,4 +3,5 @@
 mod console;
 mod console_calls;
 mod echo;
+mod refused;
 mod values;

@@ -13,6 +13,8 @@ use superio::serial::registers::{Condition, Register};
 use superio::serial::{Asked, EnqueueEffects, ReadEffects, Registers, Sent, WriteEffects};
 use superio::{Pl031, RtcState, Uart};
 
+use crate::refused;
+
 /// Whether a type is copied in silence: its own constant comes before that of the trait.
 struct Probe<T>(PhantomData<T>);
 
@@ -85,6 +87,41 @@ fn clocks_are_equal_if_their_states_are() {
     let with_alarm = |armed| Pl031 { armed, ..Pl031::new() };
     assert_eq!(with_alarm(1), with_alarm(2));
     assert_ne!(with_alarm(1), Pl031::new());
+}
+
+/// C shows the places of the ring, and a new port has nothing there.
+#[test]
+fn a_new_port_has_zeros_in_its_places() {
+    let ArrayFifo { head, len, bytes } = Uart::new().in_buffer;
+    assert_eq!((head, len, bytes), (0, 0, [0; 64]));
+}
+
+/// The five fields of vm-superio make a state without an alarm, and only such a state gives them back.
+#[test]
+fn a_state_with_an_alarm_is_not_five_fields() {
+    let state = RtcState::from_five(1, -2, 3, 4, 5);
+    assert_eq!(state, RtcState { lr: 1, offset: -2, mr: 3, imsc: 4, ris: 5, ..RtcState::default() });
+    assert_eq!(state.to_five(), Some((1, -2, 3, 4, 5)));
+    assert_eq!(RtcState { armed: true, ..state }.to_five(), None);
+}
+
+fn bytes_of(digits: &str) -> Vec<u8> {
+    (0..digits.len() / 2).map(|at| u8::from_str_radix(&digits[2 * at..][..2], 16).unwrap()).collect()
+}
+
+/// Each is refused by the first check that it fails.
+#[test]
+fn bytes_that_are_no_saved_device_are_refused() {
+    let check = |list: &[(&str, &str)], load: fn(&[u8]) -> Option<SavedStateError>| {
+        assert!(list.len() > 8);
+        for (case, digits) in list {
+            let error = format!("{:?}", load(&bytes_of(digits)).expect(digits));
+            assert_eq!(error.split('(').next(), Some(*case), "{digits}");
+        }
+    };
+    check(refused::PORTS, |bytes| Uart::from_bytes(bytes).err());
+    check(refused::CLOCKS, |bytes| RtcState::from_bytes(bytes).err());
+    check(refused::CONSOLES, |bytes| Console::from_bytes(bytes).err());
 }
 
 #[test]
