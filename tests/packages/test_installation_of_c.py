@@ -71,6 +71,17 @@ def test_other_libraries_are_refused(goal, names, tmp_path):
     assert not (tmp_path / "a tree").exists()
 
 
+def test_what_to_do_without_libraries():
+    """The command that is named then builds them, and what plain `make` names next is there."""
+    said = run(["make", "-s", "TARGET=nowhere-linux"], cwd=ROOT).stdout
+    [command] = re.findall(r": (make \S+)$", said, re.M)
+    planned = check([*command.split(), "-n"], cwd=ROOT)
+    assert re.search(r"^cargo build .*bindings/c/from-source", planned, re.M), planned
+    assert {*re.findall(r"for: (.*)$", said, re.M)} == {" ".join(sorted(TARGETS))}
+    for goal in at_least(2, re.findall(r"\bmake ([a-z-]+)", check(["make", "-s"], cwd=ROOT))):
+        check(["make", "-n", goal, "DESTDIR=/nowhere"], cwd=ROOT)
+
+
 @pytest.mark.parametrize("target", sorted(TARGETS))
 @pytest.mark.parametrize("mask, words, where", [
     ("022", "PREFIX=/usr", ["lib"]), ("077", "PREFIX=/opt/x LIBDIR=lib64", ["lib64"]),
