@@ -177,6 +177,7 @@ def test_sizes_in_a_device_tree():
 
 def test_strides_in_a_device_tree():
     """A register's offset is shifted to its place, and an access has its bytes."""
-    [(bits, stride)] = re.findall(r"For (\d+)-bit accesses at a stride of (\d+)", TREE["`reg-shift`, `reg-io-width`"][0])
-    shift, width = re.findall(r"`reg-(?:shift|io-width) = <(\d+)>`", TREE["`reg-shift`, `reg-io-width`"][0])
+    port, _ = TREE["`reg-shift`, `reg-io-width`"]
+    [(bits, stride)] = re.findall(r"For (\d+)-bit accesses at a stride of (\d+)", port)
+    shift, width = re.findall(r"`reg-(?:shift|io-width) = <(\d+)>`", port)
     assert (1 << int(shift), int(width) * 8) == (int(stride), int(bits))

@@ -18,6 +18,7 @@ import time
 from contextlib import suppress
 
 import pytest
+from documents import Document
 from harness import LIMIT, ROOT, at_least, check, run
 from monitors import HERE, WRAPPED, build_monitor, rust_port
 from places import is_place
@@ -111,6 +112,36 @@ def test_signal(over_host, name):
 @pytest.mark.parametrize("name", "PIPE CHLD CONT URG WINCH".split())
 def test_signal_without_effect(over_host, name):
     check_script(over_host, f"{STARTS}\nkill {signal.Signals['SIG' + name].value}\nin 3fd 1  60\nstatus 0")
+
+
+PAGE = " ".join(Document("docs/MONITOR.md").prose.split())
+# What a guest or a user does, by the words of the page for an end, and the monitor's words.
+ENDS = {"after a reset": ("image", "out 64 1 fe\n"), "Ctrl-A x": ("image", "type 0178\n"),
+        "if something failed": ("missing", ""), "if the arguments were wrong": ("-k image", "")}
+# What the page says an option is for, and what is then seen more often: the guest that starts again after a reset, and
+# input in a port whose driver was never ready.
+OPTIONS = {"To start the guest again after a reset": ("out 64 1 fe\n", "at 7c00"),
+           "To give the guest input at once": ("type 61\nin 3f8 1\n", "in 3f8 1  61")}
+
+
+@with_c
+def test_statuses_of_the_page(over_host):
+    [said] = re.findall(r"It exits with (status .*?)\.", PAGE)
+    for number, words in at_least(3, re.findall(r"(?:status|with) (\d) (.*?)(?:, (?:and )?(?=with)|$)", said)):
+        for end in words.split(" or "):
+            command, given = ENDS[end]
+            assert run(["./monitor", *command.split()], cwd=over_host, input=given).returncode == int(number), end
+
+
+@with_c
+def test_options_of_the_page(over_host):
+    said = dict(re.findall(r"\*\*([^*]+)\*\*,[^*]*? write `(-\w)` before the image", PAGE))
+    assert said.keys() == OPTIONS.keys()
+    for use, option in said.items():
+        given, seen = OPTIONS[use]
+        without, with_it = (run(["./monitor", *words, "image"], cwd=over_host, input=given).stdout.count(seen)
+                            for words in ([], [option]))
+        assert without < with_it, use
 
 
 @with_c
