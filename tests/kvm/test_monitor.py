@@ -133,6 +133,34 @@ def test_statuses_of_the_page(over_host):
             assert run(["./monitor", *command.split()], cwd=over_host, input=given).returncode == int(number), end
 
 
+# Where the monitor has its devices and its guest, by the sentences that say so. No other sentence of its page does.
+KVM = ROOT / "examples" / "kvm"
+PLACES = {name: int(number, 0) for name, number in re.findall(
+    r"\b([A-Z]\w+) = (0x\w+|\d+)", "".join((KVM / name).read_text("utf-8") for name in ("monitor.h", "boot.c")))}
+SAID = at_least(10, [
+    ("docs/MONITOR.md", r"COM1 at IRQ (\d+)", "SERIAL_IRQ"), ("docs/MONITOR.md", r"memory at (0x\w+)", "CLOCK_BASE"),
+    ("docs/MONITOR.md", r"memory at 0x\w+, at IRQ (\d+)", "CLOCK_IRQ"),
+    ("docs/MONITOR.md", r"It starts at (0x\w+)", "FLAT_START"), ("docs/MONITOR.md", r"guest, at (0x\w+)", "CLOCK_BASE"),
+    ("docs/MONITOR.md", r"IRQ (\d+) +IRQ \d", "SERIAL_IRQ"), ("docs/MONITOR.md", r"IRQ \d +IRQ (\d+)", "CLOCK_IRQ"),
+    ("docs/USING.md", r"\(MONITOR\.md\) uses (0x\w+)", "CLOCK_BASE"),
+    ("docs/USING.md", r"looks for the port at (0x\w+)", "COM1"),
+    ("docs/USING.md", r"looks for the port at 0x\w+, with IRQ (\d+)", "SERIAL_IRQ"),
+    ("examples/linux-boot/README.md", r"serial port at (0x\w+)", "COM1"),
+    ("examples/linux-boot/README.md", r"clock at (0x\w+)", "CLOCK_BASE"),
+    ("examples/kvm/main.c", r"Starts any other at (0x\w+)", "FLAT_START")])
+
+
+@pytest.mark.parametrize("page, form, name", SAID)
+def test_places_of_the_page(page, form, name):
+    text = (ROOT / page).read_text("utf-8")
+    assert [int(number, 0) for number in re.findall(form, text)] == [PLACES[name]]
+
+
+def test_each_place_of_the_page_is_compared():
+    found = re.findall(r"\b0x\w+|IRQ \d+", (ROOT / "docs/MONITOR.md").read_text("utf-8"))
+    assert len(found) == sum(page == "docs/MONITOR.md" for page, *_ in SAID)
+
+
 @with_c
 def test_options_of_the_page(over_host):
     said = dict(re.findall(r"\*\*([^*]+)\*\*,[^*]*? write `(-\w)` before the image", PAGE))
