@@ -38,6 +38,12 @@ def test_properties(target):
     assert symbols(PREBUILT / target / STATIC, "--defined-only", "--extern-only") == read_header().functions.keys()
 
 
+def test_size():
+    """docs/RELEASE.md says how large the shared library of `prebuilt` is for x86-64, in whole kB."""
+    [said] = re.findall(r"^\| Shared library \| (\d+) kB \|", Document("docs/RELEASE.md").text, re.M)
+    assert abs(int(said) * 1000 - (PREBUILT / "x86_64-linux" / SHARED).stat().st_size) < 1000
+
+
 @pytest.mark.parametrize("words", [[], ["-n"]], ids=["make", "make -n"])
 def test_plain_make_installs_nothing(words, tmp_path):
     tree = tmp_path / "a tree"
