@@ -18,6 +18,7 @@ import time
 from contextlib import suppress
 
 import pytest
+from documents import Document
 from harness import LIMIT, ROOT, at_least, check, run
 from monitors import HERE, WRAPPED, build_monitor, rust_port
 from places import is_place
@@ -111,6 +112,64 @@ def test_signal(over_host, name):
 @pytest.mark.parametrize("name", "PIPE CHLD CONT URG WINCH".split())
 def test_signal_without_effect(over_host, name):
     check_script(over_host, f"{STARTS}\nkill {signal.Signals['SIG' + name].value}\nin 3fd 1  60\nstatus 0")
+
+
+PAGE = " ".join(Document("docs/MONITOR.md").prose.split())
+# What a guest or a user does, by the words of the page for an end, and the monitor's words.
+ENDS = {"after a reset": ("image", "out 64 1 fe\n"), "Ctrl-A x": ("image", "type 0178\n"),
+        "if something failed": ("missing", ""), "if the arguments were wrong": ("-k image", "")}
+# What the page says an option is for, and what is then seen more often: the guest that starts again after a reset, and
+# input in a port whose driver was never ready.
+OPTIONS = {"To start the guest again after a reset": ("out 64 1 fe\n", "at 7c00"),
+           "To give the guest input at once": ("type 61\nin 3f8 1\n", "in 3f8 1  61")}
+
+
+@with_c
+def test_statuses_of_the_page(over_host):
+    [said] = re.findall(r"It exits with (status .*?)\.", PAGE)
+    for number, words in at_least(3, re.findall(r"(?:status|with) (\d) (.*?)(?:, (?:and )?(?=with)|$)", said)):
+        for end in words.split(" or "):
+            command, given = ENDS[end]
+            assert run(["./monitor", *command.split()], cwd=over_host, input=given).returncode == int(number), end
+
+
+# Where the monitor has its devices and its guest, by the sentences that say so. No other sentence of its page does.
+KVM = ROOT / "examples" / "kvm"
+PLACES = {name: int(number, 0) for name, number in re.findall(
+    r"\b([A-Z]\w+) = (0x\w+|\d+)", "".join((KVM / name).read_text("utf-8") for name in ("monitor.h", "boot.c")))}
+SAID = at_least(10, [
+    ("docs/MONITOR.md", r"COM1 at IRQ (\d+)", "SERIAL_IRQ"), ("docs/MONITOR.md", r"memory at (0x\w+)", "CLOCK_BASE"),
+    ("docs/MONITOR.md", r"memory at 0x\w+, at IRQ (\d+)", "CLOCK_IRQ"),
+    ("docs/MONITOR.md", r"It starts at (0x\w+)", "FLAT_START"), ("docs/MONITOR.md", r"guest, at (0x\w+)", "CLOCK_BASE"),
+    ("docs/MONITOR.md", r"IRQ (\d+) +IRQ \d", "SERIAL_IRQ"), ("docs/MONITOR.md", r"IRQ \d +IRQ (\d+)", "CLOCK_IRQ"),
+    ("docs/USING.md", r"\(MONITOR\.md\) uses (0x\w+)", "CLOCK_BASE"),
+    ("docs/USING.md", r"looks for the port at (0x\w+)", "COM1"),
+    ("docs/USING.md", r"looks for the port at 0x\w+, with IRQ (\d+)", "SERIAL_IRQ"),
+    ("examples/linux-boot/README.md", r"serial port at (0x\w+)", "COM1"),
+    ("examples/linux-boot/README.md", r"clock at (0x\w+)", "CLOCK_BASE"),
+    ("examples/kvm/main.c", r"Starts any other at (0x\w+)", "FLAT_START")])
+
+
+@pytest.mark.parametrize("page, form, name", SAID)
+def test_places_of_the_page(page, form, name):
+    text = (ROOT / page).read_text("utf-8")
+    assert [int(number, 0) for number in re.findall(form, text)] == [PLACES[name]]
+
+
+def test_each_place_of_the_page_is_compared():
+    found = re.findall(r"\b0x\w+|IRQ \d+", (ROOT / "docs/MONITOR.md").read_text("utf-8"))
+    assert len(found) == sum(page == "docs/MONITOR.md" for page, *_ in SAID)
+
+
+@with_c
+def test_options_of_the_page(over_host):
+    said = dict(re.findall(r"\*\*([^*]+)\*\*,[^*]*? write `(-\w)` before the image", PAGE))
+    assert said.keys() == OPTIONS.keys()
+    for use, option in said.items():
+        given, seen = OPTIONS[use]
+        without, with_it = (run(["./monitor", *words, "image"], cwd=over_host, input=given).stdout.count(seen)
+                            for words in ([], [option]))
+        assert without < with_it, use
 
 
 @with_c

@@ -38,6 +38,12 @@ def test_properties(target):
     assert symbols(PREBUILT / target / STATIC, "--defined-only", "--extern-only") == read_header().functions.keys()
 
 
+def test_size():
+    """docs/RELEASE.md says how large the shared library of `prebuilt` is for x86-64, in whole kB."""
+    [said] = re.findall(r"^\| Shared library \| (\d+) kB \|", Document("docs/RELEASE.md").text, re.M)
+    assert abs(int(said) * 1000 - (PREBUILT / "x86_64-linux" / SHARED).stat().st_size) < 1000
+
+
 @pytest.mark.parametrize("words", [[], ["-n"]], ids=["make", "make -n"])
 def test_plain_make_installs_nothing(words, tmp_path):
     tree = tmp_path / "a tree"
@@ -69,6 +75,17 @@ def test_other_libraries_are_refused(goal, names, tmp_path):
     ran = run(["make", "-s", goal, f"DESTDIR={tmp_path / 'a tree'}", where], cwd=ROOT)
     assert ran.returncode and "does not have one static and one shared library" in ran.stdout
     assert not (tmp_path / "a tree").exists()
+
+
+def test_what_to_do_without_libraries():
+    """The command that is named then builds them, and what plain `make` names next is there."""
+    said = run(["make", "-s", "TARGET=nowhere-linux"], cwd=ROOT).stdout
+    [command] = re.findall(r": (make \S+)$", said, re.M)
+    planned = check([*command.split(), "-n"], cwd=ROOT)
+    assert re.search(r"^cargo build .*bindings/c/from-source", planned, re.M), planned
+    assert {*re.findall(r"for: (.*)$", said, re.M)} == {" ".join(sorted(TARGETS))}
+    for goal in at_least(2, re.findall(r"\bmake ([a-z-]+)", check(["make", "-s"], cwd=ROOT))):
+        check(["make", "-n", goal, "DESTDIR=/nowhere"], cwd=ROOT)
 
 
 @pytest.mark.parametrize("target", sorted(TARGETS))
