@@ -85,6 +85,17 @@ def test_out_of_date(generate, monkeypatch, capfd, tmp_path, change):
     assert made(generate, monkeypatch, capfd, "--check")[0] == 0
 
 
+@pytest.mark.parametrize("late", [["copy"], ["list"], ["copy", "list"]], ids=" ".join)
+def test_check_of_steps(generate, monkeypatch, capfd, late):
+    """All that are late are named, or those of the named ones, and nothing is made."""
+    monkeypatch.setattr(generate, "is_recorded", lambda name: name not in late)
+    for words in [], ["copy"], ["list"], ["always"], ["list", "copy"]:
+        monkeypatch.setattr(sys, "argv", ["generate", "--check", *words])
+        named = [name for name in late if name in words or not words]
+        assert generate.main() == bool(named)
+        assert capfd.readouterr().out == "".join(f"{name} is out of date: run tools/generate {name}\n" for name in named)
+
+
 def test_faults(generate, monkeypatch, capfd, tmp_path):
     """After a step that fails or lacks its tool none is made, and none counts as made."""
     generate.STEPS["copy"] = generate.STEPS["copy"]._replace(command="cp nothing made/one")
