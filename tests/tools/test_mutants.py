@@ -59,8 +59,7 @@ def test_a_line_is_turned(line, tmp_path):
     assert set(TURNED[line]) <= set(found), found
 
 
-# Each operator with the one that it becomes, and each other rule by a line of it, with what the line becomes: of Python if
-# it has its words.
+# Each operator with the one that it becomes, and lines of the other rules with what they become, as C or as Python.
 OPERATORS = {"==": "!=", "!=": "==", "===": "!==", "!==": "===", "<": "<=", "<=": "<", ">": ">=", ">=": ">",
              "&&": "||", "||": "&&", "&": "|", "|": "&", "+": "-", "-": "+", "*": "/", "/": "*", "<<": ">>",
              ">>": "<<", "+=": "-=", "-=": "+=", "|=": "&=", "&=": "|=", "and": "or", "or": "and",
