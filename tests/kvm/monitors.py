@@ -16,15 +16,10 @@ COMPILERS = {"kvm": ["cc"], "host": ["cc", "-I.", "-fsanitize=address,undefined"
                        HERE / "timeout.c"]}
 
 
-def build_monitor(kind, folder, port="serial.c", edit=None):
+def build_monitor(kind, folder, port="serial.c"):
     """Builds the monitor in a copy of its folder, without a word of the compiler, except that the linker warns of what
-    Rust's library has of glibc's. An edit is a file, what stands there once, and what is to stand in its place."""
+    Rust's library has of glibc's."""
     shutil.copytree(ROOT / "examples" / "kvm", folder, ignore=shutil.ignore_patterns("monitor"), dirs_exist_ok=True)
-    if edit:
-        file, old, new = edit
-        text = (folder / file).read_text(encoding="utf-8")
-        assert text.count(old) == 1, old
-        (folder / file).write_text(text.replace(old, new), encoding="utf-8")
     compiler = " ".join(map(str, COMPILERS[kind]))
     words = ["make", "-s", "-C", folder, f"ROOT={ROOT}", f"CC={compiler}", f"SERIAL={port}"]
     check(words, None if kind == "linux" else "")

@@ -10,6 +10,7 @@ Two monitors whose guests echo each other go on after the socket between them wa
 import difflib
 import random
 import re
+import shutil
 import signal
 import socket
 import subprocess
@@ -115,10 +116,18 @@ BROKEN = {
 
 
 @pytest.mark.parametrize("fault", BROKEN)
-def test_a_broken_rule_is_seen(fault, tmp_path):
+def test_a_broken_rule_is_seen(fault, tmp_path, monkeypatch):
     """So host.c notices it in a script, where the replies of the guest's port would not differ, and no lock is waited for
     without end."""
-    build_monitor("host", tmp_path, edit=BROKEN[fault])
+    (file, old, new), copy = BROKEN[fault], shutil.copytree
+
+    def broken_copy(*words, **options):
+        copy(*words, **options)
+        text = (tmp_path / file).read_text(encoding="utf-8")
+        assert text.count(old) == 1, old
+        (tmp_path / file).write_text(text.replace(old, new), encoding="utf-8")
+    monkeypatch.setattr(shutil, "copytree", broken_copy)
+    build_monitor("host", tmp_path)
     (tmp_path / "image").write_bytes(b"\xF4")
     assert any(fault in seen_of(tmp_path, script, limit=30) for script in SCRIPTS)
 
