@@ -10,6 +10,7 @@ Two monitors whose guests echo each other go on after the socket between them wa
 import difflib
 import random
 import re
+import shutil
 import signal
 import socket
 import subprocess
@@ -80,20 +81,56 @@ def shortened(text):
     return re.sub(r"(?<= )(\w\w)\1{7,}(?!\S)", lambda found: f"{found[1]}*{len(found[0]) // 2}", text)
 
 
-def check_script(folder, script):
-    """The monitor of a folder does what stands behind the lines of a script."""
+def seen_of(folder, script, limit=LIMIT):
+    """A script with what the monitor of a folder does behind its lines."""
     full = re.sub(r"(\w\w)\*(\d+)", lambda found: found[1] * int(found[2]), script)
     command, *lines = (line.partition("  ")[0] for line in full.splitlines())
     given = "".join(f"{line}\n" for line in lines[:-1])   # the last one is the status
-    ran = run([f"./{command.split()[0]}", *command.split()[1:]], cwd=folder, input=given)
+    ran = run([f"./{command.split()[0]}", *command.split()[1:]], cwd=folder, input=given, timeout=limit)
     said = re.sub("monitor: |usage: ", r"\n\g<0>", ran.stdout).rstrip("\n")
-    seen = shortened(f"{command}{said}\nstatus {ran.returncode}")
+    return shortened(f"{command}{said}\nstatus {ran.returncode}")
+
+
+def check_script(folder, script):
+    """The monitor of a folder does what stands behind the lines of a script."""
+    seen = seen_of(folder, script)
     assert seen == script, "\n".join(difflib.ndiff(script.splitlines(), seen.splitlines()))
 
 
 @pytest.mark.parametrize("script", SCRIPTS, ids=lambda script: script.splitlines()[0].strip()[:40])
 def test_script(over_host, script):
     check_script(over_host, script)
+
+
+# What host.c says of a monitor that breaks a rule of calls, and a slip that breaks it.
+BROKEN = {
+    "a call without the lock": ("main.c", "    pthread_mutex_lock(&lock);\n    size_t accepted", "    size_t accepted"),
+    "a wait with the lock": ("main.c", "    pthread_mutex_unlock(&lock);\n    if (count == 0)", "    if (count == 0)"),
+    "an eventfd whose write may block": ("main.c", "eventfd(0, EFD_NONBLOCK | EFD_CLOEXEC)", "eventfd(0, EFD_CLOEXEC)"),
+    "a timer whose read may block, or of another clock": ("clock.c", "TFD_NONBLOCK | TFD_CLOEXEC", "TFD_CLOEXEC"),
+    "a wait for something else": ("main.c", "&lock, CLOCK_MONOTONIC, &end", "&lock, CLOCK_REALTIME, &end"),
+    "settings of another terminal, or not at once": ("main.c", "TCSANOW, &raw", "TCSADRAIN, &raw"),
+    "a write that may block": ("main.c", "ready > 0 && write(STDOUT_FILENO", "ready > 0 && write(STDERR_FILENO"),
+    "a guest is not told of room": ("main.c", "    pthread_cond_signal(&has_room);\n", ""),
+    "a machine beside another one": ("machine.c", "    munmap(run, run_size);\n", ""),
+}
+
+
+@pytest.mark.parametrize("fault", BROKEN)
+def test_a_broken_rule_is_seen(fault, tmp_path, monkeypatch):
+    """So host.c notices it in a script, where the replies of the guest's port would not differ, and no lock is waited for
+    without end."""
+    (file, old, new), copy = BROKEN[fault], shutil.copytree
+
+    def broken_copy(*words, **options):
+        copy(*words, **options)
+        text = (tmp_path / file).read_text(encoding="utf-8")
+        assert text.count(old) == 1, old
+        (tmp_path / file).write_text(text.replace(old, new), encoding="utf-8")
+    monkeypatch.setattr(shutil, "copytree", broken_copy)
+    build_monitor("host", tmp_path)
+    (tmp_path / "image").write_bytes(b"\xF4")
+    assert any(fault in seen_of(tmp_path, script, limit=30) for script in SCRIPTS)
 
 
 # For what has nothing to do with the port.

@@ -14,7 +14,8 @@ from documents import Document
 from generators.header import read_header
 from generators.libraries import PREBUILT, SHARED, STATIC, TARGETS
 from harness import ROOT, at_least, check, run
-from shared import FLAGS, HAS_FROM_SOURCE, assert_properties, assert_same, finding, found_in, installation, symbols
+from shared import (FLAGS, HAS, HAS_FROM_SOURCE, LACKS, assert_properties, assert_same, finding, found_in, installation,
+                    properties_of, symbols)
 
 pytestmark = pytest.mark.needs("make")
 
@@ -28,6 +29,27 @@ EXPECTED = (ROOT / "examples/c/expected").read_text(encoding="utf-8")
 def listing(folder):
     """All that is in a folder."""
     return sorted(path.relative_to(folder) for path in folder.rglob("*"))
+
+
+# A library with each property, and beside each one an option of the compiler by which it is there no longer, or is there.
+LINKED = ["-shared", "-fPIC", "-fasynchronous-unwind-tables", "-Wl,--no-as-needed,--build-id,-z,now,-z,relro,--eh-frame-hdr",
+          f"-Wl,-soname,{SHARED}"]
+MARKED = {"x86_64": "-Wl,-z,ibt", "aarch64": "-Wl,-z,force-bti"}[platform.machine()]
+TURNED = dict(zip([*HAS, *HAS_FROM_SOURCE, *LACKS], [
+    "-Wl,--build-id=none", "-Wl,-z,norelro", "-Wl,-z,lazy", "-Wl,-soname,other", "-Wl,-z,execstack",
+    "-Wl,--no-eh-frame-hdr", "-nostdlib", "-Wl,-z,execstack", MARKED, "-lm"], strict=True))
+
+
+@pytest.mark.needs("cc")
+@pytest.mark.parametrize("pattern", TURNED)
+def test_each_property_is_seen(pattern, tmp_path):
+    """One that a pattern does not find, or finds everywhere, would be seen in no library."""
+    found = []
+    for place, options in enumerate([[], [TURNED[pattern]]]):
+        check(["gcc", *LINKED, "-x", "c", "-", "-o", tmp_path / str(place), *options],
+              input="int half(int number) { return number / 2; }\n")
+        found.append(properties_of(tmp_path / str(place), TURNED))
+    assert found[0] == {*HAS, *HAS_FROM_SOURCE} and pattern in found[0] ^ found[1]
 
 
 @pytest.mark.needs("cc")
