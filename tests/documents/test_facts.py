@@ -3,13 +3,17 @@
 
 tests/documents/facts.txt has a block for each fact, such as the offset of a register: lines with a file and a text that
 has to stand in it, wherever lines break there. After a change of the number, the block names the other places. The
-registers and their bits need no block: test_registers.py compares them.
+registers and their bits need no block: test_registers.py compares them. Nor does a size that a sentence states by words
+of its own, such as `received bytes`: each sentence with these words states it.
 """
 import re
 from collections import defaultdict
 
 import pytest
+from common.facts import FIFO_SIZE, OUTPUT_SIZE
+from documents import documents
 from harness import ROOT, at_least
+from superio import board
 
 NUMBER = re.compile(r"\b(?:0x[0-9A-Fa-f]+|\d[\d,_]*)\b")
 BLOCKS = [[tuple(line.split(": ", 1)) for line in block.splitlines()]
@@ -42,3 +46,17 @@ def test_place(file, text):
                          ids=lambda value: hex(value) if isinstance(value, int) else ", ".join(sorted(value)))
 def test_number(number, files):
     assert len(files) > 1, f"of this block, only {', '.join(files)} has {number}"
+
+
+# The sizes by the words behind them. A board of scripts keeps less output than a console.
+SIZES = [(r"received bytes", {FIFO_SIZE}), (r"bytes of output wait", {OUTPUT_SIZE}),
+         (r"(?:bytes )?of output\b", {OUTPUT_SIZE, board.OUTPUT_SIZE})]
+SENTENCES = [*map(str, documents()), "bindings/c/superio.h", "bindings/js/superio.d.ts",
+             "bindings/python/superio/devices.py"]
+STATED = [(file, found[0], int(found[1].replace(",", "")), sizes) for file in SENTENCES
+          for words, sizes in SIZES for found in re.finditer(rf"\b(\d[\d,]*) {words}", contents(file))]
+
+
+@pytest.mark.parametrize("file, text, number, sizes", at_least(15, STATED))
+def test_size(file, text, number, sizes):
+    assert number in sizes, f"{file} says {text!r}"

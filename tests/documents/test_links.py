@@ -54,6 +54,16 @@ See [two](two.md), or ![a picture](three.svg). In code `[no](no.md)` is no link.
 """
 
 
+def test_documents(tmp_path, monkeypatch):
+    """Each page is found however deep it is, README.md first, and none of what is built or hidden."""
+    monkeypatch.setattr(reader, "ROOT", tmp_path)
+    pages = ["README.md", "Z.md", "a/README.md", "a/b/c/d/page.md", "a/outer/b/page.md"]
+    for name in [*pages, "out/page.md", "a/target/b/page.md", "a/__pycache__/page.md", ".ci/page.md", "a/page.txt"]:
+        (tmp_path / name).parent.mkdir(parents=True, exist_ok=True)
+        (tmp_path / name).touch()
+    assert [*map(str, documents())] == [*pages[:3], "a/outer/b/page.md", "a/b/c/d/page.md"]
+
+
 def test_reader(tmp_path, monkeypatch):
     """No form of link, heading or block is passed over."""
     monkeypatch.setattr(reader, "ROOT", tmp_path)

@@ -1,12 +1,12 @@
 # SPDX-License-Identifier: Apache-2.0 OR BSD-3-Clause
 """The registers of interface.toml, as the Python package has them, against those of the definitions of which the proofs
-speak, of superio.h, and of what DEVICES.md says in sentences."""
+speak, of superio.h, and of what DEVICES.md says in sentences. And the offset beside a register's name in any text."""
 import re
 
 import pytest
 from common.facts import CLOCK as CLOCK_FACTS
 from common.facts import PORT_REGISTERS, SERIAL as SERIAL_FACTS
-from documents import Document
+from documents import Document, documents
 from harness import ROOT, at_least
 from superio import registers
 from superio.registers import CLOCK, DLAB, FIELDS, FIFO_BITS, FIFO_SIZE, IDENTIFICATION, LOOPBACK, SERIAL
@@ -118,3 +118,22 @@ RESULTS = [*port_registers(), *port_bits(), *clock_results()]
 @pytest.mark.parametrize("value, others", at_least(124, RESULTS))
 def test_register(value, others):
     assert all(other == value for other in others)
+
+
+# A register's name and its offset, in each form in which texts have both.
+OFFSETS = {name: register.offset for name, register in SERIAL.items()}
+OFFSETS.update((f"RTC{name}", register.offset) for name, register in CLOCK.items())
+NAME = rf"\b(?P<name>{'|'.join(OFFSETS)})\b"
+DIGIT, DIGITS = r"(?P<offset>0x[0-9A-F]{2,4}|\d)\b", r"(?P<offset>0x[0-9A-F]{3})\b"
+FORMS = [rf"{NAME},? at offset {DIGIT}", rf"{NAME},? at {DIGITS}", rf"{NAME} = {DIGITS}", rf"{NAME} \(offset {DIGIT}",
+         rf"\boffset {DIGIT},? \(?{NAME}", rf"(?<!offset )\b{DIGITS},? \(?{NAME}(?! =)"]
+TEXTS = [*documents(), *(Document(path.relative_to(ROOT)) for path in sorted([
+    ROOT / "bindings/c/superio.h", ROOT / "bindings/js/superio.d.ts", *(ROOT / "examples").rglob("*.[ch]"),
+    *(ROOT / "examples").rglob("*.py"), *(ROOT / "rust").glob("*/src/*.rs")]))]
+BESIDE = [(str(text), found["name"], int(found["offset"], 0)) for text in TEXTS
+          for form in FORMS for found in re.finditer(form, re.sub(r"\s+(?:\* |//+ )?", " ", text.text))]
+
+
+@pytest.mark.parametrize("text, name, offset", at_least(15, BESIDE))
+def test_offset_beside_a_name(text, name, offset):
+    assert offset == OFFSETS[name]

@@ -2,6 +2,7 @@
 """The encoding and the errors of interface.toml are those of the definitions of which the proofs speak. The numbers of
 docs/SAVED-STATES.md are those of what devices save: how long it is, where each field is, and which flags and errors
 there are. Each number of a table is read here, so that another one there fails."""
+import itertools
 import re
 from dataclasses import fields, replace
 
@@ -133,6 +134,29 @@ def test_lengths():
     for waiting, reason in ((0, "too short"), (most, "too short"), (most + 1, "wrong length")):   # without a port
         assert [reason_of(Console, fixed + waiting + more, place - HEADER_SIZE, waiting) for more in (-1, 0)] == [
             "wrong length", reason]
+
+
+# The devices by the names that their calls have in C, and what CHANGELOG.md says of errors that only one load returns.
+LOADED = {"serial": Serial, "rtc": Rtc, "console": Console}
+OF_ONE = re.findall(r"`SUPERIO_LOAD_(\w+)`, which only `superio_(\w+)_load` returns",
+                    (ROOT / "CHANGELOG.md").read_text("utf-8"))
+
+
+def reasons_of(kind):
+    """Why bytes are no saved state of this kind, of which one byte differs."""
+    saved, reasons = kind().to_bytes(), set()
+    for place, value in itertools.product(range(len(saved)), range(256)):
+        try:
+            kind.from_bytes(saved[:place] + bytes([value]) + saved[place + 1:])
+        except SavedStateError as error:
+            reasons.add(error.reason)
+    return reasons
+
+
+@pytest.mark.parametrize("error, load", at_least(1, OF_ONE))
+def test_errors_of_one_load(error, load):
+    reason = error.lower().replace("_", " ")
+    assert [name for name, kind in LOADED.items() if reason in reasons_of(kind)] == [load]
 
 
 # ---- The table, and the definitions

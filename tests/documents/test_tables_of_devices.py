@@ -1,6 +1,6 @@
 # SPDX-License-Identifier: Apache-2.0 OR BSD-3-Clause
 """The tables of docs/DEVICES.md say what the devices do. Each cell is tried at each of its offsets. It has words that
-are known here, and others fail."""
+are known here, and others fail. The numbers of device trees in docs/USING.md are those of these tables."""
 import re
 from dataclasses import replace
 
@@ -161,3 +161,25 @@ def test_identification(offsets, wanted):
     offsets = offsets_of(offsets)
     assert len(offsets) == 4 and {Rtc().read(offset, NOW).value for offset in offsets} == {wanted}
     assert {Rtc().read(offset, NOW).value == wanted for offset in (offsets[0] - 1, offsets[-1] + 1)} == {False}
+
+
+# ---- Device trees
+
+TREE = {row[0]: row[1:] for row in at_least(5, table(Document("docs/USING.md").text, "Property | The serial port"))}
+REGISTERS = 1 + max(int(row[0]) for row in PORT_ROWS if row[0].isdigit())
+
+
+def test_sizes_in_a_device_tree():
+    """A port has all its registers at each stride, and a clock its identification, with which it ends."""
+    port, clock = TREE["`reg`"]
+    sizes = re.findall(r"(\d+)(?: bytes)? at a stride of (\d+)", port)
+    assert [(int(size), int(stride)) for size, stride in sizes] == [(REGISTERS * stride, stride) for stride in (1, 4)]
+    assert int(re.search(r"([\d,]+) bytes", clock)[1].replace(",", "")) == offsets_of(FOUND[3])[-1] + 1
+
+
+def test_strides_in_a_device_tree():
+    """A register's offset is shifted to its place, and an access has its bytes."""
+    port, _ = TREE["`reg-shift`, `reg-io-width`"]
+    [(bits, stride)] = re.findall(r"For (\d+)-bit accesses at a stride of (\d+)", port)
+    shift, width = re.findall(r"`reg-(?:shift|io-width) = <(\d+)>`", port)
+    assert (1 << int(shift), int(width) * 8) == (int(stride), int(bits))

@@ -1,6 +1,7 @@
 # SPDX-License-Identifier: Apache-2.0 OR BSD-3-Clause
 """What `judge.py` prints at its end, of each part how many checks were as they should be, its status, and what it
 keeps."""
+import hashlib
 import io
 import random
 import subprocess
@@ -84,6 +85,29 @@ def test_unpacked_files(tmp_path, words, is_in_order):
     sources.unpack(tmp_path / "packed", wanted, tmp_path / "folder")
     assert {str(path.relative_to(tmp_path / "folder")): path.read_bytes() for path in (tmp_path / "folder").rglob("*/*")
             } == {path: texts[path] for path in wanted}
+
+
+@pytest.mark.parametrize("wrong", [(), ("a",), ("b/c",), ("d",), ("a", "d")], ids=" ".join)
+def test_files_of_a_source(wrong, tmp_path, monkeypatch):
+    """Each of them has the sum that the repository has, or all are refused, also in the next run."""
+    texts = {"a": "one", "b/c": "two", "d": "three"}
+    listed = tmp_path / "linux-1.sha256"
+    listed.write_text("".join(f"{hashlib.sha256(text.encode()).hexdigest()}  {path}\n" for path, text in texts.items()),
+                      encoding="ascii")
+
+    def unpack(archive, paths, folder):
+        for path in paths:
+            (folder / path).parent.mkdir(exist_ok=True)
+            (folder / path).write_text(texts[path] + "." * (path in wrong), encoding="ascii")
+    for name, value in [("KEPT", tmp_path / "kept"), ("sums", lambda name: listed), ("unpack", unpack),
+                        ("files", lambda name: (None, None))]:
+        monkeypatch.setattr(sources, name, value)
+    for _ in range(2):
+        if wrong:
+            with pytest.raises(ValueError, match=f"^linux-1.sha256 names other sums than those of {', '.join(wrong)}$"):
+                sources.sources("linux")
+        else:
+            assert {path: (sources.sources("linux") / path).read_text("ascii") for path in texts} == texts
 
 
 @pytest.mark.where("CBMC 6")

@@ -164,7 +164,8 @@ def programs_of(place):
             yield program, printed
 
 
-PROGRAMS = at_least(2, programs_of("bindings/js/README.md"))
+README = "bindings/js/README.md"
+PROGRAMS = at_least(2, programs_of(README))
 
 
 @pytest.mark.needs("node")
@@ -173,6 +174,21 @@ def test_program(number):
     """A program of the package's page prints what follows it. In the folder of a package its name is the package."""
     program, printed = PROGRAMS[number]
     check(["node", "--input-type=module", "--eval", program], printed, cwd=PACKAGE)
+
+
+@pytest.mark.needs("node")
+def test_files_for_a_browser(tmp_path):
+    """The files that the package's page lists are all that its program needs, and none is for nothing."""
+    [named] = re.findall(r"you can also copy ((?:`[\w.]+`(?:, | and )?)+) into one folder", Document(README).prose)
+    names = re.findall(r"`([\w.]+)`", named)
+    for name in names:
+        shutil.copy(PACKAGE / name, tmp_path)
+    program, printed = PROGRAMS[0]
+    (tmp_path / "program.mjs").write_text(IMPORT.sub(rf'import \1 from "./{names[0]}";', program), "utf-8")
+    check(["node", "program.mjs"], printed, cwd=tmp_path)
+    imported = re.findall(r'^(?:im|ex)port .* from "\./([\w.]+)"', "".join(
+        (tmp_path / name).read_text("utf-8") for name in names), re.M)
+    assert {*names} == {names[0], *imported}
 
 
 @pytest.fixture(scope="module")

@@ -10,6 +10,7 @@ Two monitors whose guests echo each other go on after the socket between them wa
 import difflib
 import random
 import re
+import shutil
 import signal
 import socket
 import subprocess
@@ -18,6 +19,7 @@ import time
 from contextlib import suppress
 
 import pytest
+from documents import Document
 from harness import LIMIT, ROOT, at_least, check, run
 from monitors import HERE, WRAPPED, build_monitor, rust_port
 from places import is_place
@@ -79,20 +81,56 @@ def shortened(text):
     return re.sub(r"(?<= )(\w\w)\1{7,}(?!\S)", lambda found: f"{found[1]}*{len(found[0]) // 2}", text)
 
 
-def check_script(folder, script):
-    """The monitor of a folder does what stands behind the lines of a script."""
+def seen_of(folder, script, limit=LIMIT):
+    """A script with what the monitor of a folder does behind its lines."""
     full = re.sub(r"(\w\w)\*(\d+)", lambda found: found[1] * int(found[2]), script)
     command, *lines = (line.partition("  ")[0] for line in full.splitlines())
     given = "".join(f"{line}\n" for line in lines[:-1])   # the last one is the status
-    ran = run([f"./{command.split()[0]}", *command.split()[1:]], cwd=folder, input=given)
+    ran = run([f"./{command.split()[0]}", *command.split()[1:]], cwd=folder, input=given, timeout=limit)
     said = re.sub("monitor: |usage: ", r"\n\g<0>", ran.stdout).rstrip("\n")
-    seen = shortened(f"{command}{said}\nstatus {ran.returncode}")
+    return shortened(f"{command}{said}\nstatus {ran.returncode}")
+
+
+def check_script(folder, script):
+    """The monitor of a folder does what stands behind the lines of a script."""
+    seen = seen_of(folder, script)
     assert seen == script, "\n".join(difflib.ndiff(script.splitlines(), seen.splitlines()))
 
 
 @pytest.mark.parametrize("script", SCRIPTS, ids=lambda script: script.splitlines()[0].strip()[:40])
 def test_script(over_host, script):
     check_script(over_host, script)
+
+
+# What host.c says of a monitor that breaks a rule of calls, and a slip that breaks it.
+BROKEN = {
+    "a call without the lock": ("main.c", "    pthread_mutex_lock(&lock);\n    size_t accepted", "    size_t accepted"),
+    "a wait with the lock": ("main.c", "    pthread_mutex_unlock(&lock);\n    if (count == 0)", "    if (count == 0)"),
+    "an eventfd whose write may block": ("main.c", "eventfd(0, EFD_NONBLOCK | EFD_CLOEXEC)", "eventfd(0, EFD_CLOEXEC)"),
+    "a timer whose read may block, or of another clock": ("clock.c", "TFD_NONBLOCK | TFD_CLOEXEC", "TFD_CLOEXEC"),
+    "a wait for something else": ("main.c", "&lock, CLOCK_MONOTONIC, &end", "&lock, CLOCK_REALTIME, &end"),
+    "settings of another terminal, or not at once": ("main.c", "TCSANOW, &raw", "TCSADRAIN, &raw"),
+    "a write that may block": ("main.c", "ready > 0 && write(STDOUT_FILENO", "ready > 0 && write(STDERR_FILENO"),
+    "a guest is not told of room": ("main.c", "    pthread_cond_signal(&has_room);\n", ""),
+    "a machine beside another one": ("machine.c", "    munmap(run, run_size);\n", ""),
+}
+
+
+@pytest.mark.parametrize("fault", BROKEN)
+def test_a_broken_rule_is_seen(fault, tmp_path, monkeypatch):
+    """So host.c notices it in a script, where the replies of the guest's port would not differ, and no lock is waited for
+    without end."""
+    (file, old, new), copy = BROKEN[fault], shutil.copytree
+
+    def broken_copy(*words, **options):
+        copy(*words, **options)
+        text = (tmp_path / file).read_text(encoding="utf-8")
+        assert text.count(old) == 1, old
+        (tmp_path / file).write_text(text.replace(old, new), encoding="utf-8")
+    monkeypatch.setattr(shutil, "copytree", broken_copy)
+    build_monitor("host", tmp_path)
+    (tmp_path / "image").write_bytes(b"\xF4")
+    assert any(fault in seen_of(tmp_path, script, limit=30) for script in SCRIPTS)
 
 
 # For what has nothing to do with the port.
@@ -111,6 +149,64 @@ def test_signal(over_host, name):
 @pytest.mark.parametrize("name", "PIPE CHLD CONT URG WINCH".split())
 def test_signal_without_effect(over_host, name):
     check_script(over_host, f"{STARTS}\nkill {signal.Signals['SIG' + name].value}\nin 3fd 1  60\nstatus 0")
+
+
+PAGE = " ".join(Document("docs/MONITOR.md").prose.split())
+# What a guest or a user does, by the words of the page for an end, and the monitor's words.
+ENDS = {"after a reset": ("image", "out 64 1 fe\n"), "Ctrl-A x": ("image", "type 0178\n"),
+        "if something failed": ("missing", ""), "if the arguments were wrong": ("-k image", "")}
+# What the page says an option is for, and what is then seen more often: the guest that starts again after a reset, and
+# input in a port whose driver was never ready.
+OPTIONS = {"To start the guest again after a reset": ("out 64 1 fe\n", "at 7c00"),
+           "To give the guest input at once": ("type 61\nin 3f8 1\n", "in 3f8 1  61")}
+
+
+@with_c
+def test_statuses_of_the_page(over_host):
+    [said] = re.findall(r"It exits with (status .*?)\.", PAGE)
+    for number, words in at_least(3, re.findall(r"(?:status|with) (\d) (.*?)(?:, (?:and )?(?=with)|$)", said)):
+        for end in words.split(" or "):
+            command, given = ENDS[end]
+            assert run(["./monitor", *command.split()], cwd=over_host, input=given).returncode == int(number), end
+
+
+# Where the monitor has its devices and its guest, by the sentences that say so. No other sentence of its page does.
+KVM = ROOT / "examples" / "kvm"
+PLACES = {name: int(number, 0) for name, number in re.findall(
+    r"\b([A-Z]\w+) = (0x\w+|\d+)", "".join((KVM / name).read_text("utf-8") for name in ("monitor.h", "boot.c")))}
+SAID = at_least(10, [
+    ("docs/MONITOR.md", r"COM1 at IRQ (\d+)", "SERIAL_IRQ"), ("docs/MONITOR.md", r"memory at (0x\w+)", "CLOCK_BASE"),
+    ("docs/MONITOR.md", r"memory at 0x\w+, at IRQ (\d+)", "CLOCK_IRQ"),
+    ("docs/MONITOR.md", r"It starts at (0x\w+)", "FLAT_START"), ("docs/MONITOR.md", r"guest, at (0x\w+)", "CLOCK_BASE"),
+    ("docs/MONITOR.md", r"IRQ (\d+) +IRQ \d", "SERIAL_IRQ"), ("docs/MONITOR.md", r"IRQ \d +IRQ (\d+)", "CLOCK_IRQ"),
+    ("docs/USING.md", r"\(MONITOR\.md\) uses (0x\w+)", "CLOCK_BASE"),
+    ("docs/USING.md", r"looks for the port at (0x\w+)", "COM1"),
+    ("docs/USING.md", r"looks for the port at 0x\w+, with IRQ (\d+)", "SERIAL_IRQ"),
+    ("examples/linux-boot/README.md", r"serial port at (0x\w+)", "COM1"),
+    ("examples/linux-boot/README.md", r"clock at (0x\w+)", "CLOCK_BASE"),
+    ("examples/kvm/main.c", r"Starts any other at (0x\w+)", "FLAT_START")])
+
+
+@pytest.mark.parametrize("page, form, name", SAID)
+def test_places_of_the_page(page, form, name):
+    text = (ROOT / page).read_text("utf-8")
+    assert [int(number, 0) for number in re.findall(form, text)] == [PLACES[name]]
+
+
+def test_each_place_of_the_page_is_compared():
+    found = re.findall(r"\b0x\w+|IRQ \d+", (ROOT / "docs/MONITOR.md").read_text("utf-8"))
+    assert len(found) == sum(page == "docs/MONITOR.md" for page, *_ in SAID)
+
+
+@with_c
+def test_options_of_the_page(over_host):
+    said = dict(re.findall(r"\*\*([^*]+)\*\*,[^*]*? write `(-\w)` before the image", PAGE))
+    assert said.keys() == OPTIONS.keys()
+    for use, option in said.items():
+        given, seen = OPTIONS[use]
+        without, with_it = (run(["./monitor", *words, "image"], cwd=over_host, input=given).stdout.count(seen)
+                            for words in ([], [option]))
+        assert without < with_it, use
 
 
 @with_c

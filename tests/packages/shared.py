@@ -29,12 +29,16 @@ def symbols(library, *options):
     return set(re.findall(r" [A-Z] ([^\s@]+)", check(["nm", *options, library])))
 
 
+def properties_of(library, patterns):
+    """Those of some patterns that readelf's words about a shared library have."""
+    said = check(["readelf", "--wide", "--notes", "--segments", "--dynamic", "--sections", library])
+    return {pattern for pattern in patterns if re.search(pattern, said)}
+
+
 def assert_properties(library, calls, more=(), less=()):
     """A shared library has what docs/RELEASE.md says, and no more. It shows the functions of the header, and takes only
     these calls from elsewhere: no stack protector, and no checked call of the C library."""
-    said = check(["readelf", "--wide", "--notes", "--segments", "--dynamic", "--sections", library])
-    found = {pattern for pattern in [*HAS, *more, *LACKS, *less] if re.search(pattern, said)}
-    assert found == {*HAS, *more}
+    assert properties_of(library, [*HAS, *more, *LACKS, *less]) == {*HAS, *more}
     assert symbols(library, "--dynamic", "--defined-only") == read_header().functions.keys()
     assert symbols(library, "--dynamic", "--undefined-only") == set(calls)
 

@@ -5,6 +5,7 @@ import re
 import pytest
 from documents import BUILT
 from generators import facts
+from generators.header import read_header
 from generators.interface import ABI, SYMBOLS, VERSION, debian_symbols, interface, kept, lost
 from harness import ROOT, at_least, check
 
@@ -26,7 +27,11 @@ COPIES = {
 LICENSE = "SPDX-License-" "Identifier: Apache-2.0 OR BSD-3-Clause"
 SOURCE = re.compile(r".+\.([ch]|S|py|rs|rt|antt|[cm]?[jt]s|pyi)|Makefile")
 UNREAD = {".git", *BUILT}
-HEADINGS = re.findall(r"^## (.*)$", (ROOT / "CHANGELOG.md").read_text(encoding="utf-8"), re.M)
+CHANGES = (ROOT / "CHANGELOG.md").read_text(encoding="utf-8")
+HEADINGS = re.findall(r"^## (.*)$", CHANGES, re.M)
+# What CHANGELOG.md says of the present binary interface, by its kinds of changes.
+INTERFACE = dict(re.findall(r"^- \*\*(\w+(?: \w+)?)\*\*: (.*)$", re.search(
+    rf"^### Binary interface {ABI}\n(.*?)^###? ", CHANGES, re.M | re.S)[1], re.M))
 
 
 def unlicensed():
@@ -58,6 +63,28 @@ def test_interface():
     assert not lost()
     assert kept() == interface(), "run tools/generate"
     assert SYMBOLS.read_text(encoding="ascii") == debian_symbols(), "run tools/generate"
+
+
+def names(text):
+    return re.findall(r"`(\w+)`", text)
+
+
+def test_changes_of_the_interface():
+    """What CHANGELOG.md calls new is in the header, and what it calls removed is not. Of what has another name, the new
+    one is."""
+    header = read_header()
+    fields = [field.name for struct in header.structs.values() for field in struct]
+    results = [field.name for name, struct in header.structs.items() if name.endswith("_effects") for field in struct]
+    here = {*header.functions, *header.structs, *header.constants}
+    assert {*at_least(4, names(INTERFACE["New"]))} <= here
+    assert not here & {*at_least(1, names(INTERFACE["Removed"].partition(".")[0]))}
+    assert {*names(INTERFACE["Another meaning"])} <= here
+    for sentence in at_least(3, INTERFACE["Renamed"].split(". ")):
+        before, after = map(names, re.split(" are | were ", sentence))
+        if " were " in sentence:
+            before, after = after, [name for name in before if name not in here]
+        found = here if before[0].startswith("superio_") else {*results} if "enqueue" in sentence else {*fields}
+        assert {*after} <= found and not {*before} & found, sentence
 
 
 @pytest.mark.parametrize("heading", at_least(2, HEADINGS))

@@ -14,7 +14,8 @@ from documents import Document
 from generators.header import read_header
 from generators.libraries import PREBUILT, SHARED, STATIC, TARGETS
 from harness import ROOT, at_least, check, run
-from shared import FLAGS, HAS_FROM_SOURCE, assert_properties, assert_same, finding, found_in, installation, symbols
+from shared import (FLAGS, HAS, HAS_FROM_SOURCE, LACKS, assert_properties, assert_same, finding, found_in, installation,
+                    properties_of, symbols)
 
 pytestmark = pytest.mark.needs("make")
 
@@ -30,12 +31,39 @@ def listing(folder):
     return sorted(path.relative_to(folder) for path in folder.rglob("*"))
 
 
+# A library with each property, and beside each one an option of the compiler by which it is there no longer, or is there.
+LINKED = ["-shared", "-fPIC", "-fasynchronous-unwind-tables", "-Wl,--no-as-needed,--build-id,-z,now,-z,relro,--eh-frame-hdr",
+          f"-Wl,-soname,{SHARED}"]
+MARKED = {"x86_64": "-Wl,-z,ibt", "aarch64": "-Wl,-z,force-bti"}[platform.machine()]
+TURNED = dict(zip([*HAS, *HAS_FROM_SOURCE, *LACKS], [
+    "-Wl,--build-id=none", "-Wl,-z,norelro", "-Wl,-z,lazy", "-Wl,-soname,other", "-Wl,-z,execstack",
+    "-Wl,--no-eh-frame-hdr", "-nostdlib", "-Wl,-z,execstack", MARKED, "-lm"], strict=True))
+
+
+@pytest.mark.needs("cc")
+@pytest.mark.parametrize("pattern", TURNED)
+def test_each_property_is_seen(pattern, tmp_path):
+    """One that a pattern does not find, or finds everywhere, would be seen in no library."""
+    found = []
+    for place, options in enumerate([[], [TURNED[pattern]]]):
+        check(["gcc", *LINKED, "-x", "c", "-", "-o", tmp_path / str(place), *options],
+              input="int half(int number) { return number / 2; }\n")
+        found.append(properties_of(tmp_path / str(place), TURNED))
+    assert found[0] == {*HAS, *HAS_FROM_SOURCE} and pattern in found[0] ^ found[1]
+
+
 @pytest.mark.needs("cc")
 @pytest.mark.parametrize("target", sorted(TARGETS))
 def test_properties(target):
     """Of the libraries of the repository."""
     assert_properties(PREBUILT / target / SHARED, ["memcpy", "memmove", "memset"], less=HAS_FROM_SOURCE)
     assert symbols(PREBUILT / target / STATIC, "--defined-only", "--extern-only") == read_header().functions.keys()
+
+
+def test_size():
+    """docs/RELEASE.md says how large the shared library of `prebuilt` is for x86-64, in whole kB."""
+    [said] = re.findall(r"^\| Shared library \| (\d+) kB \|", Document("docs/RELEASE.md").text, re.M)
+    assert abs(int(said) * 1000 - (PREBUILT / "x86_64-linux" / SHARED).stat().st_size) < 1000
 
 
 @pytest.mark.parametrize("words", [[], ["-n"]], ids=["make", "make -n"])
@@ -69,6 +97,17 @@ def test_other_libraries_are_refused(goal, names, tmp_path):
     ran = run(["make", "-s", goal, f"DESTDIR={tmp_path / 'a tree'}", where], cwd=ROOT)
     assert ran.returncode and "does not have one static and one shared library" in ran.stdout
     assert not (tmp_path / "a tree").exists()
+
+
+def test_what_to_do_without_libraries():
+    """The command that is named then builds them, and what plain `make` names next is there."""
+    said = run(["make", "-s", "TARGET=nowhere-linux"], cwd=ROOT).stdout
+    [command] = re.findall(r": (make \S+)$", said, re.M)
+    planned = check([*command.split(), "-n"], cwd=ROOT)
+    assert re.search(r"^cargo build .*bindings/c/from-source", planned, re.M), planned
+    assert {*re.findall(r"for: (.*)$", said, re.M)} == {" ".join(sorted(TARGETS))}
+    for goal in at_least(2, re.findall(r"\bmake ([a-z-]+)", check(["make", "-s"], cwd=ROOT))):
+        check(["make", "-n", goal, "DESTDIR=/nowhere"], cwd=ROOT)
 
 
 @pytest.mark.parametrize("target", sorted(TARGETS))

@@ -202,6 +202,41 @@ def test_line_for_the_installed_crate():
     assert block == tried[(start := tried.index(block[0])):start + len(block)]
 
 
+def assigned(name, text):
+    """The value that a makefile, or a command in it, gives a variable."""
+    [value] = re.findall(rf"^\s*{name} ?= ?(\S+)$", text, re.M)
+    return value
+
+
+# Where the packages' files are, as makefiles say it, and the texts in which users read where they are.
+SHARE = re.findall(r"^\tmkdir -p debian/tmp(/usr/share/\S+)$", contents("debian/rules"), re.M)[0]
+INSTALLED = {f"{SHARE}/{crate}" for crate in re.search(r"^CRATES = (.*)$", contents("debian/rules"), re.M)[1].split()}
+DOCUMENTS = [assigned("DOCDIR", contents(name)) for name in ("Makefile", "debian/rules")]
+
+
+@pytest.mark.parametrize("name", ["debian/control", "docs/RELEASE.md", "Makefile"])
+def test_installed_crates(name):
+    """A text names no other folders of the crates."""
+    found = {path for path in re.findall(r"/usr/share/[\w/-]+", contents(name))}
+    assert found and found <= INSTALLED
+
+
+def test_installed_pages():
+    """The header says where `make install` and Debian's package put the pages that it names."""
+    assert re.findall(r"\bshare/doc/[\w/-]+", contents("bindings/c/superio.h")) == DOCUMENTS
+
+
+def test_variables():
+    """docs/RELEASE.md names the variables that the Makefile has, and the folders that it has if no other are given."""
+    page, makefile = Document("docs/RELEASE.md").text, contents("Makefile")
+    [said] = re.findall(r"^- (.*) are the folders below `PREFIX`\.$", page, re.M)
+    for name, folder in at_least(2, re.findall(r"`(\w+)=([^`]+)`", said)):
+        assert assigned(name, makefile) == folder
+    known = {*re.findall(r"^([A-Z]+) = ", makefile, re.M), "DESTDIR"}
+    given = re.findall(r"\bmake\b((?: [a-z-]+| [A-Z]+=\S+)+)", page)
+    assert {name for words in at_least(5, given) for name in re.findall(r" ([A-Z]+)=", words)} <= known
+
+
 @pytest.mark.needs("debian")
 @pytest.mark.parametrize("options, tests", [("", True), ("parallel=2", True), ("nocheck", False),
                                             ("parallel=2 nocheck noopt", False)])

@@ -22,6 +22,7 @@ from generators.facts_of_tests import expanded
 from generators.page import PAGE, sources, unpacked
 from harness import LIMIT, ROOT, at_least
 from script_tests import board_scripts
+from superio import Board, parse
 
 HERE = Path(__file__).parent
 MOST_BYTES, RANDOM_SCRIPTS = 72_000, 2_000
@@ -94,6 +95,30 @@ def test_an_option_says_its_number(number, said):
 @pytest.mark.parametrize("line, said", at_least(2, BUTTONS))
 def test_a_button_says_its_line(line, said):
     assert said.partition(":")[0] == line
+
+
+DESCRIBED = (ROOT / "docs" / "PAGE.md").read_text("utf-8")
+ADDRESSES = re.findall(r"Open the page with `#([^`]+)` behind its address: a byte is held, and nothing is pending",
+                       DESCRIBED)
+
+
+@pytest.mark.parametrize("address", at_least(1, ADDRESSES))
+def test_an_address_of_the_documents(address):
+    """It leads to what the document says: a byte waits, until a timeout raises its interrupt."""
+    board = Board()
+    for line in address.replace("+", " ").split(";"):
+        board.run(parse(line.encode()))
+    state = board.serial.state
+    assert (len(state.in_buffer), state.interrupt_identification & 0x06) == (1, 0)
+    board.run(parse(b"si"))
+    assert board.serial.state.interrupt_identification & 0x06
+
+
+@pytest.mark.parametrize("label", at_least(9, sorted({*re.findall(r"'([A-Z](?:[^'\n]|'(?=\w))+)'", DESCRIBED)})))
+def test_a_label_of_the_documents(label):
+    """It is that of a control, or of a part of the page."""
+    labels = re.findall(r">([^<>]+)<", re.sub(r"\s+", " ", PAGE.read_text("utf-8").partition("<script")[0]))
+    assert label in [one.strip() for one in labels]
 
 
 # In a browser

@@ -9,6 +9,7 @@ import struct
 import subprocess
 import sys
 import termios
+import threading
 import time
 from contextlib import suppress
 
@@ -227,6 +228,22 @@ class Machine:
                 self.follow(is_guest=True)
             else:
                 self.write(*source.choice([("IER", 1), ("IER", 3), ("THR", next(self.bytes))]))
+
+
+@pytest.mark.parametrize("count", [0, 1, 999, 1000, 4096])
+def test_what_was_sent_before_the_guest_is_off_is_shown(count):
+    """Its loop ends only then, although the terminal takes a part at a time."""
+    machine = Machine(EXAMPLE.read_text(encoding="utf-8"))
+    machine.sent = bytes(place % 251 for place in range(count))
+    for byte in machine.sent:
+        machine.console.console.write("THR", byte)
+    machine.monitor.switch_off()
+    loop = threading.Thread(target=machine.monitor.run, daemon=True)
+    loop.start()
+    loop.join(LIMIT)
+    for _ in range(2 + count // 999):
+        machine.read_shown(4096)
+    assert not loop.is_alive() and machine.shown == machine.sent
 
 
 # A rule that a monitor breaks, by an edit of the example.

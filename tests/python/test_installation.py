@@ -179,6 +179,30 @@ def test_a_wheel_with_another_library(archives, tmp_path):
     assert [*(tmp_path / "none").iterdir()] == []
 
 
+# Where the package finds a library, by the words of its page, which are in the order in which it looks.
+FOUND = re.findall(r"^\d\. (.*)$", re.search(r"the first of these libraries.*?\n((?:\d\. .*\n)+)", (
+    PACKAGE / "README.md").read_text("utf-8"), re.S)[1], re.M)
+
+
+def test_the_order_of_libraries(tmp_path, monkeypatch):
+    """From the last to the first, each is found once it is there."""
+    package = tmp_path / "bindings" / "python" / "superio"
+    name = Path("prebuilt", f"{os.uname().machine}-linux", library.FILE_NAME)
+    places = {"the file that the environment": tmp_path / "named", "the one in `prebuilt`": tmp_path / name,
+              "the one in the package": package / library.FILE_NAME, "the one of the system": Path(library.FILE_NAME)}
+    monkeypatch.setattr(library, "_PACKAGE", package)
+    monkeypatch.setattr(library, "_loaded", Path)
+    monkeypatch.delenv(library.VARIABLE, raising=False)
+    for said in reversed(at_least(4, FOUND)):
+        [place] = [place for words, place in places.items() if said.startswith(words)]
+        if place.is_absolute():
+            place.parent.mkdir(parents=True, exist_ok=True)
+            place.touch()
+        if place.name == "named":
+            monkeypatch.setenv(library.VARIABLE, str(place))
+        assert library.open_library() == place, said
+
+
 def test_the_library_of_the_system(tmp_path):
     """A library that the system finds serves a package that has none beside it, and without one it says so."""
     shutil.copytree(PACKAGE / "superio", tmp_path / "superio", ignore=shutil.ignore_patterns("*.so.*"))

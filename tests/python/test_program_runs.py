@@ -3,9 +3,11 @@
 tests of that program by hand over this one, with `--program superio`: tests/devices/test_scripts.py, test_reading.py
 and test_failing_io.py."""
 import os
+import re
 from unittest import mock
 
 import pytest
+from documents import Document, table
 from harness import ROOT, at_least, check
 from script_tests import FURTHER_TESTS, TESTS, Script, of_documents, refused_scripts, scripts_of
 
@@ -99,6 +101,23 @@ def test_refused_memory(runs, name, replies):
     refused = {name: board.LINES[name]._replace(reply=mock.Mock(side_effect=MemoryError))}
     with mock.patch.dict(board.LINES, refused):
         assert runs.ended(f"kr 04\n{name}\nkr 04\n".encode()) == (3, replies, b"out of memory\n")
+
+
+# What is told of each status, from 0 on, in docs/SCRIPT.md and by `./shell --help`.
+TOLD = ["very line was", "bad", "failed", "emory was refused", "more than 65,536 bytes"]
+
+
+def test_statuses_that_users_read(runs):
+    """Each with what it is for, and in docs/SCRIPT.md with what is said then."""
+    scripts = LONG.script, BAD.script, b"kr 04\n" * LONGEST
+    done, bad, long = ((status, said.decode().rstrip("\n")) for status, _, said in map(runs.ended, scripts))
+    rows = table(Document("docs/SCRIPT.md").text, "Outcome | Exit status")
+    assert [(int(status), said.replace("nothing", "").strip("`")) for _, status, said in rows] == [
+        done, (bad[0], bad[1].replace("2", "n")), program.FAULT, program.MEMORY, long]
+    listed = re.findall(r"^  (\d)  (.*)$", check([ROOT / "shell", "--help"]), re.M)
+    assert [int(status) for status, _ in listed] == [*range(len(TOLD))]
+    for (told, *_), (_, listed_too), words in zip(rows, listed, TOLD):
+        assert words in told and words in listed_too, words
 
 
 def test_the_launcher_runs_the_package_beside_it(tmp_path):

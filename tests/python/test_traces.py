@@ -4,10 +4,11 @@ import io
 import lzma
 import re
 from contextlib import redirect_stderr
+from functools import lru_cache
 from xml.etree import ElementTree
 
 import pytest
-from harness import ROOT
+from harness import ROOT, at_least
 from support import run
 
 from superio.recording import entries_of, picture, replay
@@ -194,6 +195,36 @@ def test_bytes_that_linux_leaves():
     left = [len(then.call.before.serial.in_buffer) for step, then in zip(steps, steps[1:])
             if (step.call.command.values, step.call.reply) == ((2,), "c1") and then.call.answers == (True,)]
     assert left == [17] * 15
+
+
+# What pages say of each recording, in its form there: how many calls and pieces it has, and how often its kernel reads
+# the status of the controller in vain.
+SAID = at_least(9, [
+    *((recording, "examples/linux-boot/README.md", rf"^\| Size {form} ([\d,]+) calls in (\d+) pieces", "calls pieces")
+      for recording, form in ((RECORDING, r"\|"), (WITH_INPUT, r"\|[^|]*\|"))),
+    *((RECORDING, page, form, "reads") for page, form in (
+        ("docs/GUESTS.md", r"reads the status ([\d,]+) times"), ("docs/MONITOR.md", r"\[([\d,]+) reads\]"),
+        ("web/boot.mjs", r"reads the controller's status ([\d,]+) times"))),
+    *((recording, "web/boot.mjs", form, "calls") for recording, name, words in (
+        (RECORDING, "boot", r"kernel made ([\d,]+) calls"), (WITH_INPUT, "console", r"These ([\d,]+) calls were"))
+      for form in (words, rf"^  {name}: \{{\n    calls: ([\d_]+),")),
+])
+
+
+@lru_cache
+def counts_of(recording):
+    steps = steps_of(lzma.decompress(recording.read_bytes()))
+    lines = [line_of(step.call.command) for step in steps]
+    asked = lines.index("kw 04 20") if "kw 04 20" in lines else len(lines)
+    resets = lines[asked:].count("kw 04 fe")   # before each of which it reads the status once
+    return {"calls": len(steps), "pieces": steps[-1].piece, "reads": lines[asked:].count("kr 04") - resets}
+
+
+@pytest.mark.parametrize("recording, page, form, kinds", SAID, ids=lambda value: str(value)[-30:])
+def test_numbers_that_pages_say(recording, page, form, kinds):
+    said = re.search(form, (ROOT / page).read_text("utf-8"), re.M).groups()
+    counts = counts_of(recording)
+    assert [int(re.sub("[,_]", "", number)) for number in said] == [counts[kind] for kind in kinds.split()]
 
 
 @pytest.mark.parametrize("packed", [RECORDING.read_bytes()[:-100], TRACE], ids=["cut short", "not packed"])

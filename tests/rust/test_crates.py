@@ -65,6 +65,35 @@ def test_checks_of_overflow(tmp_path):
     assert Cargo(tmp_path / "checked").test() == 1
 
 
+# A crate with a test that nobody asked to leave out.
+IGNORED = "#[test]\nfn good() {}\n\n#[test]\n#[ignore]\nfn left_out() {}\n"
+
+
+def test_no_test_is_ignored(tmp_path):
+    add_crate(tmp_path / "ignored", IGNORED)
+    with pytest.raises(AssertionError, match="1 passed; 0 failed; 1 ignored"):
+        Cargo(tmp_path / "ignored").test()
+
+
+# What would compile without the attributes at the head of a crate, and why it does not: unsafe code, even where it is
+# allowed, and what a user of the crate can name and finds no word about, or cannot copy.
+REFUSED = {"/// A.\n#[allow(unsafe_code)]\npub fn a() {\n    unsafe {}\n}\n": "allow(unsafe_code) incompatible",
+           "pub fn a() {}\n": "missing documentation for a function",
+           "/// A.\npub struct A(u8);\n": "type could implement `Copy`"}
+
+
+@CRATES
+def test_what_is_refused(crate, tmp_path):
+    """docs/THREATS.md says that the crates forbid `unsafe`."""
+    cargo = copied_crate(tmp_path, crate=crate)
+    library = cargo.folder / "src" / "lib.rs"
+    text = library.read_text(encoding="utf-8")
+    for code, why in REFUSED.items():
+        library.write_text(text + code, encoding="utf-8")
+        ran = cargo.run("check")
+        assert ran.returncode and f"error: {why}" in re.sub(r"error\[\w+\]", "error", ran.stdout), ran.stdout
+
+
 @CRATES
 def test_no_warning(crate, tmp_path):
     copied_crate(tmp_path, crate=crate).check("check", RUSTFLAGS="-D warnings")

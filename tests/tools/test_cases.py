@@ -4,12 +4,15 @@ import lzma
 import re
 from itertools import product
 
+import model
 import pytest
 import script_tests
+from board import Board
+from common.facts import ERRORS, word_of
 from harness import at_least
 from made import broken_lines, every_load
-from recorded import every_answer, random_recorded
-from script import BYTES, FURTHER_LINES, LINES, call_of
+from recorded import Recorder, every_answer, random_recorded, recordings
+from script import BYTES, FURTHER_LINES, LINES, call_of, replies_of
 from script_tests import (FURTHER_TESTS, TESTS, Script, board_scripts, kept_scripts, load_scripts, made_scripts,
                           refused_scripts, scripts_of)
 from seeds import seeds
@@ -88,6 +91,36 @@ def test_broken_lines():
     """Of each line: what comes before each of its characters, and its end, with each of nine others there."""
     sizes = [len(name) + sum(1 + (4 if digits == BYTES else digits) for digits in LINES[name][1:]) for name in LINES]
     assert len([*broken_lines()]) == sum((size + 1) * 10 for size in sizes)
+
+
+def faults_of(device):
+    """What loads as a device may reply: all of the errors that such bytes can have, and that they were taken."""
+    other = "invalid armed" if device == "serial" else "too many bytes"
+    return {"ok", *(words for words in map(word_of, ERRORS) if words not in (other, "invalid flags"))}
+
+
+def test_loads_have_each_reply():
+    """Of a port and of a clock: no fault, and each that there may be."""
+    calls = [*every_load(2_000)]
+    loads = [call for call in calls if call[0] in ("load", "clock_load")]
+    replies = replies_of(Board(model), loads)
+    for name, device in ("load", "serial"), ("clock_load", "clock"):
+        found = {re.sub("(version) ..", r"\1", reply) for call, reply in zip(loads, replies) if call[0] == name}
+        assert found == faults_of(device), name
+
+
+def test_random_calls_have_each_kind():
+    """Each call of a recording, each behaviour of the objects, and each call of them."""
+    calls = [call for run in random_recorded(seeds("cases", 400)) for call in run]
+    assert {call[:2] for call in calls} == {row[:2] for text in recordings().values() for row in text.splitlines()
+                                            if " = " in row}
+    words = {word for call in calls if call[0] != "c" for word in call.split() if len(word) == 1}
+    assert words - {"-"} == {*"12nfui"} == {call[-1] for call in calls if re.fullmatch(r"sw 00 \w\w \w", call)}
+    recorder, did = Recorder(model), set()
+    for call in calls:
+        reply = recorder.make(call)
+        did |= {reply[-1]} & {*"ij"} if call[0] == "c" else {word[0] for word in recorder.did}
+    assert did == {*"TRWFboleij"}
 
 
 def test_every_answer():

@@ -24,8 +24,9 @@ BUILD = ["cargo", "rustc", "--crate-type", "cdylib", "--release", "--quiet", "--
 TESTS = ["tests/documents/test_differences.py", "tests/documents/test_registers.py",
          "tests/documents/test_saved_states.py", "tests/documents/test_tables_of_devices.py",
          "tests/tools/test_made_facts.py", "tests/python/test_boards.py", "tests/python/test_traces.py",
-         "bindings/python/tests/test_every_call.py", "-k", "documents or made_facts or test_lines or test_made or "
-         "test_syntax or kept_script or recording and console or state_goes"]
+         "bindings/python/tests/test_every_call.py", "-k",
+         "documents or made_facts or test_lines or test_made or test_syntax or kept_script or recording and console or "
+         "state_goes"]
 PATHS = "tools:tests/common:tests/devices:bindings/python"
 SCRIPTS = ("import json; from script_tests import kept_scripts, made_scripts; "
            "print(json.dumps([*kept_scripts(), *made_scripts('changes', 200)]))")

@@ -8,6 +8,7 @@ import shutil
 import signal
 import subprocess
 import sys
+from types import SimpleNamespace
 
 import common.seed
 import expanded
@@ -15,17 +16,19 @@ import monitors
 import pytest
 import rerun
 import rust2coq
+import sides
 import test_consoles
 import test_counts
 import test_files
 import test_header
 from builds import HOST, make_words, prebuilt
+from common.comparison import Comparison
 from common.seed import VARIABLE, seed
 from contracts import functions_of
 from documents import BUILT
 from generators import counts
 from generators.libraries import replace_lines
-from harness import ROOT, at_least, check, run
+from harness import LIMIT, ROOT, at_least, check, run
 from recorded import difference, recordings
 from script_tests import Script
 from seeds import random_source, seeds
@@ -65,6 +68,29 @@ def test_altered():
 def test_check_of_a_status(end):
     assert refuses(check, ["sh", "-c", f"echo a; {end}"])
     assert refuses(check, ["sh", "-c", f"echo a; {end}"], "a\n")
+
+
+def test_a_command_has_a_limit(monkeypatch):
+    """One that does not end fails its test, and holds up no run."""
+    with pytest.raises(subprocess.TimeoutExpired):
+        check(["sleep", "5"], timeout=0.1)
+    limits = []
+    monkeypatch.setattr(subprocess, "run", lambda *_, timeout=None, **options: limits.append(timeout) or
+                        subprocess.CompletedProcess([], 0, b"", b""))
+    for call in (lambda: run(["a"]), lambda: check(["a"]), lambda: sides.run("a", "")):
+        call()
+    assert limits == [LIMIT] * 3
+
+
+@pytest.mark.parametrize("end", ["exit 1", "exit 101", "kill -9 $$", "kill -ABRT $$"])
+def test_an_end_of_recorded_calls(end, tmp_path):
+    """A program that ends badly after its last reply is told, also if it did not end by itself."""
+    program = tmp_path / "program"
+    for last in ("", end):
+        program.write_text(f"#!/bin/sh\necho 'sc = 40'\n{last}\n", "ascii")
+        program.chmod(0o755)
+        made = Comparison.make(SimpleNamespace(program=program), ["sc"])
+        assert made[:1] == ["sc = 40"] and len(made) == 1 + bool(last), made
 
 
 @pytest.mark.parametrize("text", ["", "a\n", "a\nb"])
@@ -151,6 +177,20 @@ def test_a_seed_gives_the_same_in_each_process(monkeypatch):
         monkeypatch.setenv("PYTHONHASHSEED", order)
         made.append(check([sys.executable, "-c", DRAWN]))
     assert made[0] == made[1] == made[2] != made[3]
+
+
+# How a test in each language reads the seed, and the tests that say that they have one.
+READS_SEED = re.compile(r"""\b(?:process\.env\.|env::var\("|environ\.get\(")TEST_SEED\b""")
+NAMING_SEED = [path for folder in ("bindings", "rust", "tests/rust") for path in sorted((ROOT / folder).rglob("*"))
+               if path.suffix in (".mjs", ".py", ".rs") and not {*BUILT, "target"} & {*path.parts}
+               and re.search(r"\b[A-Z]+_SEED\b", path.read_text("utf-8"))]
+
+
+@pytest.mark.parametrize("path", at_least(6, NAMING_SEED), ids=lambda path: path.name)
+def test_a_seed_that_is_named_is_read(path):
+    """A comment names it too, and makes no number another."""
+    code = re.sub(r"^ *(?://|/\*\*|#|\*).*", "", path.read_text("utf-8"), flags=re.M).replace("'", '"')
+    assert READS_SEED.search(code)
 
 
 # Programs that replay calls
@@ -260,6 +300,43 @@ def test_guards_of_replay(tmp_path):
     assert ended("nothing") == 1
     for name in at_least(4, re.findall(r', "(\w+)"\);', TOUCHING)):
         assert [ended(f"{name} {side}") for side in ("before", "behind")] == [-signal.SIGSEGV] * 2, name
+
+
+# Others end the program if a struct has what SHAPE names: the header allows it, and no library of ours leaves it there.
+SHAPES = """#include <superio.h>
+#include <stdlib.h>
+#include <string.h>
+static void end_if(bool is_so, const char *name) {
+    if (is_so && strcmp(getenv("SHAPE"), name) == 0)
+        exit(9);
+}
+uint8_t __real_superio_serial_interrupts_due(const superio_serial *port);
+uint8_t __wrap_superio_serial_interrupts_due(const superio_serial *port) {
+    end_if(port->head > 0 && port->head < SUPERIO_SERIAL_FIFO_SIZE, "another place of the oldest byte");
+    end_if(port->head >= SUPERIO_SERIAL_FIFO_SIZE, "a place behind the FIFO");
+    end_if(port->len > SUPERIO_SERIAL_FIFO_SIZE, "more bytes than fit");
+    return __real_superio_serial_interrupts_due(port);
+}
+superio_rtc_read_effects __real_superio_rtc_read(superio_rtc *clock, uint16_t offset, uint64_t now);
+superio_rtc_read_effects __wrap_superio_rtc_read(superio_rtc *clock, uint16_t offset, uint64_t now) {
+    end_if(clock->armed > 1, "another number for an alarm");
+    return __real_superio_rtc_read(clock, offset, now);
+}
+"""
+
+
+@pytest.mark.needs("cc")
+def test_shapes_of_replay(tmp_path):
+    """States come in each shape that the header allows, so a library that reads one wrongly is found."""
+    (tmp_path / "shapes.c").write_text(SHAPES, "ascii")
+    wrapped = [f"-Wl,--wrap={name}" for name in re.findall(r" __wrap_(\w+)", SHAPES)]
+    check(["cc", "-I", ROOT / "bindings/c", ROOT / "tests/c/replay.c", tmp_path / "shapes.c", *wrapped, prebuilt(HOST),
+           "-o", tmp_path / "replay"], "")
+    rows = 50 * f"sl 0c000306036108b000 {64 * '61'} = ?\ncl 1 -2 3 1 0 armed = ?\ncr 3e8 0000 = ?\n"
+    for name in ("none", *at_least(4, re.findall(r', "([\w ]+)"\);', SHAPES))):
+        ran = subprocess.run([tmp_path / "replay"], input=rows, text=True, stdout=subprocess.DEVNULL,
+                             env={**os.environ, "SHAPE": name})
+        assert ran.returncode == (1 if name == "none" else 9), name
 
 
 @pytest.mark.needs("node")

@@ -10,9 +10,9 @@ import pytest
 import rerun
 from common.cargo import DROP_IN, DEVICES
 from common.comparison import COMPARISON
-from generators import counts, libraries, module
+from generators import counts, facts, interface, libraries, lines, module
 from generators.facts import MODULE
-from generators.page import PAGE
+from generators.page import MODULES, PAGE, REQUIRED
 from harness import ROOT, at_least, run
 
 sys.path.append(str(ROOT / "tests" / "page"))
@@ -85,6 +85,18 @@ def test_out_of_date(generate, monkeypatch, capfd, tmp_path, change):
     assert made(generate, monkeypatch, capfd, "--check")[0] == 0
 
 
+@pytest.mark.parametrize("late", [["copy"], ["list"], ["copy", "list"]], ids=" ".join)
+def test_check_of_steps(generate, monkeypatch, capfd, late):
+    """All that are late are named, or those of the named ones, and nothing is made."""
+    monkeypatch.setattr(generate, "is_recorded", lambda name: name not in late)
+    for words in [], ["copy"], ["list"], ["always"], ["list", "copy"]:
+        monkeypatch.setattr(sys, "argv", ["generate", "--check", *words])
+        named = [name for name in late if name in words or not words]
+        assert generate.main() == bool(named)
+        said = "".join(f"{name} is out of date: run tools/generate {name}\n" for name in named)
+        assert capfd.readouterr().out == said
+
+
 def test_faults(generate, monkeypatch, capfd, tmp_path):
     """After a step that fails or lacks its tool none is made, and none counts as made."""
     generate.STEPS["copy"] = generate.STEPS["copy"]._replace(command="cp nothing made/one")
@@ -136,6 +148,27 @@ def test_each_file_of_a_step_counts(own):
     assert [name for name in own.STEPS if own.STEPS[name].reads] == [*NAMED]
     for name, files in NAMED.items():
         assert not {file.relative_to(ROOT).as_posix() for file in {*files} - own.files_of(own.STEPS[name])}, name
+
+
+# What steps write that have no digest, and what they read that others write.
+WRITTEN = {"facts": [ROOT / name for name in facts.made(lambda name: (ROOT / name).read_text("utf-8"))],
+           "rust": sources("rust/superio/src/devices", "rust/superio/src/console"),
+           "lines": [lines.PAGE_LINES, lines.DOCUMENT],
+           "interface": [libraries.INTERFACE, interface.SYMBOLS, ROOT / "bindings/c/from-source/superio.h"],
+           "page": [PAGE, REQUIRED]}
+READ = {"rust": sources(*libraries.SOURCE_FOLDERS, ending=".rt"),
+        "lines": sources("bindings/python/superio", ending=".py"), "interface": [libraries.HEADER], "page": MODULES}
+
+
+def test_a_step_comes_after_what_it_reads(own):
+    """Else it would read what is out of date, and be out of date itself after the run."""
+    steps, order = own.STEPS, [*own.STEPS]
+    written = {name: {*own.files_of(steps[name]._replace(reads="")), *WRITTEN.get(name, ())} for name in order}
+    read = {name: {*own.files_of(steps[name]._replace(writes="")), *READ.get(name, ())} for name in order}
+    needs = [(name, other) for name in order for other in order if name != other and written[name] & read[other]]
+    assert {("facts", "rust"), ("facts", "lines"), ("facts", "interface"), ("rust", "module"), ("lines", "page"),
+            ("module", "page"), ("page", "pictures"), ("rust", "statements"), ("libraries", "counts")} <= {*needs}
+    assert [(name, other) for name, other in needs if order.index(name) > order.index(other)] == []
 
 
 def test_patterns(own):

@@ -1,8 +1,11 @@
 # SPDX-License-Identifier: Apache-2.0 OR BSD-3-Clause
 """tools/mutants, and survivors.txt: a mutant that may survive is one that the tool makes, with a reason, and at most
 three in a hundred of those of its part may. On a small sample the tool does what it says."""
+import contextlib
 import json
 import os
+import re
+import socket
 import sys
 from importlib.machinery import SourceFileLoader
 from importlib.util import module_from_spec, spec_from_loader
@@ -10,6 +13,7 @@ from pathlib import Path
 
 import pytest
 from harness import ROOT, at_least, run
+from mutation import rules
 
 
 def tool():
@@ -53,6 +57,38 @@ def test_a_line_is_turned(line, tmp_path):
     (tmp_path / "file.c").write_text(line, encoding="utf-8")
     found = [mutant.new for mutant in TOOL.mutants(tmp_path, "file.c")]
     assert set(TURNED[line]) <= set(found), found
+
+
+# Each operator with the one that it becomes, and lines of the other rules with what they become, as C or as Python.
+OPERATORS = {"==": "!=", "!=": "==", "===": "!==", "!==": "===", "<": "<=", "<=": "<", ">": ">=", ">=": ">",
+             "&&": "||", "||": "&&", "&": "|", "|": "&", "+": "-", "-": "+", "*": "/", "/": "*", "<<": ">>",
+             ">>": "<<", "+=": "-=", "-=": "+=", "|=": "&=", "&=": "|=", "and": "or", "or": "and",
+             "is not": "is", "is": "is not"}
+OTHERS = {
+    "    a = 0x1F;": "    a = (0x1F + 1);", "    a = 5u8;": "    a = (5u8 + 1);", "    a = true;": "    a = false;",
+    "    a = false;": "    a = true;", "    return True": "    return False", "    return False": "    return True",
+    "    a = !b;": "    a = b;", "    return not a": "    return a", "    a++;": "    a--;", "    a--;": "    a++;",
+    "    a = b ? c : d;": "    a = b ? d : c;", "    while (a) {": "    while (!(a)) {",
+    "    if (a) return;": "    if (!(a)) return;", "    if a {": "    if !(a) {", "    if a:": "    if not (a):",
+    "    elif a:": "    elif not (a):", "    while a:": "    while not (a):",
+    "    return a if b else c": "    return a if not (b) else c", "        0 => a,": "        0 => {},",
+    "    a(b);": "    ;", "    a(b)": "    pass",
+}
+EACH_RULE = {**{f"    a = b {one} c;": f"    a = b {other} c;" for one, other in OPERATORS.items()}, **OTHERS}
+
+
+@pytest.mark.parametrize("line", EACH_RULE)
+def test_each_rule_turns_a_line(line, tmp_path):
+    made = []
+    for name in ("file.c", "file.py"):
+        (tmp_path / name).write_text(line, encoding="utf-8")
+        made += [mutant.new for mutant in TOOL.mutants(tmp_path, name)]
+    assert EACH_RULE[line] in made
+
+
+@pytest.mark.parametrize("rule", [*rules.RULES, *rules.STATEMENTS, *rules.PYTHON_STATEMENTS], ids=lambda rule: rule[0])
+def test_each_rule_has_a_line(rule):
+    assert any(re.search(rule[0], line) for line in EACH_RULE)
 
 
 # Words that the tool refuses, and how it ends.
@@ -205,11 +241,40 @@ def test_a_command_can_do_no_harm(tmp_path):
     assert copy.run(f"echo > here; echo > {outside}; cp here file && mv -f file /dev/full") != "late"
     assert (copy.folder / "here").exists() and not outside.exists() and TOOL.LISTED.stat().st_size > 1
     assert Path("/dev/full").is_char_device() and copy.run(f"! echo > {TOOL.LISTED}") == "passed"
+    with socket.create_server(("127.0.0.1", 0)) as server:
+        assert copy.run(f"! echo > /dev/tcp/127.0.0.1/{server.getsockname()[1]}") == "passed", "it has no network"
+    assert copy.run(f"! kill -0 {os.getpid()}") == "passed", "it sees no process of others"
     assert copy.run("sleep 1000 & sleep 1000", seconds=1) == "late"
     assert copy.run("while :; do :; done", processor=1) == "failed"
     assert [copy.run(f"truncate -s {size}M file") for size in (150, 250)] == ["passed", "failed"]
     assert [copy.run("/usr/bin/python3 -c 'bytes(600_000_000)'", *limit) for limit in ([], [1_000_000], [500_000])] == [
         "passed", "passed", "failed"]
+
+
+class Recording:
+    """A copy in which each command passes, and is noted with its limits."""
+
+    def __init__(self, folder):
+        self.folder, self.ran = folder, []
+
+    def changed(self, mutant):
+        return contextlib.nullcontext()
+
+    def run(self, command, memory="unlimited", *limits):
+        self.ran.append((command, memory, limits))
+        return "passed"
+
+
+def test_each_command_of_a_mutant_has_its_limits(tmp_path):
+    """Those of its part in memory, and those of its tests in time. Tests that do not reach its line come too."""
+    part = TOOL.Part("a.c", ["compile {file}"], ["one", "other"], memory=1234)
+    tests = [TOOL.Test(name, "", 1, 1, {"a.c": {1: name == "one"}}) for name in part.tests]
+    reach, copy = TOOL.Reach(tests), Recording(tmp_path)
+    assert TOOL.end_of(TOOL.Mutant("a.c", 0, "", ""), part, reach, copy) == "survive"
+    assert [(command, memory) for command, memory, _ in copy.ran] == [
+        ("compile a.c", 1234), ("one", 1234), ("other", 1234)]
+    assert [limits for *_, limits in copy.ran] == [
+        (300,), *(tuple(limits) for test in tests for _, *limits in reach.commands([test]))]
 
 
 def test_the_fastest_tests_that_reach_a_line_come_first():

@@ -7,12 +7,14 @@ import platform
 import re
 import shutil
 import sys
+from functools import lru_cache
+from glob import glob
 
 import pytest
 import toolchains
 from common.requirements import TOOLS, is_there
 from documents import documents
-from harness import ROOT, at_least, check
+from harness import ROOT, at_least, check, run
 from places import PLACES, is_place
 
 sys.path.append(str(ROOT / "tests" / "guests"))
@@ -161,6 +163,32 @@ def test_what_runs_a_tool_is_needed_with_it(tool):
     """So npm without Node names Node's package. Debian always has the other interpreters."""
     there = [what for what in TOOLS[tool] if what[0] != "/" and " " not in what and shutil.which(what)]
     assert {interpreter(command) for command in there} <= {None, "sh", "bash", "perl", "python3", *TOOLS[tool]}
+
+
+@lru_cache(maxsize=None)
+def told_by_dpkg(*words):
+    return run(["dpkg-query", *words]).stdout
+
+
+def is_of_a_package(what):
+    """Whether what a tool needs is there, and is a file of a package of Debian's."""
+    if what.startswith("import "):
+        module = what.removeprefix("import ").split(", ")[0]
+        path = run(["/usr/bin/python3", "-c", f"import {module}; print({module}.__file__)"]).stdout.strip()
+    else:
+        path = next(iter(glob(what)), None) if what.startswith("/") else shutil.which(what)
+    return bool(path) and re.search(rf"^\S+: {re.escape(path)}$", told_by_dpkg("--search", path), re.M) is not None
+
+
+@pytest.mark.parametrize("tool", TOOLS)
+def test_a_tool_comes_with_its_package(tool):
+    """Where a package has put what a tool needs, the packages that are named for it are there, or another in their
+    place. One of another architecture is only unpacked."""
+    said = told_by_dpkg("--showformat=${Package}, ${Provides}\n", "--show")
+    here = {name.split(" ")[0] for name in re.split(", |\n", said)}
+    for what, packages in TOOLS[tool].items():
+        if is_of_a_package(what):
+            assert not {package for package in packages.split() if ":" not in package} - here, what
 
 
 @pytest.mark.parametrize("line, is_found", [("import os", True), ("import os; assert False", False),

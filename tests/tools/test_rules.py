@@ -180,6 +180,23 @@ def test_a_failure_names_the_seed(tmp_path):
     assert ["TEST_SEED=0, " in text for text in said] == [False, True], said
 
 
+# What each kind of search draws in a test.
+DRAWS = {"hypothesis": "from hypothesis import given, strategies\n@given(strategies.integers())\n"
+                       "def test(number): print(number)",
+         "seeds": "from seeds import random_source, seeds\n"
+                  "def test(): print(seeds('a', 2), random_source('a').random())"}
+
+
+@pytest.mark.parametrize("kind", DRAWS)
+def test_a_search_is_that_of_its_seed(kind, tmp_path):
+    """So a failure comes again, and another commit searches elsewhere."""
+    write_tests(tmp_path, DRAWS[kind])
+    said = [run([sys.executable, "-m", "pytest", "tests", "-s", "-q"], cwd=tmp_path,
+                env={"PATH": "/nowhere", "TEST_SEED": number}).stdout.rpartition("\n1 passed")[0]
+            for number in ("1", "1", "2")]
+    assert said[0] == said[1] != said[2] and all(said), said
+
+
 def test_an_unknown_tool_is_refused(tmp_path):
     ran = run_pytest(tmp_path, RUN + "pass", "--without=nod")
     assert ran.returncode != 0 and "there is no tool nod" in ran.stdout

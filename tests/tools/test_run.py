@@ -27,13 +27,14 @@ exit {1}
 @pytest.fixture
 def call(tmp_path):
     """Runs a script through a program that writes what it reads into a file, replies this, and ends so."""
-    def call(script, replies, *words, status=0):
+    def call(script, replies, *words, status=0, is_file=True):
         (tmp_path / "script").write_text(script, "ascii")
         (tmp_path / "replies").write_text(replies, "ascii")
         (tmp_path / "rt").write_text(KIT.format(tmp_path, status), "ascii")
         (tmp_path / "rt").chmod(0o755)
         path = f"{tmp_path}:{os.environ['PATH']}"
-        ran = run([ROOT / "tools/run", "--unproved", *words], env={**os.environ, "PATH": path})
+        given = {} if is_file else {"input": script}
+        ran = run([ROOT / "tools/run", "--unproved", *words], env={**os.environ, "PATH": path}, **given)
         return ran.returncode, ran.stdout, (tmp_path / "read").read_text("ascii")
     return call
 
@@ -51,6 +52,12 @@ def test_beside(name, call, tmp_path):
 def test_without_lines_beside_it(call, tmp_path):
     found = call("sr 05\n", "60\n", tmp_path / "script", status=4)
     assert found == (4, f"try in {ROOT}/crates/superio\n60\n", "sr 05\n")
+
+
+@pytest.mark.parametrize("words, shown", [([], "60"), (["--beside"], f"{'sr 05':35}  60")], ids=["", "--beside"])
+def test_a_script_from_standard_input(words, shown, call):
+    assert call("sr 05\n", "60\n", *words, status=4, is_file=False) == (
+        4, f"try in {ROOT}/crates/superio\n{shown}\n", "sr 05\n")
 
 
 def test_no_script_and_no_kit(tmp_path):

@@ -8,6 +8,7 @@ import assert from "node:assert/strict";
 import test from "node:test";
 import { Board, LINES, bytesOf, hex, hexOf, parse, programLines, runScript, syntaxOf } from "../../../web/board.mjs";
 import { Boot } from "../../../web/boot.mjs";
+import { CLOCK, DLAB, SERIAL } from "../registers.mjs";
 import { Rtc, Serial } from "../superio.mjs";
 import {
   CONDITIONS, dateOf, lineFormat, plural, quoted, ruleOf, short, shownRegisters, storyOf, told,
@@ -347,6 +348,65 @@ test("each access in words, and its rule", () => {
   for (const [lines, words, sentence, heading] of rows) {
     const [text, rule, place] = toldOf(...lines.split(";"));
     assert.deepEqual([text, rule.slice(0, sentence.length), place], [words, sentence, heading], lines);
+  }
+});
+
+/** The bits of a number, the lowest first. */
+const bitsOf = (value) => Array.from({ length: 32 }, (_, place) => 2 ** place).filter((bit) => (value & bit) !== 0);
+
+/** The numbers that the rule of the last of some lines says, by what the devices do. Other rules have none. */
+function numbersOf() {
+  const bit = (register, name) => SERIAL[register].bits.find(([, one]) => one === name)[0];
+  const last = (lines) => callsOf(lines.split(";")).pop();
+  const LSR = ["sr 05", "sq 61;sr 05", "sw 05 00;sr 05", "sw 00 41;sr 05", "sw 04 10;sw 00 41;sr 05"];
+  const shown = LSR.map((lines) => parseInt(last(lines).reply, 16));
+  const all = Array.from({ length: 256 }, (_, value) => value);
+  const moment = "0000000000000005";
+  const loaded = (value) => last(`cw ${moment} 0008 00000064;cw ${moment} 000c ${hex(value, 8)}`).after.clock.state;
+  const masked = last(`cw ${moment} 0010 ffffffff`).after.clock.state.imsc;
+  const { ris } = last(`cw ${moment} 0004 00000005`).after.clock.state;
+  const resets = all.flatMap((offset) => all.map((value) => [value, offset]))
+    .filter(([value, offset]) => LINES.kw.reply(null, offset, value) === "reset");
+  return new Map([
+    ["sr 00", [parseInt(last("sr 00").reply, 16)]], ["sr 08", [parseInt(last("sr 08").reply, 16)]],
+    ["sr 05", [bit("LSR", "DR"), ...bitsOf(shown.reduce((first, other) => first & other))]],
+    ["sr 04", [bit("MCR", "LOOP")]], ["sw 04 00", [bit("MCR", "LOOP")]],
+    ["sw 03 00", [DLAB, SERIAL.DLL.offset, SERIAL.DLM.offset]],
+    ["cr 0000000000000005 000c", all.filter((value) => loaded(value).lr === 0)],
+    ["cr 0000000000000005 0010", bitsOf(masked).map(Math.log2)],
+    ["cr 0000000000000005 0014", bitsOf(ris).map(Math.log2)], ["cr 0000000000000005 0018", bitsOf(ris).map(Math.log2)],
+    ["kr 04", [...new Set(all.map((offset) => parseInt(LINES.kr.reply(null, offset), 16)))]],
+    ["kw 04 fe", resets.flat()],
+  ]);
+}
+
+test("the numbers in a rule are those of what the devices do", () => {
+  const known = numbersOf();
+  const offsets = Array.from({ length: 9 }, (_, offset) => hex(offset, 2));
+  const others = Object.keys(SYNTAX).filter((name) => !/^[sck][rw]$|^refuse$/.test(name));
+  const lines = [...known.keys(), ...others, ...offsets.flatMap((offset) => [`sr ${offset}`, `sw ${offset} 00`]),
+    "sw 03 80;sw 00 00", "sw 03 80;sw 01 00", "sw 04 10;sw 00 41",
+    ...Object.values(CLOCK).map(({ offset }) => `cr 0000000000000005 ${hex(offset, 4)}`)];
+  for (const one of lines) {
+    const rule = toldOf(...one.split(";"))[1];
+    const numbers = Array.from(rule.matchAll(/\b(?:0x[0-9A-Fa-f]+|\d+)\b/g), ([number]) => Number(number));
+    assert.deepEqual(numbers, known.get(one) ?? [], `${one}: ${rule}`);
+  }
+});
+
+test("a rule says which condition a call raises or acknowledges", () => {
+  const pending = ({ serial }) => CONDITIONS.filter(([, bit]) => serial.state.interruptIdentification & bit)
+    .map(([name]) => name);
+  const both = savedPort(3, 6);
+  for (const lines of ["sw 01 03;sr 02;sw 00 41", "sw 01 03;sr 02;sw 04 10;sw 00 41", "sw 01 03;sr 02;sq 61",
+    "sw 01 01;sq 6161;sr 02;si", `${both};sr 00`, `${both};sr 02`, `${both};sr 05`, `${both};sr 06`, `${both};sr 07`]) {
+    const { before, after } = callsOf(lines.split(";")).pop();
+    const [is, was] = [pending(after), pending(before)];
+    const rule = toldOf(...lines.split(";"))[1];
+    const raised = Array.from(rule.matchAll(/raises? (RDA|THRE)|(RDA|THRE) is raised/g), ([, ...one]) => one.join(""));
+    const ended = /acknowledges (RDA|THRE|both)/.exec(rule)?.[1] ?? "";
+    assert.deepEqual(raised, is.filter((name) => !was.includes(name)), rule);
+    assert.deepEqual(ended === "both" ? was : [ended].filter(Boolean), was.filter((name) => !is.includes(name)), rule);
   }
 });
 

@@ -443,6 +443,33 @@ class Words(FolderTest):
             self.assertIn(f"\n  {row}", listed)
         self.assertTrue(listed.endswith("\nhelp NAME says more. Ctrl-C drops a line, Ctrl-D ends."))
 
+    def test_what_help_says_can_be_typed(self):
+        """Its examples are lines, what it calls a single byte is one, and no line takes more or less than its numbers
+        say."""
+        self.afresh()
+        counted = {"type": "x", "sq": "00", "sl": "00", "cl": "00"}
+        examples, ranges = [], []
+        for name, entry in self.session.help.items():
+            text = f"{entry.about}. {entry.more}"
+            ranges += [(name, int(least), int(most)) for least, most in re.findall(r"\b(\d+) to (\d+)\b", text)]
+            if " " in entry.usage and (entry.means or name in LINES):
+                examples += re.findall(rf"\b{name} [^\s,:.]+(?: (?!(?:is|was|has|resets)\b)[^\s,:.]+)*", text)
+        self.assertGreaterEqual(len(examples), 9)
+        for line in examples:
+            self.said(line)
+        self.assertLessEqual({"read", *counted}, {name for name, *_ in ranges})
+        for name, least, most in ranges:
+            for number in (least - 1, least, most, most + 1):
+                line = f"{name} {counted[name] * number if name in counted else number}"
+                with self.subTest(line[:30], number=number):
+                    if least <= number <= most:
+                        self.said(line)
+                    elif number >= 0 or name not in counted:
+                        self.assertRaises(ScriptError, self.said, line)
+        escapes = re.search(r"In quotes (.*) are single bytes", self.session.help["type"].more)[1]
+        for escape in re.split(", | and ", escapes):
+            self.assertEqual(1, len(characters(f'"{escape}"')), escape)
+
     def test_a_file_is_whole_on_the_disk_before_it_has_its_name(self):
         self.path.write_text("what was there")
         seen = []
