@@ -217,6 +217,7 @@ fn a_reset_keeps_what_is_the_monitors() {
     let mut console = Console::new(true);
     let _ = (console.write(IER, 0x01), console.write(DATA, b'o'), console.receive(b"in"), console.refuse());
     console.suspend();
+    assert_eq!([console.is_ready, console.is_asleep], [0, 1]); // and so it is saved
     console.dropped = 3;
     let work = console.reset();
     assert_eq!(work, Work { interrupts: 0, is_up: false, wakes: true }); // for input
