@@ -1,19 +1,22 @@
 # SPDX-License-Identifier: Apache-2.0 OR BSD-3-Clause
 """tools/mutants, and survivors.txt: a mutant that may survive is one that the tool makes, with a reason, and at most
 three in a hundred of those of its part may. On a small sample the tool does what it says."""
-import contextlib
 import json
 import os
 import re
 import socket
 import sys
+from contextlib import nullcontext
 from importlib.machinery import SourceFileLoader
 from importlib.util import module_from_spec, spec_from_loader
 from pathlib import Path
+from types import SimpleNamespace
 
 import pytest
+from generators import facts, lines
 from harness import ROOT, at_least, run
 from mutation import rules
+from mutation.copies import Ended
 
 
 def tool():
@@ -37,7 +40,7 @@ def test_a_survivor_is_a_mutant_and_has_a_reason(entry):
 
 @pytest.mark.parametrize("part", TOOL.PARTS)
 def test_few_survive(part):
-    files = [path.relative_to(ROOT).as_posix() for path in ROOT.glob(TOOL.PARTS[part].files)]
+    files = TOOL.files_of(TOOL.PARTS[part])
     made = at_least(30, [mutant for file in files for mutant in TOOL.mutants(ROOT, file)])
     assert sum(entry.split("\n")[0] in files for entry in ENTRIES) <= MOST * max(1, len(made) / 100)
 
@@ -161,11 +164,30 @@ def test_each_part_counts(counts, monkeypatch):
     """Also one before the last that survives, whether the parts are named or all are tried."""
     parts = {f"part {place}": count for place, count in enumerate(counts)}
     monkeypatch.setattr(TOOL, "PARTS", parts)
-    monkeypatch.setattr(TOOL, "Copies", lambda *given: given)
-    monkeypatch.setattr(TOOL, "unlisted", lambda name, every, copies: parts[name])
+    monkeypatch.setattr(TOOL, "Copies", lambda *given: nullcontext())
+    monkeypatch.setattr(TOOL, "tried", lambda name, every, copies: iter([None, parts[name]]))
     for names, total in ([], sum(counts)), ([*parts], sum(counts)), (["part 0"], counts[0]):
         monkeypatch.setattr(sys, "argv", ["mutants", *names])
         assert TOOL.main() == (f"{total} survivors are not in tests/tools/survivors.txt" if total else 0)
+
+
+def test_all_parts_are_in_one_queue(monkeypatch, capsys):
+    """Each step of all is asked for before the next one of any, so that none waits for the end of another."""
+    asked = []
+
+    def asked_for(_, items):
+        asked.append(items)
+        return iter([[TOOL.Test(items[0].files, "")]] if isinstance(items[0], TOOL.Part) else
+                    items if isinstance(items[0], TOOL.Test) else [("killed", 1.0)])
+    parts = {name: TOOL.Part(name, [], []) for name in ("one", "two")}
+    monkeypatch.setattr(TOOL, "PARTS", parts)
+    monkeypatch.setattr(TOOL, "files_of", lambda part: [part.files])
+    monkeypatch.setattr(TOOL, "mutants", lambda root, file: [file])
+    monkeypatch.setattr(TOOL, "Copies", lambda *given: nullcontext(SimpleNamespace(map=asked_for)))
+    monkeypatch.setattr(sys, "argv", ["mutants"])
+    assert TOOL.main() == 0 and capsys.readouterr().out.count("1 killed, 0 survive") == 2
+    assert asked == [*([part] for part in parts.values()), *([TOOL.Test(name, "")] for name in parts),
+                     *([name] for name in parts)]
 
 
 @pytest.mark.needs("mutants", "pytest")
@@ -200,7 +222,10 @@ REACHED = {
              "cc sample.c -o sample && ./sample", {3: True, 4: True, 5: False, 6: True}),
     "node": ("sample.mjs", "const a = 1;\nif (a > 1) {\n  a.b();\n}\nfunction none() {\n  return 1;\n}\n",
              "node sample.mjs", {1: True, 2: True, 3: False, 6: False}),
-    "python": ("sample.py", "a = 1\nif a > 1:\n    a = 2\nassert a == 1\n",
+    # A part of it has no file, and another Python no coverage.
+    "python": ("sample.py", "a = 1\nif a > 1:\n    a = 2\nexec(compile('a + 1', 'none.py', 'exec'))\n",
+               "mkdir -p other; echo raise ImportError > other/coverage.py; "
+               "! PYTHONPATH=other /usr/bin/python3 -c 0 2>&1 | grep . && "
                "/usr/bin/python3 -c 'import subprocess, sys; subprocess.run([sys.executable, \"sample.py\"])'",
                {1: True, 2: True, 3: False, 4: True}),
 }
@@ -214,9 +239,9 @@ def test_lines_that_are_reached(language, tmp_path):
     (tmp_path / "code" / name).write_text(text, encoding="utf-8")
     copy = TOOL.Copy(tmp_path / "code", tmp_path / "copy")
     [test] = TOOL.split(command, copy, False)
-    found = TOOL.measured(test, copy, language, [name], "unlimited").lines[name]
+    found = TOOL.measured(test, copy, language, [name], None).lines[name]
     assert {line: found[line] for line in lines} == lines
-    assert TOOL.measured(test._replace(command="false"), copy, language, [name], "unlimited") is None
+    assert TOOL.measured(test._replace(command="false"), copy, language, [name], None) is None
 
 
 def test_lines_of_a_script_that_a_page_made(tmp_path):
@@ -232,23 +257,100 @@ def test_lines_of_a_script_that_a_page_made(tmp_path):
     assert found["code.mjs"] == {2: True, 3: True, 4: False, 5: False, 6: False}
 
 
-@pytest.mark.needs("mutants")
-def test_a_command_can_do_no_harm(tmp_path):
-    """It writes into its copy alone, even a super-user's, and has an end."""
+@pytest.fixture
+def copy(tmp_path):
     (tmp_path / "code").mkdir()
-    copy = TOOL.Copy(tmp_path / "code", tmp_path / "copy")
+    return TOOL.Copy(tmp_path / "code", tmp_path / "copy")
+
+
+def test_a_mutant_leaves_nothing(copy):
+    """Neither in its file nor in what is made of that."""
+    for name in "file", "made", "other":
+        (copy.folder / name).write_text("one\ntwo\n", "ascii")
+    with copy.changed(TOOL.Mutant("file", 1, "two", "three"), ["made"]):
+        assert (copy.folder / "file").read_text("ascii") == "one\nthree\n"
+        for name in "made", "other":
+            (copy.folder / name).write_text("another", "ascii")
+    assert [(copy.folder / name).read_text("ascii") for name in ("file", "made", "other")] == [
+        "one\ntwo\n", "one\ntwo\n", "another"]
+
+
+@pytest.mark.needs("mutants")
+def test_a_command_can_do_no_harm(copy, tmp_path):
+    """It writes into its copy alone, even a super-user's, has an end, and leaves nothing to the next one."""
     outside = tmp_path / "outside"
-    assert copy.run(f"echo > here; echo > {outside}; cp here file && mv -f file /dev/full") != "late"
+    assert copy.run(f"echo > here; echo > {outside}; cp here file && mv -f file /dev/full").how != "late"
     assert (copy.folder / "here").exists() and not outside.exists() and TOOL.LISTED.stat().st_size > 1
-    assert Path("/dev/full").is_char_device() and copy.run(f"! echo > {TOOL.LISTED}") == "passed"
+    assert Path("/dev/full").is_char_device() and copy.run(f"! echo > {TOOL.LISTED}").how == "passed"
     with socket.create_server(("127.0.0.1", 0)) as server:
-        assert copy.run(f"! echo > /dev/tcp/127.0.0.1/{server.getsockname()[1]}") == "passed", "it has no network"
-    assert copy.run(f"! kill -0 {os.getpid()}") == "passed", "it sees no process of others"
-    assert copy.run("sleep 1000 & sleep 1000", seconds=1) == "late"
-    assert copy.run("while :; do :; done", processor=1) == "failed"
-    assert [copy.run(f"truncate -s {size}M file") for size in (150, 250)] == ["passed", "failed"]
-    assert [copy.run("/usr/bin/python3 -c 'bytes(600_000_000)'", *limit) for limit in ([], [1_000_000], [500_000])] == [
-        "passed", "passed", "failed"]
+        no_network = copy.run(f"! echo > /dev/tcp/127.0.0.1/{server.getsockname()[1]}")
+    assert no_network.how == "passed"
+    assert copy.run(f"! kill -0 {os.getpid()}").how == "passed", "it sees no process of others"
+    assert [copy.run(f"truncate -s {size}M file").how for size in (150, 250)] == ["passed", "failed"]
+    assert [copy.run("/usr/bin/python3 -c 'bytes(600_000_000)'", *limit).how
+            for limit in ([], [1_000_000], [500_000])] == ["passed", "passed", "failed"]
+    assert copy.run("setsid sleep 1000 & mkdir /tmp/left; echo > /tmp/left/file; echo > /dev/shm/left").how == "passed"
+    assert copy.run("! pgrep sleep && test ! -e /tmp/left -a ! -e /dev/shm/left -a -e here").how == "passed"
+    assert [copy.run(command).how for command in ("kill -9 $PPID", "true")] == ["failed", "passed"]
+
+
+# Commands that have no end, and the seconds that they get, of time and of a processor: each is late for another reason.
+ENDLESS = {"sleep 1000 & while :; do sleep 0.1; done": (1, 1000), "while :; do :; done": (1000, 1),
+           "for place in 1 2 3; do while :; do :; done & done; wait": (1000, 1), "read < <(sleep 1000)": (1000, 1000)}
+
+
+@pytest.mark.needs("mutants")
+@pytest.mark.parametrize("command", ENDLESS)
+def test_a_command_has_an_end(copy, command):
+    assert copy.run(command, None, *ENDLESS[command]).how == "late"
+
+
+@pytest.mark.needs("mutants", "pytest")
+def test_words_of_pytest(copy, monkeypatch):
+    """Each run finds the code as it is then, and tells what has failed, or what it has found, and what it took."""
+    monkeypatch.setenv("PYTEST_DISABLE_PLUGIN_AUTOLOAD", "1")
+    test = "import code_of\n\ndef test_it():\n    assert code_of.sum_of(range({})) {}\n"
+    for value, how in ((1, "failed"), (2, "passed"), (3, "failed")):
+        (copy.folder / "code_of.py").write_text(f"def sum_of(numbers):\n    return {value}\n", "ascii")
+        (copy.folder / "test_one.py").write_text(test.format("5", "== 2"), "ascii")
+        assert copy.run(f"{TOOL.PYTEST} -p no:cacheprovider test_one.py")[::2] == (
+            how, ["test_one.py::test_it"] if how == "failed" else [])
+    found = copy.run(f"{TOOL.PYTEST} test_one.py --collect-only")
+    assert found.tests == ["test_one.py::test_it"] and 0.01 < found.processor < 60
+
+
+@pytest.mark.needs("mutants", "cc")
+def test_an_object_is_made_once(copy):
+    """Of a program only the source that has changed is compiled, by itself or by a header; each program is as by the
+    compiler, and so is what that says."""
+    def write(name, text):
+        (copy.folder / name).write_text(text, "ascii")
+
+    def is_built(words="main.c other.c", number=1):
+        return copy.run(f"cc -Wall -Werror {words} -o program && test $(./program) = {number}").how == "passed"
+
+    def made():
+        return {path.name for path in (copy.folder / "compilers" / "objects").glob("*.o")}
+    write("main.c", "#include <stdio.h>\nint other(void);\nint main(void) { printf(\"%d\", other()); }\n")
+    write("other.c", "#include \"other.h\"\nint other(void) { return VALUE; }\n")
+    write("other.h", "#define VALUE 1\n")
+    assert is_built() and len(made()) == 2
+    assert is_built() and len(made()) == 2
+    write("other.h", "#define VALUE 2\n")
+    assert is_built(number=2) and len(made()) == 3
+    write("other.c", "int other(void) { return 3; }\n")
+    assert is_built(number=3) and is_built("-O2 -xc main.c other.c -xnone -lm", 3) and len(made()) == 6
+    write("other.c", "int other(void) { int unused; return 3; }\n")
+    assert not is_built() and is_built("-Wno-error main.c other.c", 3) and len(made()) == 7
+    assert copy.run("test \"$(cc -Wall main.c other.c -o program 2>&1 | grep -c unused)\" -gt 0").how == "passed"
+
+
+def a_test(name, seconds, reaches=True, command="run"):
+    return TOOL.Test(command, name, seconds, seconds / 2, {"a.c": {3: reaches, 5: False}})
+
+
+def named(commands):
+    return [[test.name for test in tests] for tests, *_ in commands]
 
 
 class Recording:
@@ -257,12 +359,12 @@ class Recording:
     def __init__(self, folder):
         self.folder, self.ran = folder, []
 
-    def changed(self, mutant):
-        return contextlib.nullcontext()
+    def changed(self, mutant, made):
+        return nullcontext()
 
-    def run(self, command, memory="unlimited", *limits):
+    def run(self, command, memory=None, *limits):
         self.ran.append((command, memory, limits))
-        return "passed"
+        return Ended("passed", 1)
 
 
 def test_each_command_of_a_mutant_has_its_limits(tmp_path):
@@ -270,20 +372,55 @@ def test_each_command_of_a_mutant_has_its_limits(tmp_path):
     part = TOOL.Part("a.c", ["compile {file}"], ["one", "other"], memory=1234)
     tests = [TOOL.Test(name, "", 1, 1, {"a.c": {1: name == "one"}}) for name in part.tests]
     reach, copy = TOOL.Reach(tests), Recording(tmp_path)
-    assert TOOL.end_of(TOOL.Mutant("a.c", 0, "", ""), part, reach, copy) == "survive"
+    mutant = TOOL.Mutant("a.c", 0, "", "")
+    assert TOOL.end_of(mutant, part, reach, copy) == ("survive", 3)
     assert [(command, memory) for command, memory, _ in copy.ran] == [
         ("compile a.c", 1234), ("one", 1234), ("other", 1234)]
     assert [limits for *_, limits in copy.ran] == [
-        (300,), *(tuple(limits) for test in tests for _, *limits in reach.commands([test]))]
+        (300,), *(tuple(limits) for test in tests for _, *limits in reach.commands(mutant, [test]))]
 
 
 def test_the_fastest_tests_that_reach_a_line_come_first():
-    def test(name, seconds, reaches):
-        return TOOL.Test("run", name, seconds, seconds / 2, {"a.c": {3: reaches, 5: False}})
-    reach = TOOL.Reach([test("slow", 41, True), test("other", 2, False), test("quick", 1, True), test("good", 2, True)])
-    reaching, others = reach.of(TOOL.Mutant("a.c", 3, "", ""))   # in the statement that begins in line 3
-    assert [[each_test.name for each_test in some] for some in (reaching, others)] == [
-        ["quick", "good", "slow"], ["other"]]
-    assert [*reach.commands(reaching)] == [("run quick good", 90, 28), ("run slow", 675, 122)]
+    reach = TOOL.Reach([a_test("slow", 41), a_test("other", 2, False), a_test("quick", 1), a_test("good", 2)])
+    mutant = TOOL.Mutant("a.c", 3, "", "")   # in the statement that begins in line 3
+    reaching, others = reach.of(mutant)
+    assert [[test.name for test in some] for some in (reaching, others)] == [["quick", "good", "slow"], ["other"]]
+    commands = [*reach.commands(mutant, reaching)]
+    assert named(commands) == [["quick", "good"], ["slow"]]
+    assert [limits for _, *limits in commands] == [[60, 8], [645, 86]]
     assert reach.of(TOOL.Mutant("a.c", 4, "", ""))[0] == []
     assert len(reach.of(TOOL.Mutant("b.c", 4, "", ""))[1]) == 4
+
+
+def test_what_refused_the_nearest_mutants_comes_first():
+    """Two tests, if they reach the line: each in a case, or a whole command. Then comes what refused most for what it
+    takes."""
+    tests = {test.name: test for test in [a_test("slow", 41), a_test("off", 3, False), a_test("quick", 1),
+                                          a_test("good", 2), a_test("", 9, command="go")]}
+    reach = TOOL.Reach(tests.values())
+    for number, name, told in ((9, "quick", ["quick[a case]"]), (5, "slow", ["slow"]), (2, "off", ["off"]), (1, "", []),
+                               (6, "good", [])):
+        reach.note(TOOL.Mutant("a.c", number, "", ""), [tests[name]], told)
+    reaching = reach.of(TOOL.Mutant("a.c", 3, "", ""))[0]
+
+    def first(file, number):
+        return named(reach.commands(TOOL.Mutant(file, number, "", ""), reaching))[:2]
+    assert [first("a.c", 3), first("a.c", 8)] == [[["slow"], [""]], [["quick", "slow"], ["good"]]]
+    assert first("b.c", 8) == [["quick", "good"], [""]]
+    for _ in range(20):
+        reach.note(TOOL.Mutant("a.c", 9, "", ""), [tests["slow"]], ["slow"])
+    assert first("b.c", 8) == [["quick"], ["slow"]]
+
+
+def test_tests_of_a_file_stand_together():
+    assert TOOL.joined([a_test(name, 1) for name in ("a::one", "b::two", "a::a case [1]")]) == (
+        "run a::one 'a::a case [1]' b::two")
+
+
+def test_made_files_have_no_mutants():
+    """No file of a part is left out, but those that are as they are made."""
+    left_out = {path.relative_to(ROOT).as_posix() for part in TOOL.PARTS.values() for path in ROOT.glob(part.files)} - {
+        file for part in TOOL.PARTS.values() for file in TOOL.files_of(part)}
+    made = {facts.MODULE: facts.made(lambda name: (ROOT / name).read_text("utf-8"))[facts.MODULE],
+            lines.PAGE_LINES.relative_to(ROOT).as_posix(): lines.for_page()}
+    assert {file: (ROOT / file).read_text("utf-8") for file in left_out} == made

@@ -67,12 +67,17 @@ def packed(source):
 
 
 def unpacked(page):
-    """What a page has packed, by the name of its element. zlib's versions do not pack alike."""
+    """What a page has packed, by the name of its element."""
     return {name: zlib.decompress(base64.b64decode(text)) for _, name, text in PACKED.findall(page)}
 
 
+def with_parts(page, parts):
+    """A page with these parts. One that it has stays as it is packed, since zlib's versions do not pack alike."""
+    kept = unpacked(page)
+    return PACKED.sub(lambda found: found[0] if kept[found[2]] == parts[found[2]] else
+                      found[1] + packed(parts[found[2]]), page)
+
+
 if __name__ == "__main__":
-    parts = sources()
-    page = PACKED.sub(lambda found: found[1] + packed(parts[found[2]]), PAGE.read_text(encoding="utf-8"))
-    PAGE.write_text(page, encoding="utf-8")
+    PAGE.write_text(with_parts(PAGE.read_text(encoding="utf-8"), sources()), encoding="utf-8")
     REQUIRED.write_text(required(), encoding="utf-8")

@@ -1,10 +1,15 @@
 # SPDX-License-Identifier: Apache-2.0 OR BSD-3-Clause
 """Copies of the repository, in which a mutant can do no harm."""
+import json
+import os
 import shutil
 import subprocess
 from concurrent.futures import ThreadPoolExecutor
 from contextlib import contextmanager
+from pathlib import Path
 from queue import Queue
+from shlex import split
+from typing import NamedTuple
 
 from common.cargo import Cargo
 
@@ -12,41 +17,65 @@ IGNORED = shutil.ignore_patterns(".git", "out", "target", "node_modules", "__pyc
 # No command writes outside its copy: /dev and /tmp are its own. It has no network, and what it starts ends with it.
 SANDBOX = ["bwrap", "--ro-bind", "/", "/", "--dev", "/dev", "--dev-bind-try", "/dev/kvm", "/dev/kvm", "--proc", "/proc",
            "--tmpfs", "/tmp", "--unshare-pid", "--unshare-net", "--die-with-parent", "--new-session"]
+RUNNER = ["/usr/bin/python3", "-c", Path(__file__).with_name("runner.py").read_text(encoding="utf-8")]
+COMPILERS = ["cc", "gcc"]
+PYTEST = "/usr/bin/python3 -m pytest -q -x"   # with words alone, it is not imported again each time
 LONGEST = 3600  # seconds
+
+
+class Ended(NamedTuple):
+    """How a command ended: `passed`, `failed` or `late`; the seconds of a processor that it took; and the tests that
+    failed or, if pytest was to find them alone, were found."""
+    how: str
+    processor: float = 0
+    tests: list = []
 
 
 class Copy:
     """A copy in a folder. What one command builds there serves the next one."""
 
     def __init__(self, root, folder):
-        self.folder = folder
+        self.folder, self.runner = folder, None
         shutil.copytree(root, folder, ignore=IGNORED, dirs_exist_ok=True)
         Cargo(folder, settings=folder)   # which needs no network then
+        (folder / "compilers").mkdir()
+        for name in COMPILERS:
+            shutil.copy(Path(__file__).with_name("compiler"), folder / "compilers" / name)
 
-    def run(self, command, memory="unlimited", seconds=LONGEST, processor=LONGEST):
-        """How a command ends: `passed`, `failed`, or `late` after some seconds. The limit for each process, in seconds
-        of a processor, holds however busy the machine is: a mutant may run, print or take memory without end."""
-        limits = f'ulimit -t {processor} -f 200000 -v {memory}; eval "$0"'
-        words = [*SANDBOX, "--bind", self.folder, self.folder, "--chdir", self.folder, "bash", "-c", limits, command]
+    def begin(self):
+        """Begins what runs commands."""
+        words = [*SANDBOX, "--bind", self.folder, self.folder, "--chdir", self.folder, *RUNNER]
+        path = os.pathsep.join([str(self.folder / "compilers"), os.environ["PATH"]])
+        return subprocess.Popen(words, stdin=subprocess.PIPE, stdout=subprocess.PIPE, stderr=subprocess.DEVNULL,
+                                text=True, env={**os.environ, "PATH": path})
+
+    def run(self, command, memory=None, seconds=LONGEST, processor=LONGEST):
+        """Runs a command. A mutant may run, print or take memory without end: each process gets so many KiB, and all
+        together so many seconds, and so many of a processor, which are the same however busy the machine is. What waits
+        for something that never comes is late soon."""
+        self.runner = self.runner or self.begin()
+        words = split(command.removeprefix(PYTEST)) if command.startswith(PYTEST) else command
+        asked = {"command": words, "memory": memory, "seconds": seconds, "processor": processor}
         try:
-            done = subprocess.run(words, stdin=subprocess.DEVNULL, stdout=subprocess.DEVNULL, stderr=subprocess.DEVNULL,
-                                  timeout=seconds)
-        except subprocess.TimeoutExpired:
-            return "late"
-        return "failed" if done.returncode else "passed"
+            print(json.dumps(asked), file=self.runner.stdin, flush=True)
+            return Ended(*json.loads(self.runner.stdout.readline()))
+        except (BrokenPipeError, json.JSONDecodeError):   # the runner was ended, too
+            self.runner = None
+            return Ended("failed")
 
     @contextmanager
-    def changed(self, mutant):
-        """The copy with a mutant in place of a line."""
+    def changed(self, mutant, made=()):
+        """The copy with a mutant in place of a line. What is made of that is as before afterwards, too."""
         path = self.folder / mutant.file
-        text = path.read_text(encoding="utf-8")
-        lines = text.split("\n")
+        before = {file: file.read_bytes() for file in [path, *(self.folder / name for name in made)]}
+        lines = path.read_text(encoding="utf-8").split("\n")
         lines[mutant.number] = mutant.new
         try:
             path.write_text("\n".join(lines), encoding="utf-8")
             yield
         finally:
-            path.write_text(text, encoding="utf-8")
+            for file, content in before.items():
+                file.write_bytes(content)
 
 
 class Copies:
@@ -54,8 +83,20 @@ class Copies:
 
     def __init__(self, root, folder, count):
         self.free, self.threads = Queue(), ThreadPoolExecutor(count)
-        for number in range(count):
-            self.free.put(Copy(root, folder / str(number)))
+        self.all = [Copy(root, folder / str(number)) for number in range(count)]
+        for copy in self.all:
+            self.free.put(copy)
+
+    def __enter__(self):
+        return self
+
+    def __exit__(self, *_):
+        """Ends what goes on, too."""
+        self.threads.shutdown(wait=False, cancel_futures=True)
+        for copy in self.all:
+            if copy.runner:
+                copy.runner.kill()
+        self.threads.shutdown()
 
     def map(self, use, items):
         """What `use` of an item and a copy returns, item by item, as soon as it and all before it are known."""

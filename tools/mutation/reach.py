@@ -1,23 +1,25 @@
 # SPDX-License-Identifier: Apache-2.0 OR BSD-3-Clause
-"""Which tests reach a line, and how long each takes. Debian's coverage tells it of Python, Node and Chromium tell it of
-JavaScript, and gcov of C. Of Rust, whose compiler and LLVM's tools may be of different versions, nothing is told, nor
-of the monitor for KVM, whose tests take gcov's calls of the system for its own."""
+"""Which tests reach a line, how long each takes and which come first. Debian's coverage tells the lines of Python, Node
+and Chromium those of JavaScript, and gcov those of C. Of Rust, whose compiler and LLVM's tools may have different
+versions, nothing is told, nor of the monitor for KVM, whose tests take gcov's calls of the system for its own."""
 import json
-import re
 import shutil
 import time
 from bisect import bisect_right
+from collections import Counter
 from difflib import SequenceMatcher
 from pathlib import Path
 from shlex import quote
 from typing import NamedTuple
 
-PYTEST = "/usr/bin/python3 -m pytest -q -x"
+from mutation.copies import PYTEST
+
+MOST_NEAREST = 2   # tests that come first, since they refused another mutant
 # What a command does while it tells what it reaches, in the folder $REACH of a copy.
 BEGINS = {
     "python": """export HOME=$REACH COVERAGE_PROCESS_START=$REACH/rc
 site=$(/usr/bin/python3 -m site --user-site); mkdir -p $site
-echo 'import coverage; coverage.process_startup()' > $site/usercustomize.py
+printf 'try:\\n import coverage\\n coverage.process_startup()\\nexcept ImportError: pass\\n' > $site/usercustomize.py
 printf '[run]\\nparallel = True\\ndata_file = %s\\nsource = %s\\n' $REACH/data "$PWD" > $REACH/rc""",
     "node": """export NODE_V8_COVERAGE=$REACH PATH=$REACH/bin:$PATH
 mkdir $REACH/bin; ln -s $PWD/tools/mutation/chromium $REACH/bin/chromium""",
@@ -28,7 +30,7 @@ chmod +x $REACH/bin/cc; cp $REACH/bin/cc $REACH/bin/gcc""",
 }
 ENDS = {
     "python": """unset COVERAGE_PROCESS_START; /usr/bin/python3 -m coverage combine -q --rcfile $REACH/rc
-/usr/bin/python3 -m coverage json -q --rcfile $REACH/rc -o $REACH/python.json""",
+/usr/bin/python3 -m coverage json -q -i --rcfile $REACH/rc -o $REACH/python.json""",
     "node": "",
     "gcov": "find /tmp $REACH/.. -name '*.gcda' -exec gcov --json-format --stdout {} + | grep '^{' > $REACH/gcov",
     "": "",
@@ -40,29 +42,33 @@ class Test(NamedTuple):
     one knows: each known line has whether it does."""
     command: str
     name: str
-    seconds: float = 0
-    processor: float = 0   # seconds of it, as far as they are counted: those of a browser are not
+    seconds: float = 0     # that it takes
+    processor: float = 0   # and those of a processor, which are the same on a busy machine
     lines: dict = {}
 
     def __str__(self):
         return joined([self])
 
 
+def file_of(test):
+    return test.name.partition("::")[0]
+
+
 def joined(tests):
-    """One command for tests of one command."""
-    return " ".join([tests[0].command, *(quote(test.name) for test in tests if test.name)])
+    """One command for tests of one command. Those of a file stand together, since it makes once what they share."""
+    files = [*dict.fromkeys(map(file_of, tests))]
+    ordered = sorted(tests, key=lambda test: files.index(file_of(test)))
+    return " ".join([tests[0].command, *(quote(test.name) for test in ordered if test.name)])
 
 
-def split(command, root_copy, keeps_cases):
+def split(command, copy, keeps_cases):
     """The tests of a command: pytest's are told one by one, and the cases of one too if they are to be kept apart."""
     if not command.startswith(PYTEST):
         return [Test(command, "")]
-    listing = root_copy.folder / "listing"
-    root_copy.run(f"{command} --collect-only > {listing}")
-    names = re.findall(r"^(\S+?\.py::.*)$", listing.read_text(encoding="utf-8"), flags=re.M)
     begin, _, chosen = command.partition(" -k ")
     base = PYTEST + (f" -k {chosen}" if chosen else "")
-    names = dict.fromkeys(name if keeps_cases else name.partition("[")[0] for name in names)
+    names = dict.fromkeys(name if keeps_cases else name.partition("[")[0]
+                          for name in copy.run(f"{command} --collect-only").tests)
     return [Test(base, name) for name in names]
 
 
@@ -124,52 +130,69 @@ def measured(test, copy, language, sources, memory):
     folder = copy.folder / "reach"
     shutil.rmtree(folder, ignore_errors=True)
     folder.mkdir()
-    command = f"{joined([test])}\nstatus=$?; LC_ALL=C times > $REACH/times"
-    command = f"export REACH={folder}\n{BEGINS[language]}\n{command}\n{ENDS[language]}\nexit $status"
+    command = f"export REACH={folder}\n{BEGINS[language]}\n{test}\nstatus=$?\n{ENDS[language]}\nexit $status"
     began = time.monotonic()
-    if copy.run(command, memory) != "passed":
-        return None
+    ended = copy.run(command if language else f"{test}", memory)
     seconds = time.monotonic() - began
-    times = re.findall(r"(\d+)m([\d.]+)s", (folder / "times").read_text(encoding="ascii"))
+    if ended.how != "passed":
+        return None
     lines = LINES[language](folder, sources)
-    return test._replace(seconds=seconds, processor=sum(60 * int(minutes) + float(rest) for minutes, rest in times),
+    return test._replace(seconds=seconds, processor=ended.processor,
                          lines={source: lines[source] for source in sources if source in lines})
 
 
 class Reach:
-    """The tests of a part. One that tells nothing of any file may reach all lines."""
+    """The tests of a part. If none tells of any line, each may reach all."""
 
     def __init__(self, tests):
-        self.tests = sorted(tests, key=lambda test: test.seconds)
-        self.start = {test.command: test.seconds for test in self.tests[::-1]}
-        self.first = sum(map(self.more, tests)) / 20
+        self.tests = sorted(tests, key=lambda test: test.processor)
+        self.start = {test.command: test for test in self.tests[::-1]}
+        self.first = self.total("processor", self.tests) / 20
         files = {file for test in tests for file in test.lines}
         self.known = {file: sorted({line for test in tests for line in test.lines.get(file, ())}) for file in files}
+        self.refusals = []   # mutants, each with the test that refused it
 
-    def more(self, test):
-        """The seconds of a test, beside those that its command takes to begin."""
-        return test.seconds - self.start[test.command]
+    def total(self, what, tests):
+        """The seconds of tests, of time or of a processor, beside those that their commands take to begin."""
+        return sum(max(0, getattr(test, what) - getattr(self.start[test.command], what)) for test in tests)
 
     def of(self, mutant):
         """The tests that reach the line of a mutant, or the statement in which it is, and all others."""
         known, line = self.known.get(mutant.file, []), mutant.number + 1
         line = known[max(0, bisect_right(known, line) - 1)] if known else None
-        reaching = [test for test in self.tests if not test.lines or test.lines.get(mutant.file, {}).get(line)]
+        reaching = [test for test in self.tests if not self.known or test.lines.get(mutant.file, {}).get(line)]
         return reaching, [test for test in self.tests if test not in reaching]
 
-    def commands(self, tests):
-        """Commands for tests, the fastest first, each with the limits of its seconds and of those of a processor. The
-        first takes a twentieth of all, and each may take four times as long as the one before: a mutant without an end
-        is found soon. One that waits costs no processor, so its limit leaves room for a busy machine."""
-        most, groups = self.first, [[]]
+    def note(self, mutant, tests, refused):
+        """Of these tests one refused a mutant, whose name and case pytest tells."""
         for test in tests:
-            if groups[-1] and sum(map(self.more, [*groups[-1], test])) > most:
+            if test.name in ("", *refused[:1], *(name.partition("[")[0] for name in refused[:1])):
+                self.refusals.append((mutant, test))
+
+    def nearest(self, mutant, tests):
+        """Those of the tests that refused the mutants nearest to this one."""
+        near = sorted((abs(other.number - mutant.number), place) for place, (other, test) in enumerate(self.refusals)
+                      if other.file == mutant.file and test in tests)
+        return [*{f"{self.refusals[place][1]}": self.refusals[place][1] for _, place in near}.values()][:MOST_NEAREST]
+
+    def groups(self, tests):
+        """Tests in groups. First come those that take little, or refused many mutants for what they take. The first
+        group takes a twentieth of all, and each may take four times as long as the one before."""
+        counts = Counter(f"{test}" for _, test in self.refusals)
+        most, groups = self.first, [[]]
+        for test in sorted(tests, key=lambda test: test.processor / (1 + counts[f"{test}"])):
+            if groups[-1] and self.total("processor", [*groups[-1], test]) > most:
                 most *= 4
                 groups.append([])
             groups[-1].append(test)
-        for group in groups:
+        return groups
+
+    def commands(self, mutant, tests):
+        """Tests for commands, each with its limits, of the seconds and of those of a processor. First come those that
+        refused what is near. A limit is several times what was measured, since a busy machine is slower."""
+        nearest = self.nearest(mutant, tests)
+        for group in [nearest, *self.groups([test for test in tests if test not in nearest])]:
             for command in dict.fromkeys(test.command for test in group):
-                found = [test for test in group if test.command == command]
-                seconds = self.start[command] + sum(map(self.more, found))
-                processor = sum(test.processor for test in found)
-                yield joined(found), 60 + 15 * seconds, round(20 + 5 * min(seconds, processor))
+                found, start = [test for test in group if test.command == command], self.start[command]
+                seconds = start.seconds + self.total("seconds", found)
+                yield found, 30 + 15 * seconds, 4 + 4 * (start.processor + self.total("processor", found))
