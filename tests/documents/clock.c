@@ -11,6 +11,17 @@
 
 #include <superio.h>
 
+/* Clocks of the host that all differ, as after a sleep: the time of day, and by how much CLOCK_MONOTONIC is behind
+ * CLOCK_BOOTTIME, on which timers really run. */
+enum { TIME_OF_DAY = 1700000000, SLEPT = 5000 };
+
+static int clock_of_host(clockid_t which, struct timespec *now) {
+    int done = clock_gettime(CLOCK_BOOTTIME, now);
+    now->tv_sec += which == CLOCK_REALTIME ? TIME_OF_DAY : which == CLOCK_MONOTONIC ? -SLEPT : 0;
+    return done;
+}
+#define clock_gettime clock_of_host
+
 enum { COM1 = 0x3F8, CLOCK = 0xD0000, DAY = 86400 };
 enum { RTCMR = 0x004, RTCLR = 0x008, RTCCR = 0x00C, RTCIMSC = 0x010, RTCMIS = 0x018, RTCICR = 0x01C };
 
@@ -71,8 +82,9 @@ static bool goes_off_in_days(const struct machine *machine, int64_t days) {
 }
 
 static bool is_present(uint64_t moment) {
-    time_t now = time(NULL);
-    return moment + DAY / 2 > (uint64_t)now && moment <= (uint64_t)now + 1;
+    struct timespec now;
+    clock_gettime(CLOCK_REALTIME, &now);
+    return moment + SLEPT / 2 > (uint64_t)now.tv_sec && moment <= (uint64_t)now.tv_sec;
 }
 
 int main(void) {

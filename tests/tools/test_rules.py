@@ -197,6 +197,12 @@ def test_a_search_is_that_of_its_seed(kind, tmp_path):
     assert said[0] == said[1] != said[2] and all(said), said
 
 
+def test_a_search_has_many_examples(tmp_path):
+    write_tests(tmp_path, DRAWS["hypothesis"])
+    said = run([sys.executable, "-m", "pytest", "tests", "-s", "-q"], cwd=tmp_path, env={"PATH": "/nowhere"}).stdout
+    assert len(re.findall(r"^-?\d+$", said, re.M)) >= 50, said
+
+
 def test_an_unknown_tool_is_refused(tmp_path):
     ran = run_pytest(tmp_path, RUN + "pass", "--without=nod")
     assert ran.returncode != 0 and "there is no tool nod" in ran.stdout

@@ -26,6 +26,21 @@ impl Trigger for Line {
     }
 }
 
+/// Code over any trigger, as the original lets one write it: an error of any trigger can be shown.
+fn write_over_any<T: Trigger>(trigger: T) -> (Result<(), String>, String) {
+    let mut port = Serial::new(trigger, Vec::new());
+    port.write(1, 0x02).unwrap();
+    let refused: Option<Error<T::E>> = port.enqueue_raw_bytes(b"").err();
+    let shown = refused.map_or(Ok(()), |error| Err(format!("{error:?}")));
+    let error: Result<(), T::E> = port.interrupt_evt().trigger();
+    (shown, format!("{error:?}"))
+}
+
+#[test]
+fn code_over_any_trigger_shows_its_errors() {
+    assert_eq!(write_over_any(Line::default()), (Ok(()), "Ok(())".to_string()));
+}
+
 #[test]
 fn output_goes_to_the_writer_which_comes_back() {
     let mut serial = Serial::new(Line::default(), Vec::new());
