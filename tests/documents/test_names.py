@@ -6,9 +6,9 @@ has each of the clauses. A function without a type has the type of the function 
 path of a function and each word of four letters or more has to stand in the sources. A command of tools/ or tests/,
 also in a block for the shell, has to have the options that it is given.
 
-In the other direction, the documents of CLAIMS have to cite each clause of each public function of CRATES. Those of C
-may be cited of another function, such as `Uart::read`. Of LIBRARIES they also have to name each function whose
-clause has no name. docs/USING.md has to name each call of a console. README.md has to show the logic that `rt version` prints: proofs depend on it alone.
+In the other direction, the documents of CLAIMS have to cite each clause of each public function of CRATES, or
+docs/DEVICES.md has to where it says what is proved of a device. Those of C may be cited of another function, such as
+`Uart::read`. Of LIBRARIES they also have to name each function whose clause has no name. docs/USING.md has to name each call of a console. README.md has to show the logic that `rt version` prints: proofs depend on it alone.
 """
 import re
 from collections import defaultdict
@@ -21,6 +21,7 @@ from documents import BUILT, CODE, Document, documents
 from harness import ROOT, at_least, check
 
 CLAIMS = ["docs/CONTRACTS.md", "docs/SCRIPT.md", "crates/superio_examples/README.md"]
+OF_A_DEVICE = re.compile(r"^### What is proved of .*\n((?:(?!#).*\n)*)", re.M)   # in docs/DEVICES.md
 LIBRARIES = ["superio_core", "superio_laws", "superio_console", "vm_superio"]
 CRATES = [*LIBRARIES, "superio_c", "superio_script", "superio_examples"]
 CITATION = re.compile(r"(\w+(?:::\w+)*(?:, \w+(?:::\w+)*)*): ([a-z]\w*(?:, \w+)*)")
@@ -138,8 +139,9 @@ def clauses():
 
 SOURCES = Sources()
 DOCUMENTS = [document for document in documents() if str(document) != "CHANGELOG.md"]   # it names what was
-# The functions and the clauses that the documents of CLAIMS cite.
-CITED = {pair for name in CLAIMS for line in Document(name).prose.splitlines() for code in CODE.findall(line)
+PROVED = [*(Document(name).prose for name in CLAIMS), *OF_A_DEVICE.findall(Document("docs/DEVICES.md").prose)]
+# The functions and the clauses that these texts cite.
+CITED = {pair for text in PROVED for line in text.splitlines() for code in CODE.findall(line)
          for pair in covered(SOURCES, code)}
 # The calls of a console, which docs/USING.md tells of.
 CONSOLE = {function.name for function in SOURCES.functions if function.is_public and function.path[-2] == "Console"
@@ -163,7 +165,7 @@ def test_clause(function, clause):
     """A document cites each clause."""
     is_of_c = function.startswith("superio_c::")
     is_cited = (function, clause) in CITED or is_of_c and clause in {name for _, name in CITED}
-    assert is_cited, "docs/CONTRACTS.md does not name it"
+    assert is_cited, "neither docs/CONTRACTS.md nor the device's section of docs/DEVICES.md cites it"
 
 
 @pytest.mark.parametrize("name", at_least(17, sorted(CONSOLE)))
