@@ -83,11 +83,11 @@ def test_heading_of_a_device(monkeypatch):
     """A device that has lines and no heading gets one, with a table, behind the others. The rest stays."""
     page = DOCUMENT.read_text("utf-8")
     lines = {"pw": board.PROGRAM_LINES["kw"]}
-    monkeypatch.setitem(OF_DEVICES, "\n### The code port\n", lines)
-    monkeypatch.setitem(TABLES, "\n### The code port\n", lines)
+    monkeypatch.setitem(OF_DEVICES, "\n### A device of a test\n", lines)
+    monkeypatch.setitem(TABLES, "\n### A device of a test\n", lines)
     row = next(line for line in page.splitlines() if line.startswith("| `kw ")).replace("`kw OO VV`", "`pw OO VV`")
     made = for_readers(page)
-    added = f"\n### The code port\n\n| Line | Effect | Reply |\n|---|---|---|\n{row}\n"
+    added = f"\n### A device of a test\n\n| Line | Effect | Reply |\n|---|---|---|\n{row}\n"
     assert made == page.replace("\n## How a run ends\n", f"{added}\n## How a run ends\n")
     assert for_readers(made) == made
     assert for_readers(made.replace(row, "| an older row | |")) == made
