@@ -139,10 +139,16 @@ def clauses():
 
 SOURCES = Sources()
 DOCUMENTS = [document for document in documents() if str(document) != "CHANGELOG.md"]   # it names what was
-PROVED = [*(Document(name).prose for name in CLAIMS), *OF_A_DEVICE.findall(Document("docs/DEVICES.md").prose)]
-# The functions and the clauses that these texts cite.
-CITED = {pair for text in PROVED for line in text.splitlines() for code in CODE.findall(line)
-         for pair in covered(SOURCES, code)}
+def cited_in(texts):
+    """The functions and the clauses that texts cite."""
+    return {pair for text in texts for code in CODE.findall(text) for pair in covered(SOURCES, code)}
+
+
+SECTIONS = OF_A_DEVICE.findall(Document("docs/DEVICES.md").prose)
+CITED = cited_in([*(Document(name).prose for name in CLAIMS), *SECTIONS])
+# The functions of devices that have a section of their own, each with a clause. A board is no device.
+OF_DEVICES = [(function, clause) for function, clause in sorted(cited_in(SECTIONS))
+              if clause and not function.startswith("superio_script::")]
 # The calls of a console, which docs/USING.md tells of.
 CONSOLE = {function.name for function in SOURCES.functions if function.is_public and function.path[-2] == "Console"
            and function.path[0] == "superio_console" and " for " not in function.header}
@@ -166,6 +172,13 @@ def test_clause(function, clause):
     is_of_c = function.startswith("superio_c::")
     is_cited = (function, clause) in CITED or is_of_c and clause in {name for _, name in CITED}
     assert is_cited, "neither docs/CONTRACTS.md nor the device's section of docs/DEVICES.md cites it"
+
+
+@pytest.mark.parametrize("function, clause", at_least(7, OF_DEVICES))
+def test_clause_of_a_device(function, clause):
+    """It stands in the device's section alone. So who adds a device, or changes one, edits no other page."""
+    others = [document for document in DOCUMENTS if str(document) != "docs/DEVICES.md"]
+    assert [str(document) for document in others if (function, clause) in cited_in([document.prose])] == []
 
 
 @pytest.mark.parametrize("name", at_least(17, sorted(CONSOLE)))
