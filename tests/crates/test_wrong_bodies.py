@@ -3,9 +3,9 @@
 without. Each likely bug that the page lists has an edit of its own, which changes one function, or a test. An edit that
 changes several functions names them.
 
-A row of its table names functions by type, such as `Serial::writer, events`, whichever trait they are of. Laws and
-functions of `NoEvents` have no edit either.
+Laws, functions of `NoEvents`, and functions that lend an object to read have no edit either.
 """
+import re
 from itertools import groupby
 from operator import itemgetter
 
@@ -41,25 +41,32 @@ def function_at(path, at):
     return next((function.path for function in functions if function.start <= at < function.end), None)
 
 
+def lends(function, text):
+    """Whether a function lends an object, which is of a type that the user names, to read. A body that returned another
+    would need a second one in the device."""
+    found = re.match(r"pub fn \w+\(&self\) -> &(\w+)\s", text[function.start:])
+    parameters = re.match("<([^<>]*)> |", function.header)[1] or ""
+    if not found or found[1] not in [parameter.split(":")[0] for parameter in parameters.split(", ")]:
+        return False
+    struct = re.search(rf"\bpub struct {function.path[-2]}<.*\{{\n((?:    .*\n)+)\}}", text)[1]
+    return len(re.findall(rf"^    (?:pub )?\w+: {found[1]},$", struct, re.M)) == 1
+
+
 def functions():
-    """The public functions, each by its type and name, and whether an edit is in its body."""
+    """The public functions that need an edit, each by its type and name, and whether an edit is in its body."""
     for crate in map((ROOT / "crates").joinpath, CRATES):
         edits = edited(crate)
         for path in sorted((crate / "src").rglob("*.rt")):
-            for function in functions_of(path.read_text(encoding="utf-8")):
+            for function in functions_of(text := path.read_text(encoding="utf-8")):
                 is_wanted = function.is_public and function.has_body and "laws" not in str(path)
-                if is_wanted and function.path[0] != "NoEvents":
+                if is_wanted and function.path[0] != "NoEvents" and not lends(function, text):
                     is_edited = any(file == path and function.start <= at < function.end for file, at in edits)
                     yield "::".join(function.path[-2:]), is_edited
 
 
 def listed():
     """The functions that docs/WRONG-BODIES.md names in the sentence about those without an edit."""
-    sentence = Document("docs/WRONG-BODIES.md").text.split("These functions have no edit: ")[1].split(". ")[0]
-    for code in CODE.findall(sentence):
-        owner = code.rpartition("::")[0]
-        for name in code.removeprefix(f"{owner}::").split(", "):
-            yield f"{owner}::{name}" if owner else name
+    yield from CODE.findall(Document("docs/WRONG-BODIES.md").text.split(" no edit: ")[1].split(". ")[0])
 
 
 def shared():
@@ -75,6 +82,31 @@ def likely():
 
 
 FUNCTIONS, LISTED = at_least(140, functions()), set(listed())
+
+
+DEVICE = """pub struct Port<T: Trigger, EV> {
+    line: T,
+    more: u8,
+}
+
+impl<T: Trigger, EV> Port<T, EV> {
+    pub fn line(&self) -> &T
+        ensures { result.now ≡ self.now.line }
+    {
+        &self.line
+    }
+}
+"""
+
+
+@pytest.mark.parametrize("old, new, is_lent", [
+    ("", "", True), ("    more: u8,", "    more: T,", False), ("-> &T", "-> &u8", False), ("-> &T", "-> T", False),
+    ("-> &T", "-> &mut T", False), ("(&self)", "(&self, other: &T)", False), ("&self", "&mut self", False),
+    ("impl<T: Trigger, EV>", "impl<EV, T: Trigger>", True), ("impl<T: Trigger, EV>", "impl<EV>", False)])
+def test_lends(old, new, is_lent):
+    """Only where a body has no other object to return."""
+    text = DEVICE.replace(old, new) if old else DEVICE
+    assert lends(functions_of(text)[0], text) == is_lent
 
 
 @pytest.mark.parametrize("function, is_edited", FUNCTIONS)

@@ -6,9 +6,9 @@ has each of the clauses. A function without a type has the type of the function 
 path of a function and each word of four letters or more has to stand in the sources. A command of tools/ or tests/,
 also in a block for the shell, has to have the options that it is given.
 
-In the other direction, the documents of CLAIMS have to cite each clause of each public function of CRATES. Those of C
-may be cited of another function, such as `Uart::read`. Of LIBRARIES they also have to name each function whose
-clause has no name. docs/USING.md has to name each call of a console. README.md has to show the logic that `rt version` prints: proofs depend on it alone.
+In the other direction, the documents of CLAIMS have to cite each clause of each public function of CRATES, or
+docs/DEVICES.md has to where it says what is proved of a device. Those of C may be cited of another function, such as
+`Uart::read`. Of LIBRARIES they also have to name each function whose clause has no name. docs/USING.md has to name each call of a console. README.md has to show the logic that `rt version` prints: proofs depend on it alone.
 """
 import re
 from collections import defaultdict
@@ -21,6 +21,7 @@ from documents import BUILT, CODE, Document, documents
 from harness import ROOT, at_least, check
 
 CLAIMS = ["docs/CONTRACTS.md", "docs/SCRIPT.md", "crates/superio_examples/README.md"]
+OF_A_DEVICE = re.compile(r"^### What is proved of .*\n((?:(?!#).*\n)*)", re.M)   # in docs/DEVICES.md
 LIBRARIES = ["superio_core", "superio_laws", "superio_console", "vm_superio"]
 CRATES = [*LIBRARIES, "superio_c", "superio_script", "superio_examples"]
 CITATION = re.compile(r"(\w+(?:::\w+)*(?:, \w+(?:::\w+)*)*): ([a-z]\w*(?:, \w+)*)")
@@ -138,9 +139,16 @@ def clauses():
 
 SOURCES = Sources()
 DOCUMENTS = [document for document in documents() if str(document) != "CHANGELOG.md"]   # it names what was
-# The functions and the clauses that the documents of CLAIMS cite.
-CITED = {pair for name in CLAIMS for line in Document(name).prose.splitlines() for code in CODE.findall(line)
-         for pair in covered(SOURCES, code)}
+def cited_in(texts):
+    """The functions and the clauses that texts cite."""
+    return {pair for text in texts for code in CODE.findall(text) for pair in covered(SOURCES, code)}
+
+
+SECTIONS = OF_A_DEVICE.findall(Document("docs/DEVICES.md").prose)
+CITED = cited_in([*(Document(name).prose for name in CLAIMS), *SECTIONS])
+# The functions of devices that have a section of their own, each with a clause. A board is no device.
+OF_DEVICES = [(function, clause) for function, clause in sorted(cited_in(SECTIONS))
+              if clause and not function.startswith("superio_script::")]
 # The calls of a console, which docs/USING.md tells of.
 CONSOLE = {function.name for function in SOURCES.functions if function.is_public and function.path[-2] == "Console"
            and function.path[0] == "superio_console" and " for " not in function.header}
@@ -163,7 +171,14 @@ def test_clause(function, clause):
     """A document cites each clause."""
     is_of_c = function.startswith("superio_c::")
     is_cited = (function, clause) in CITED or is_of_c and clause in {name for _, name in CITED}
-    assert is_cited, "docs/CONTRACTS.md does not name it"
+    assert is_cited, "neither docs/CONTRACTS.md nor the device's section of docs/DEVICES.md cites it"
+
+
+@pytest.mark.parametrize("function, clause", at_least(7, OF_DEVICES))
+def test_clause_of_a_device(function, clause):
+    """It stands in the device's section alone. So who adds a device, or changes one, edits no other page."""
+    others = [document for document in DOCUMENTS if str(document) != "docs/DEVICES.md"]
+    assert [str(document) for document in others if (function, clause) in cited_in([document.prose])] == []
 
 
 @pytest.mark.parametrize("name", at_least(17, sorted(CONSOLE)))

@@ -6,7 +6,7 @@ import random
 import re
 
 import pytest
-from generators.lines import DOCUMENT, PAGE_LINES, for_page, for_readers
+from generators.lines import DOCUMENT, OF_DEVICES, PAGE_LINES, TABLES, for_page, for_readers
 from harness import at_least
 from made import random_script
 from script import BYTES, FURTHER_LINES, LINES, PATTERNS, PROGRAM_LINES
@@ -77,6 +77,26 @@ def test_made():
     for other in "", made + made[made.index("| Line | Effect |"):]:
         with pytest.raises(ValueError, match="^SCRIPT.md has [0-9]+ tables of lines$"):
             for_readers(other)
+
+
+def test_heading_of_a_device(monkeypatch):
+    """A device that has lines and no heading gets one, with a table, behind the others. The rest stays."""
+    page = DOCUMENT.read_text("utf-8")
+    lines = {"pw": board.PROGRAM_LINES["kw"]}
+    monkeypatch.setitem(OF_DEVICES, "\n### A device of a test\n", lines)
+    monkeypatch.setitem(TABLES, "\n### A device of a test\n", lines)
+    row = next(line for line in page.splitlines() if line.startswith("| `kw ")).replace("`kw OO VV`", "`pw OO VV`")
+    made = for_readers(page)
+    added = f"\n### A device of a test\n\n| Line | Effect | Reply |\n|---|---|---|\n{row}\n"
+    assert made == page.replace("\n## How a run ends\n", f"{added}\n## How a run ends\n")
+    assert for_readers(made) == made
+    assert for_readers(made.replace(row, "| an older row | |")) == made
+
+
+def test_lines_of_no_device(monkeypatch):
+    monkeypatch.delitem(OF_DEVICES, next(heading for heading in OF_DEVICES if "clock" in heading))
+    with pytest.raises(ValueError, match="^interface.toml has no device for the lines cr, cw$"):
+        for_readers(DOCUMENT.read_text("utf-8"))
 
 
 def test_syntax_of_the_document():

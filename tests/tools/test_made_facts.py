@@ -107,9 +107,21 @@ def test_differences_of_the_clock(monkeypatch):
 
 
 def test_parts():
-    """Each part of the pages stands below one mark."""
+    """Each part of the pages stands below one mark. The READMEs have one each, and no page has it beside."""
     marks = [mark[1] for name in facts.PAGES for mark in facts.MARK.finditer(text_of(name))]
-    assert sorted(marks) == sorted(facts_of_pages.PARTS)
+    assert sorted([*marks, "devices"]) == sorted(facts_of_pages.PARTS)
+    for name in facts.READMES:
+        assert [mark[1] for mark in facts.MARK.finditer(text_of(name))] == ["devices"], name
+
+
+def test_devices(monkeypatch):
+    """Another device is listed behind the others, and its section is the one of its name."""
+    parts = facts_of_pages.devices, facts_of_pages.names_of_devices
+    before = [part() for part in parts]
+    monkeypatch.setattr(facts_of_pages, "DEVICES", [*facts_of_pages.DEVICES, {
+        "name": "the code port", "about": "a code port", "c": "superio_code", "rust": "Code", "python": "Codes"}])
+    assert [part() for part in parts] == [[*before[0], "- a code port"], [
+        *before[1], "| [The code port](#the-code-port) | `superio_code` | `Code` | `Codes` |"]]
 
 
 def test_comments():

@@ -8,7 +8,7 @@ from common.commands import ROOT
 FACTS = tomllib.loads((ROOT / "interface.toml").read_text(encoding="utf-8"))
 VERSION = (ROOT / "VERSION").read_text(encoding="ascii").strip()
 ABI, ENCODING, ERRORS = FACTS["abi"], FACTS["encoding"], FACTS["errors"]
-SERIAL, CLOCK, CONSOLE = FACTS["serial"], FACTS["clock"], FACTS["console"]
+DEVICES, SERIAL, CLOCK, CONSOLE = FACTS["devices"], FACTS["serial"], FACTS["clock"], FACTS["console"]
 FIFO_SIZE, OUTPUT_SIZE = FACTS["sizes"]["fifo"], FACTS["sizes"]["output"]
 
 # The registers by their names, and the fields of a port that are registers, by the names of these.
@@ -29,6 +29,11 @@ CONSOLE_PREFIX = sum(part["bytes"] for part in CONSOLE["saved"] if part["bytes"]
 PORT_SAVED = HEADER_SIZE + len(PORT_FIELDS), HEADER_SIZE + len(PORT_FIELDS) + FIFO_SIZE
 CLOCK_SAVED = HEADER_SIZE + CLOCK_CONTENTS
 CONSOLE_SAVED = tuple(HEADER_SIZE + CONSOLE_PREFIX + sum(parts) for parts in zip((0, OUTPUT_SIZE), PORT_SAVED))
+
+
+def title_of(device):
+    """The heading of a device's section."""
+    return device["name"][0].upper() + device["name"][1:]
 
 
 def word_of(error):

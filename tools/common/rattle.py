@@ -85,6 +85,12 @@ def number_of_edits():
     return len(list(CRATES.glob("*/must-fail/*.edit")))
 
 
+def number_of_named_bodies():
+    """How many wrong bodies the edits have that change several functions. A comment above each names its function."""
+    edits = (path.read_text(encoding="utf-8") for path in CRATES.glob("*/must-fail/*.edit"))
+    return sum(len(re.findall("^# ", text, re.M)) for text in edits)
+
+
 def number_of_tests():
     """How many tests in Rattle the crates have."""
     sources = (path.read_text(encoding="utf-8") for path in CRATES.glob("*/src/**/*.rt"))

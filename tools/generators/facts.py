@@ -1,5 +1,5 @@
 # SPDX-License-Identifier: Apache-2.0 OR BSD-3-Clause
-"""Writes the facts of interface.toml, and the version, into each file that repeats one.
+"""Writes the facts of interface.toml, the version, and the numbers of wrong bodies, into each file that repeats one.
 
 Python's module _facts.py is made whole, and so is the data of tests that has saved states. A page has its parts below
 marks, whose words name them. In other files these are made: the rows that there are one of for each error, in ROWS;
@@ -10,6 +10,7 @@ import re
 import sys
 import textwrap
 
+from common import rattle
 from common.commands import ROOT
 from common.facts import (ABI, CLOCK, CLOCK_SAVED, CONSOLE_SAVED, ENCODING, ERRORS, FIFO_SIZE, OUTPUT_SIZE, PORT_SAVED,
                           VERSION, told, word_of)
@@ -18,7 +19,10 @@ from generators.facts_of_python import module
 from generators.facts_of_tests import REFUSED, TEMPLATES, made_of, refused
 
 MODULE = "bindings/python/superio/_facts.py"
+# The pages with parts of their own, and those that only list the devices.
 PAGES = ["docs/DEVICES.md", "docs/DIFFERENCES.md", "docs/SAVED-STATES.md"]
+READMES = [f"{folder}/README.md" for folder in ("bindings/c/from-source", "bindings/js", "bindings/python",
+                                                "rust/superio")]
 MARK = re.compile(r"(?<=^<!-- Made by tools/generate from interface\.toml: )(.+)( -->\n\n)(?:.+\n)+", re.M)
 
 PRINTED = '            SavedStateError::{case}[(_)] => f.write_str("{text}"),'
@@ -42,7 +46,7 @@ FIELDS = {"case": r"\w+", "word": "[a-z ]+", "text": '[^"]+', "number": r"\d+"}
 
 C_HEADER, C_LIBRARY = "bindings/c/superio.h", "crates/superio_c/src/lib.rt"
 CORE_SAVED = "crates/superio_core/src/saved.rt"
-SOURCE = "bindings/c/from-source"
+SOURCE, WRONG_BODIES = "bindings/c/from-source", "docs/WRONG-BODIES.md"
 # The files that have a fact in one place, each with the form of that place. Each form is there once.
 PLACES = [
     ("bindings/js/package.json", r'^  "version": "(.+)",$', VERSION),
@@ -74,6 +78,9 @@ PLACES = [
     # The names of the errors.
     ("crates/superio_c/specs/Saved.antt", r"\.SavedStateError\.TheVariants\.\{(.+)\}$",
      ", ".join(error["case"] for error in ERRORS)),
+    # What the prover has to reject.
+    (WRONG_BODIES, r"^There are (\d+) edits\. ", rattle.number_of_edits()),
+    (WRONG_BODIES, r" Together they have (\d+) wrong bodies: ", rattle.number_of_named_bodies()),
 ]
 
 
@@ -143,7 +150,7 @@ def with_parts(text):
 def made(read):
     """Each file that has facts, as it is to be. `read` gives the text of a file by its name."""
     files = {MODULE: module(), REFUSED: refused(), **{f"{name.removesuffix('.in')}.txt": made_of(name, read(name)) for name in TEMPLATES}}
-    for name in PAGES:
+    for name in (*PAGES, *READMES):
         files[name] = with_parts(read(name))
     for name, form, text in [*PLACES, *((name, rows_of(template), rows(template)) for name, template in ROWS.items()),
                              *((name, form, body()) for name, form, body in BODIES)]:

@@ -1,9 +1,9 @@
 # SPDX-License-Identifier: Apache-2.0 OR BSD-3-Clause
-"""What docs/DEVICES.md, docs/DIFFERENCES.md and docs/SAVED-STATES.md have of interface.toml: their parts by the words
-of their marks, as lines."""
-from common.facts import (BYTES, CLOCK, CLOCK_CONTENTS, CLOCK_SAVED, CONSOLE, CONSOLE_PREFIX, CONSOLE_SAVED, ENCODING,
-                          ERRORS, FIFO_SIZE, HEADER_SIZE, IDENTIFICATION, KINDS, MAGIC, OUTPUT_SIZE, PORT_FIELDS,
-                          PORT_REGISTERS, PORT_SAVED, SERIAL, told, told_of_port, word_of)
+"""What docs/DEVICES.md, docs/DIFFERENCES.md, docs/SAVED-STATES.md and READMEs have of interface.toml: their parts by the
+words of their marks, as lines."""
+from common.facts import (BYTES, CLOCK, CLOCK_CONTENTS, CLOCK_SAVED, CONSOLE, CONSOLE_PREFIX, CONSOLE_SAVED, DEVICES,
+                          ENCODING, ERRORS, FIFO_SIZE, HEADER_SIZE, IDENTIFICATION, KINDS, MAGIC, OUTPUT_SIZE,
+                          PORT_FIELDS, PORT_REGISTERS, PORT_SAVED, SERIAL, title_of, told, told_of_port, word_of)
 from generators.facts_of_tests import expanded
 
 
@@ -16,7 +16,18 @@ def hexes(numbers):
     return " ".join(f"0x{number:02X}" for number in numbers)
 
 
-# ---- docs/DEVICES.md
+# ---- READMEs, and docs/DEVICES.md
+
+def devices():
+    return [f"- {device['about']}" for device in DEVICES]
+
+
+def names_of_devices():
+    """The names of each device, beside a link to its section."""
+    rows = [[f"[{title_of(device)}](#{device['name'].replace(' ', '-')})",
+             *(f"`{device[language]}`" for language in ("c", "rust", "python"))] for device in DEVICES]
+    return table(["Device", "C", "Rust, Rattle", "Python, JavaScript"], rows)
+
 
 def fresh_of(register):
     """What a register holds in a new port, and what is read of it if that is something else."""
@@ -171,6 +182,8 @@ def clock_session():
 
 
 PARTS = {
+    "devices": devices,
+    "names of the devices": names_of_devices,
     "registers of the port": port_registers,
     "bits": port_bits,
     "registers of the clock": clock_registers,

@@ -1,20 +1,24 @@
 # SPDX-License-Identifier: Apache-2.0 OR BSD-3-Clause
 """The lines of a script, as bindings/python/superio/board.py has them, for the page and for readers: web/lines.mjs, and
-the tables of docs/SCRIPT.md."""
+the tables of docs/SCRIPT.md. A device that interface.toml has gets its heading there too."""
 import json
 import re
 
 from common.commands import ROOT
+from common.facts import DEVICES, title_of
 from superio.board import BYTES, FURTHER_LINES, MASK, PROGRAM_LINES
 
 PAGE_LINES = ROOT / "web" / "lines.mjs"
 DOCUMENT = ROOT / "docs" / "SCRIPT.md"
 HEAD = "| Line | Effect | Reply |\n|---|---|---|\n"
-# The lines of each table of the document, in their order: those of a device, whose names begin with its letter, and the
-# further ones. The line that a script begins with has a paragraph of its own.
-OF_DEVICES = {name: line for name, line in PROGRAM_LINES.items() if name != MASK}
-TABLES = [*({name: line for name, line in OF_DEVICES.items() if name[0] == letter}
-            for letter in dict.fromkeys(name[0] for name in OF_DEVICES)), FURTHER_LINES]
+# The headings below which a table stands, in their order, each with the lines that the table has: those of a device, whose
+# names begin with its letter, and the further ones. The line that a script begins with has a paragraph of its own.
+FURTHER = "\n## Further lines\n"
+AFTER_DEVICES = "\n## How a run ends\n"
+OF_DEVICES = {f"\n### {title_of(device)}\n": {name: line for name, line in PROGRAM_LINES.items()
+                                              if name != MASK and name[0] == device["lines"]}
+              for device in DEVICES if "lines" in device}
+TABLES = {**OF_DEVICES, FURTHER: FURTHER_LINES}
 
 
 def for_page():
@@ -42,14 +46,23 @@ def row(name, line):
     return f"| {', '.join(f'`{text}`' for text in syntaxes)} | {effect} | {line.replies} |\n"
 
 
+def with_rows(text, heading, rows):
+    """A text with these rows in the first table below a heading, and above the next heading."""
+    return re.sub(rf"({heading}(?:(?!#|\| Line ).*\n)*{re.escape(HEAD)})(?:\|.*\n)*", lambda found: found[1] + rows, text)
+
+
 def for_readers(text):
-    """The text of SCRIPT.md with its tables."""
-    tables = iter(TABLES)
-    made, count = re.subn(re.escape(HEAD) + r"(?:\|.*\n)*", lambda _: HEAD + "".join(
-        row(name, line) for name, line in next(tables, {}).items()), text)
-    if count != len(TABLES):
+    """The text of SCRIPT.md with its tables. A device without a heading gets one, behind the devices that have one."""
+    if missing := PROGRAM_LINES.keys() - {MASK}.union(*OF_DEVICES.values()):
+        raise ValueError(f"interface.toml has no device for the lines {', '.join(sorted(missing))}")
+    for heading in OF_DEVICES:
+        if heading not in text:
+            text = text.replace(AFTER_DEVICES, f"{heading}\n{HEAD}{AFTER_DEVICES}")
+    for heading, lines in TABLES.items():
+        text = with_rows(text, heading, "".join(row(name, line) for name, line in lines.items()))
+    if (count := text.count(HEAD)) != len(TABLES):
         raise ValueError(f"{DOCUMENT.name} has {count} tables of lines")
-    return made
+    return text
 
 
 if __name__ == "__main__":
