@@ -1,10 +1,10 @@
 # SPDX-License-Identifier: Apache-2.0 OR BSD-3-Clause
-"""Writes the facts of interface.toml, the version, and the numbers of wrong bodies, into each file that repeats one.
+"""Writes the facts of interface.toml, the version, and what pages repeat of sources, into each file that repeats one.
 
 Python's module _facts.py is made whole, and so is the data of tests that has saved states. A page has its parts below
 marks, whose words name them. In other files these are made: the rows that there are one of for each error, in ROWS;
-what a number or a name stands for, in PLACES; and the body of a struct and of an enum, in BODIES. The changelogs tell of
-releases, so they have their versions by hand.
+what a number or a name stands for, in PLACES; and the body of a struct, an enum and a block, in BODIES. The changelogs
+tell of releases, so they have their versions by hand.
 """
 import re
 import sys
@@ -111,8 +111,16 @@ def error_enum():
     return "    SUPERIO_LOAD_OK = 0,\n" + "".join(commented(rows))
 
 
-# What is between braces.
+def unsafe_lines():
+    """The lines of the C functions with `unsafe`, those of a function below its first."""
+    lines = [line for line in (ROOT / SOURCE / "src/lib.rs").read_text("utf-8").splitlines()
+             if re.search(r"\bunsafe\b", line)]
+    return "".join(f"    {line.strip()}\n" if line[0] == " " else f"\n{line}\n" for line in lines).lstrip("\n")
+
+
+# What is between braces, and a block of a page.
 BODIES = [
+    ("recheck/README.md", r"^## The lines with `unsafe`\n\n.+\n\n```rust\n((?:.*\n)+?)```$", unsafe_lines),
     (C_HEADER, r"(?<=^typedef struct superio_rtc \{\n)(?:.+\n)+?(?=\} superio_rtc;$)", clock_struct),
     (C_HEADER, r"(?<=^enum superio_saved_state_error \{\n)(?:.+\n)+?(?=\};$)", error_enum),
 ]

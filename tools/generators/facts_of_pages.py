@@ -1,6 +1,6 @@
 # SPDX-License-Identifier: Apache-2.0 OR BSD-3-Clause
-"""What docs/DEVICES.md, docs/DIFFERENCES.md, docs/SAVED-STATES.md and READMEs have of interface.toml: their parts by the
-words of their marks, as lines."""
+"""What docs/DEVICES.md, docs/DIFFERENCES.md, docs/SAVED-STATES.md and READMEs have of interface.toml: their parts by
+the words of their marks, as lines."""
 from common.facts import (BYTES, CLOCK, CLOCK_CONTENTS, CLOCK_SAVED, CONSOLE, CONSOLE_PREFIX, CONSOLE_SAVED, DEVICES,
                           ENCODING, ERRORS, FIFO_SIZE, HEADER_SIZE, IDENTIFICATION, KINDS, MAGIC, OUTPUT_SIZE,
                           PORT_FIELDS, PORT_REGISTERS, PORT_SAVED, SERIAL, title_of, told, told_of_port, word_of)

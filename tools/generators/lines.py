@@ -11,7 +11,7 @@ from superio.board import BYTES, FURTHER_LINES, MASK, PROGRAM_LINES
 PAGE_LINES = ROOT / "web" / "lines.mjs"
 DOCUMENT = ROOT / "docs" / "SCRIPT.md"
 HEAD = "| Line | Effect | Reply |\n|---|---|---|\n"
-# The headings below which a table stands, in their order, each with the lines that the table has: those of a device, whose
+# The headings below which a table stands, in their order, each with the lines of its table: those of a device, whose
 # names begin with its letter, and the further ones. The line that a script begins with has a paragraph of its own.
 FURTHER = "\n## Further lines\n"
 AFTER_DEVICES = "\n## How a run ends\n"
@@ -48,7 +48,8 @@ def row(name, line):
 
 def with_rows(text, heading, rows):
     """A text with these rows in the first table below a heading, and above the next heading."""
-    return re.sub(rf"({heading}(?:(?!#|\| Line ).*\n)*{re.escape(HEAD)})(?:\|.*\n)*", lambda found: found[1] + rows, text)
+    between = r"(?:(?!#|\| Line ).*\n)*"
+    return re.sub(rf"({heading}{between}{re.escape(HEAD)})(?:\|.*\n)*", lambda found: found[1] + rows, text)
 
 
 def for_readers(text):
