@@ -37,7 +37,7 @@ const OF_KIND = {
 // How many bytes a field of a state has at most.
 const MOST = { inBuffer: 64, output: 4096 };
 
-/** A state like a sample, whose numbers have the kinds of a device's struct. A third has nearly as many bytes as fit. */
+/** A state like a sample, with numbers of the kinds of a device's struct. A third has nearly as many bytes as fit. */
 function anyState(below, kind, sample = new kind().state) {
   const anyOf = (name, value) => {
     if (value instanceof Uint8Array) {

@@ -62,7 +62,7 @@ class Drawn(random.Random):
             return self.state(type(field.default))
         if isinstance(field.default, bytes):
             most = MOST[field.name]
-            return self.randbytes(self.choice([0, self.randrange(9), most - self.randrange(9), self.randrange(most)]))
+            return self.randbytes(self.choice([self.randrange(9), self.randrange(65), most - self.randrange(9)]))
         if isinstance(field.default, bool):
             return self.flag()
         bits = 8 * ctypes.sizeof(field.metadata["kind"])
