@@ -1,8 +1,7 @@
 // SPDX-License-Identifier: Apache-2.0 OR BSD-3-Clause
 /**
- * Emulated legacy devices for virtual machine monitors, over proved code: a 16550 serial port with the monitor's part
- * of its work (`Console`) or without (`Serial`), a PL031 real-time clock (`Rtc`) and an i8042 reset controller
- * (`I8042`).
+ * Emulated legacy devices for virtual machine monitors, over proved code. Among them are a 16550 serial port, with the
+ * monitor's part of its work (`Console`) or without (`Serial`), and a PL031 real-time clock (`Rtc`).
  *
  * superio.d.ts documents each call. A call runs the function of superio.h with its name, compiled to WebAssembly, on a
  * copy of the device's struct. A wrong argument throws an error that names it, and changes nothing.

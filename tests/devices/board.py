@@ -39,12 +39,15 @@ def fault(kind, data):
 BYTES = "1 to 128 bytes, which may be left out"
 # The lines by their names: the call, and how many digits each of its numbers has, or that it has bytes.
 PROGRAM_LINES, FURTHER_LINES = {}, {}
+WEIGHTS, OFTEN = {}, {}   # by the names of calls: how made.py draws them
 
 
-def script_line(name, *digits, lines=PROGRAM_LINES):
-    """Makes a method the call of a line of the program."""
+def script_line(name, *digits, lines=PROGRAM_LINES, weight=1, often=()):
+    """Makes a method the call of a line of the program. In random scripts it comes `weight` times as often as a line
+    that has no weight. `often` has a row for each number: it is one of these or, as often as one of them, any."""
     def known(method):
-        lines[name] = (method.__name__, *digits)
+        lines[name], call = (method.__name__, *digits), method.__name__
+        WEIGHTS[call], OFTEN[call] = weight, often or [()] * len(digits)
         return method
     return known
 
@@ -159,10 +162,10 @@ class Board:
             self.clock = self.devices.Clock(**dict(zip(CLOCK_FIELDS, CLOCK_CONTENTS.unpack(data[8:]))))
         return words
 
-    @script_line("kr", 2)
+    @script_line("kr", 2, often=[(4,)])
     def controller_read(self, offset):
         return "00"
 
-    @script_line("kw", 2, 2)
+    @script_line("kw", 2, 2, weight=2, often=[(4, 4), (0xFE,)])   # the reset command, and what is near it
     def controller_write(self, offset, value):
         return "reset" if (offset, value) == (4, 0xFE) else "ok"

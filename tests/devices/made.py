@@ -4,22 +4,24 @@ differ. A call is a name of board.Board and its arguments."""
 import random
 from functools import partial
 
-from board import BYTES, CLOCK, CLOCK_CONTENTS, REGISTERS, SERIAL
+from board import BYTES, CLOCK, CLOCK_CONTENTS, OFTEN, REGISTERS, SERIAL, WEIGHTS
 from common.facts import FIFO_SIZE, saved
 from facts import CLOCK_AT, CLOCK_FIELDS
-from script import LINES, PROGRAM_LINES, line_of, script_of, syntax_of
+from script import LINES, MASK, PROGRAM_LINES, line_of, script_of, syntax_of
 from seeds import random_source
 
 MOST_CALLS = 36
 # What a script shows of its devices at its end, by the program's lines: all that reads show, before and after the
 # pending interrupts are asked for again, with the divisor, and then the bytes.
 ENDS = [("sent",), ("interrupts",), ("events",), ("capacity",)]
+# Of each other device, all that lines without fields show.
+OTHERS_SHOWN = [(call,) for name, (call, *kinds) in PROGRAM_LINES.items() if name[0] not in "sc" and not kinds]
 CLOCK_SHOWN = [("clock_read", 5, offset) for offset in CLOCK_AT]
 SHOWN = [*ENDS, ("serial_read", 3), ("serial_write", 3, 0x03), *(("serial_read", offset) for offset in (1, 4, 5, 6, 7)),
          ("restore",), ("interrupts",), ("serial_read", 2), ("serial_write", 3, 0x83), ("serial_read", 0),
          ("serial_read", 1), ("serial_write", 3, 0x03), ("drain",), ("events",), *CLOCK_SHOWN,
-         ("clock_read", 2**32 - 1, 0x18), ("clock_read", 0, 0x00)]
-SAVED = [*ENDS, ("save",), ("clock_save",)]
+         ("clock_read", 2**32 - 1, 0x18), ("clock_read", 0, 0x00), *OTHERS_SHOWN]
+SAVED = [*ENDS, ("save",), ("clock_save",), *OTHERS_SHOWN]
 
 
 # Numbers and bytes
@@ -102,10 +104,10 @@ CLOCK_CALLS = [
     (6, lambda source: ("clock_read", moment(source), clock_offset(source))),
     (8, lambda source: ("clock_write", moment(source), clock_offset(source), number(source))),
 ]
-CONTROLLER_CALLS = [
-    (1, lambda source: ("controller_read", byte(source))),
-    (4, lambda source: ("controller_write", source.choice([4, 4, byte(source)]), source.choice([0xFE, byte(source)]))),
-]
+# By the letter of a device, with which the names of its lines begin. Those of other devices are drawn as board.py says.
+OWN_CALLS = {"s": PORT_CALLS, "c": CLOCK_CALLS}
+DEVICES = dict.fromkeys(name[0] for name in LINES if name != MASK)
+OTHERS = DEVICES.keys() - OWN_CALLS.keys()
 
 
 def clock_offset(source):
@@ -113,20 +115,23 @@ def clock_offset(source):
 
 
 def any_call(call, kinds, source):
-    """A call with random numbers, and bytes that may be a saved state."""
+    """A call with random numbers, of which some are more often than others, and bytes that may be a saved state."""
     makes = {"load": saved_port, "clock_load": saved_clock}.get(call, data)
-    return call, *(makes(source) if digits == BYTES else source.getrandbits(4 * digits) for digits in kinds)
+    return call, *(makes(source) if digits == BYTES else source.choice([*often, source.getrandbits(4 * digits)])
+                   for digits, often in zip(kinds, OFTEN[call]))
 
 
-def with_each_line(table, device, lines):
-    """A table of calls, with each other line of a device, which is the letter that its name begins with."""
+def table_of(devices, lines):
+    """A table of devices' calls: their own, and each other of their lines."""
+    table = [row for device in devices for row in OWN_CALLS.get(device, [])]
     own = {make(random.Random(0))[0] for _, make in table}
-    return [*table, *((1, partial(any_call, call, kinds)) for name, (call, *kinds) in lines.items()
-                      if name[0] == device and call not in own)]
+    return [*table, *((WEIGHTS[call], partial(any_call, call, kinds)) for name, (call, *kinds) in lines.items()
+                      if name[0] in devices and call not in own)]
 
 
-PORT_SCRIPT_CALLS, PORT_BOARD_CALLS = (with_each_line(PORT_CALLS, "s", lines) for lines in (PROGRAM_LINES, LINES))
-CLOCK_BOARD_CALLS = with_each_line(CLOCK_CALLS, "c", LINES)
+# Those of the port, of the clock and of the other devices.
+SCRIPT_CALLS, BOARD_CALLS = ([table_of(devices, lines) for devices in ("s", "c", OTHERS)]
+                             for lines in (PROGRAM_LINES, LINES))
 
 
 def drawn(source, table, count):
@@ -149,15 +154,15 @@ def clock_used(source):
 
 def random_calls(source, is_for_program=False):
     """The calls of a script, half of them under a mask: from new devices on, from devices in any state, or with an
-    output that is nearly full, of one device or of all. They show at the end what the devices are."""
+    output that is nearly full, of the port, of the clock or of all devices."""
     port_start = port_used(source) if is_for_program else [("load", saved_port(source))]
     clock_start = clock_used(source) if is_for_program else [("clock_load", saved_clock(source))]
-    port = PORT_SCRIPT_CALLS if is_for_program else PORT_BOARD_CALLS
-    clock = CLOCK_CALLS if is_for_program else CLOCK_BOARD_CALLS
+    port, clock, others = SCRIPT_CALLS if is_for_program else BOARD_CALLS
+    others_start = drawn(source, others, source.randrange(16))
     full = [("serial_write", 0, byte(source)) for _ in range(255)]
     start, table = source.choices(
         [([], port), (port_start, port), (full, port), ([], clock), (clock_start, clock),
-         ([*port_start, *clock_start], [*port, *clock, *CONTROLLER_CALLS])], [8, 8, 1, 4, 4, 4])[0]
+         ([*port_start, *clock_start, *others_start], [*port, *clock, *others, *others])], [8, 8, 1, 4, 4, 4])[0]
     mask = source.getrandbits(64) & source.choice([-1, source.getrandbits(64), 0x3F])
     return [*[("refuse", mask)] * source.randrange(2), *start, *drawn(source, table, source.randint(1, MOST_CALLS))]
 

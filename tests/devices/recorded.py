@@ -8,8 +8,8 @@ from itertools import product
 
 from board import FIFO_SIZE, Board
 from harness import ROOT
-from made import CLOCK_CALLS, CONTROLLER_CALLS, PORT_CALLS, clock_state, drawn, port_state
-from script import call_of, line_of
+from made import CLOCK_CALLS, PORT_CALLS, table_of, clock_state, drawn, port_state
+from script import LINES, call_of, line_of
 
 CALLS = ROOT / "tests" / "data" / "calls"
 # The names of its recordings, and one of what `every_answer` makes.
@@ -19,6 +19,7 @@ RUN = 40   # calls of a random run
 BEHAVIOURS = [*[""] * 6, *"12nfui", "1 2", "1 f", "1 u", "2 n"]
 # The lines of scripts that recorded calls share.
 SHARED = ("sr", "sw", "sq", "si", "sc", "cr", "cw", "kr", "kw")
+CONTROLLER_CALLS = table_of("k", LINES)
 
 
 def port_text(registers, held):

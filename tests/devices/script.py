@@ -5,6 +5,7 @@ import re
 from board import BYTES, FURTHER_LINES, PROGRAM_LINES, Board
 
 LINES = {**PROGRAM_LINES, **FURTHER_LINES}
+MASK = "refuse"   # the line that is of no device, and only a script's first
 NAMES = {call: name for name, (call, *_) in LINES.items()}
 
 
@@ -53,7 +54,7 @@ def run_script(script, is_for_program=False, board=None):
     is the first bad one."""
     board, replies, pattern = board or Board(), [], PATTERNS[is_for_program]
     for number, line in enumerate(script.removesuffix("\n").split("\n") if script else [], 1):
-        if not pattern.fullmatch(line) or line.startswith("refuse") and number > 1:
+        if not pattern.fullmatch(line) or line.startswith(MASK) and number > 1:
             return replies, f"bad line {number}"
         replies += replies_of(board, [call_of(line)])
     return replies, ""

@@ -10,6 +10,7 @@ import { Board, LINES, bytesOf, hex, hexOf, parse, programLines, runScript, synt
 import { Boot } from "../../../web/boot.mjs";
 import { CLOCK, DLAB, SERIAL } from "../registers.mjs";
 import { Rtc, Serial } from "../superio.mjs";
+import { DEVICES, contentsOf } from "./members.mjs";
 import {
   CONDITIONS, dateOf, lineFormat, plural, quoted, ruleOf, short, shownRegisters, storyOf, told,
 } from "../../../web/why.mjs";
@@ -102,13 +103,21 @@ test("a value of another type is an error, and none that is told as a reply", ()
   }
 });
 
-/** All that a board has, as plain values. */
-const valuesOf = (board) =>
-  structuredClone({ ...board, serial: hexOf(board.serial.toBytes()), clock: hexOf(board.clock.toBytes()) });
+/** What each device of a board shows, and all else that the board has, as plain values. */
+function valuesOf(board) {
+  const isDevice = ([, value]) => DEVICES.includes(value?.constructor);
+  const devices = Object.entries(board).filter(isDevice).map(([name, device]) => [name, contentsOf(device)]);
+  return [devices, Object.entries(board).filter((one) => !isDevice(one))].map((rows) =>
+    structuredClone(Object.fromEntries(rows)));
+}
 
-test("a new board has called nothing, and has sent and received nothing", () => {
-  assert.deepEqual(valuesOf(new Board()), {
-    serial: hexOf(new Serial().toBytes()), clock: hexOf(new Rtc().toBytes()), mask: 0n, refuses: false, fails: false,
+test("a new board has new devices, has called nothing, and has sent and received nothing", () => {
+  const [devices, others] = valuesOf(new Board());
+  const fresh = Object.keys(devices).map((name) => [name, contentsOf(new (new Board())[name].constructor())]);
+  assert.deepEqual(Object.entries(devices), fresh);
+  assert.ok("serial" in devices && "clock" in devices);
+  assert.deepEqual(others, {
+    mask: 0n, refuses: false, fails: false,
     asked: 0, output: "", counts: { bufferRead: 0, outByte: 0, txLostByte: 0, inBufferEmpty: 0 },
     readOut: "", head: 0, answers: [], isLost: false, isReadEmpty: false,
   });
@@ -130,7 +139,7 @@ test("what is noted of the last call, and of no earlier one", () => {
 test("a copy of a board is another one: what is done to either changes nothing of the other", () => {
   const lines = ["sw 01 03", "sq 6162636465", "sr 00", "sw 00 41", "sr 02", "cw 0000000000000005 0008 00000064",
     "cw 0000000000000005 0004 00000066", "sw 07 42", "sw 00 43"];
-  const more = { refuse: "ffffffffffffffff", sw: "00 5a", sq: "7a", sl: hexOf(new Board().serial.toBytes()),
+  const more = { refuse: "ffffffffffffffff", sr: "00", sw: "00 5a", sq: "7a", sl: hexOf(new Board().serial.toBytes()),
     cr: "0000000000000007 0000", cw: "0000000000000009 000c 00000001", kr: "04", kw: "04 fe",
     cl: hexOf(new Board().clock.toBytes()) };
   const made = new Board();
@@ -141,16 +150,19 @@ test("a copy of a board is another one: what is done to either changes nothing o
     const original = made.clone();
     const copy = original.clone();
     const further = copy.clone();
-    const texts = sizes.map((digits) => fieldsOf(digits)[0][0]);
+    const texts = sizes.map((digits) => fieldsOf(digits)[1][0]);
     copy.reply(parse([name, more[name] ?? texts].flat().join(" "), true));
     Object.assign(copy, { refuses: false, fails: false });
     for (const board of [original, further]) {
       assert.deepEqual(valuesOf(board), kept);
       assert.ok(board instanceof Board && board.isSameAs(made));
     }
+    if (copy.isSameAs(made)) assert.deepEqual(valuesOf(copy)[0], kept[0], name);
     return copy.mask !== made.mask || !copy.isSameAs(made);
   });
-  assert.equal(changed.map(([name]) => name).join(" "), "sr sw sq sd ss cr cw refuse si sl cl");
+  // Of the port, of the clock and of the line. What the lines of other devices change is among their parts.
+  const known = changed.map(([name]) => name).filter((name) => /^[scr]/.test(name));
+  assert.equal(known.join(" "), "sr sw sq sd ss cr cw refuse si sl cl");
 });
 
 test("the place of the oldest byte, and what was read, go on with each byte that the guest reads, and no other", () => {
@@ -383,7 +395,8 @@ function numbersOf() {
 test("the numbers in a rule are those of what the devices do", () => {
   const known = numbersOf();
   const offsets = Array.from({ length: 9 }, (_, offset) => hex(offset, 2));
-  const others = Object.keys(SYNTAX).filter((name) => !/^[sck][rw]$|^refuse$/.test(name));
+  const others = Object.entries(SYNTAX).filter(([name]) => !/^[sck][rw]$|^refuse$/.test(name)).map(([name, sizes]) =>
+    [name, ...sizes.filter((digits) => digits !== BYTES).map((digits) => "0".repeat(digits))].join(" "));
   const lines = [...known.keys(), ...others, ...offsets.flatMap((offset) => [`sr ${offset}`, `sw ${offset} 00`]),
     "sw 03 80;sw 00 00", "sw 03 80;sw 01 00", "sw 04 10;sw 00 41",
     ...Object.values(CLOCK).map(({ offset }) => `cr 0000000000000005 ${hex(offset, 4)}`)];

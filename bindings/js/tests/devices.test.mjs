@@ -10,6 +10,7 @@ import test from "node:test";
 import { ABI, SAVED_STATE_ERRORS } from "../module.mjs";
 import * as registers from "../registers.mjs";
 import * as superio from "../superio.mjs";
+import { DEVICES, PARAMETERS, contentsOf } from "./members.mjs";
 
 const { Console, I8042, Rtc, SavedStateError, Serial } = superio;
 
@@ -181,12 +182,24 @@ function refused(call, name, text) {
 // Objects that JavaScript would make a number or a text of, and what it cannot make a text of.
 const OF_OTHER_KINDS = [undefined, null, true, [7], {}, new Number(7), () => 7, Symbol("seven"), Object.create(null)];
 
+/** The call with a value for a parameter, of a new device. A call that is refused leaves the device as it was. */
+const ofNewDevice = ({ device: Kind, call }) => (value) => {
+  const device = new Kind();
+  const before = contentsOf(device);
+  try {
+    call(device, value);
+  } catch (error) {
+    assert.deepEqual(contentsOf(device), before, `${Kind.name} after a refused argument`);
+    throw error;
+  }
+};
+
 test("any Uint8Array is taken as bytes, and nothing else is", () => {
   const encoding = fromHex(PORT_SAVED);
   const others = ["53", encoding.buffer, new DataView(encoding.buffer), new Int8Array(8), new Uint8ClampedArray(8)];
-  for (const call of [(it) => new Serial().enqueue(it), (it) => Serial.fromState({ ...PORT, inBuffer: it }),
-    (it) => Serial.fromBytes(it), (it) => Rtc.fromBytes(it), (it) => new Console().receive(it),
-    (it) => Console.fromBytes(it), (it) => Console.fromState({ ...CONSOLE, output: it })]) {
+  for (const call of [...PARAMETERS.filter(({ kind }) => kind === "bytes").map(ofNewDevice),
+    ...DEVICES.filter((kind) => kind.fromBytes).map((kind) => (it) => kind.fromBytes(it)),
+    (it) => Serial.fromState({ ...PORT, inBuffer: it }), (it) => Console.fromState({ ...CONSOLE, output: it })]) {
     for (const other of [...OF_OTHER_KINDS, ...others]) refused(() => call(other), "TypeError", "a Uint8Array");
   }
   refused(() => new Serial().enqueue([65]), "TypeError", "bytes is of class Array, and a Uint8Array is wanted");
@@ -202,25 +215,21 @@ test("any Uint8Array is taken as bytes, and nothing else is", () => {
 });
 
 // Each argument that is a number: its name, the range, and a call with it.
-const [OF_BYTE, OF_WORD, OF_MOMENT] = [[0, 0xff], [0, 2 ** 32 - 1], [0n, 2n ** 64n - 1n]];
+const [OF_BYTE, OF_WORD, OF_64_BITS] = [[0, 0xff], [0, 2 ** 32 - 1], [0n, 2n ** 64n - 1n]];
 const NUMBERS = [
-  ["offset", OF_BYTE, (it) => new Console().read(it)], ["offset", OF_BYTE, (it) => new Console().write(it, 0)],
-  ["value", OF_BYTE, (it) => new Console().write(7, it)],
-  ["count", [0, Number.MAX_SAFE_INTEGER], (it) => new Console().consume(it)],
-  ["dropped", OF_MOMENT, (it) => Console.fromState({ ...CONSOLE, dropped: it })],
-  ["offset", OF_BYTE, (it) => new Serial().read(it)], ["offset", OF_BYTE, (it) => new Serial().write(it, 0)],
-  ["value", OF_BYTE, (it) => new Serial().write(7, it)],
-  ["offset", [0, 0xffff], (it) => new Rtc().read(it, 0)], ["offset", [0, 0xffff], (it) => new Rtc().write(it, 0, 0)],
-  ["value", OF_WORD, (it) => new Rtc().write(8, it, 0)],
-  ["now", OF_MOMENT, (it) => new Rtc().read(0, it)], ["now", OF_MOMENT, (it) => new Rtc().write(8, 0, it)],
-  ["now", OF_MOMENT, (it) => new Rtc().alarmDue(it)],
-  ["offset", OF_BYTE, (it) => new I8042().read(it)], ["offset", OF_BYTE, (it) => new I8042().write(it, 0)],
-  ["value", OF_BYTE, (it) => new I8042().write(4, it)],
+  ...PARAMETERS.filter(({ range }) => range).map((one) => [one.name, one.range, ofNewDevice(one)]),
+  ["dropped", OF_64_BITS, (it) => Console.fromState({ ...CONSOLE, dropped: it })],
   ["offset", [-(2n ** 63n), 2n ** 63n - 1n], (it) => Rtc.fromState({ ...CLOCK, offset: it })],
   ...REGISTERS.map((name) => [name, OF_BYTE, (it) => Serial.fromState({ ...PORT, [name]: it })]),
   ...Object.keys(CLOCK).filter((name) => typeof CLOCK[name] === "number").map((name) =>
     [name, OF_WORD, (it) => Rtc.fromState({ ...CLOCK, [name]: it })]),
 ];
+
+test("each call of each device is among those of numbers, bytes and flags", () => {
+  const known = PARAMETERS.filter(({ kind, range }) => range || ["bytes", "bool"].includes(kind));
+  assert.deepEqual(PARAMETERS, known);
+  assert.ok(known.length >= 20, `${known.length}`);
+});
 
 test("each number is taken at its edges, and refused beyond them by its name, its value and the range", () => {
   for (const [name, [least, most], call] of NUMBERS) {
@@ -256,8 +265,9 @@ test("a refused argument changes nothing", () => {
 test("a flag is true or false", () => {
   for (const other of [0, 1, "true", new Boolean(true), ...OF_OTHER_KINDS.filter((it) => it !== true)]) {
     const names = ["isPolled", "isReady", "isAsleep", "isRefused"];
-    for (const call of [...names.map((name) => () => Console.fromState({ ...CONSOLE, [name]: other })),
-      () => new Console().setPolled(other), ...(other === undefined ? [] : [() => new Console(other)])]) {
+    const ofCalls = PARAMETERS.filter(({ kind, member }) =>
+      kind === "bool" && (member !== "constructor" || other !== undefined)).map((one) => () => ofNewDevice(one)(other));
+    for (const call of [...names.map((name) => () => Console.fromState({ ...CONSOLE, [name]: other })), ...ofCalls]) {
       refused(call, "TypeError", "true or false is wanted");
     }
   }

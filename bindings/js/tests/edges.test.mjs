@@ -7,8 +7,9 @@ import { readFileSync } from "node:fs";
 import test from "node:test";
 import { CLOCK, SERIAL } from "../registers.mjs";
 import * as superio from "../superio.mjs";
+import { DEVICES, made, membersOf, plainValues } from "./members.mjs";
 
-const { Console, I8042, Rtc, Serial } = superio;
+const { Console, Rtc } = superio;
 
 const DAY = 24 * 60 * 60;
 const [MOST_16, MOST_31, MOST_32] = [16, 31, 32].map((bits) => 2 ** bits - 1);
@@ -139,30 +140,24 @@ const alarm = (due) => {
   clock.write("MR", 5 + due, 5);
   return clock;
 };
-// Devices of each class, in which each member is seen to give all that it can, and arguments for the members.
-const MADE = {
-  Console: [[() => new Console()], { constructor: [true], read: [5], write: [7, 1], receive: [new Uint8Array(1)],
-    consume: [1], setPolled: [true], fromBytes: [new Console().toBytes()], fromState: [new Console().state] }],
-  Serial: [[() => new Serial()], { read: [5], write: [7, 1], enqueue: [new Uint8Array(1)],
-    fromBytes: [new Serial().toBytes()], fromState: [new Serial().state] }],
-  Rtc: [[() => new Rtc(), () => alarm(9), () => alarm(MOST_32 - 5)], { read: [4, 5], write: [8, 1, 5], alarmDue: [5],
-    fromBytes: [new Rtc().toBytes()], fromState: [new Rtc().state] }],
-  I8042: [[() => new I8042()], { read: [4], write: [4, 0xfe] }],
-};
+// Devices of a class of which a new one does not give all that it can, and a name of a register.
+const OTHERS = { Rtc: [() => alarm(9), () => alarm(MOST_32 - 5)] };
+const NAMES = { Rtc: "MR" };
+
+/** Arguments that each member of a class takes. */
+const valuesOf = (kind) => ({
+  ...Object.fromEntries(["constructor", ...membersOf(kind)].map((member) => [member, plainValues(kind, member)])),
+  ...kind.fromBytes ? { fromBytes: [new kind().toBytes()] } : {},
+  ...kind.fromState ? { fromState: [new kind().state] } : {},
+});
 const SAMPLES = { number: 1, bigint: 1n, string: "MR", boolean: true, null: null, undefined, object: {},
   Uint8Array: new Uint8Array(1) };
 
-/** Calls a member of a device, or makes one. */
-function call(device, member, values) {
-  if (member === "constructor") return new device.constructor(...values);
-  const owner = Object.hasOwn(device.constructor, member) ? device.constructor : device;
-  return typeof owner[member] === "function" ? owner[member](...values) : owner[member];
-}
-
-for (const [name, [makers, values]] of Object.entries(MADE)) {
+for (const kind of DEVICES) {
+  const [name, values, makers] = [kind.name, valuesOf(kind), [() => new kind(), ...OTHERS[kind.name] ?? []]];
   test(`each member of ${name} gives values of the types that are declared, and of no other`, () => {
     for (const { member, gives } of declaredOf(name).filter((one) => one.member !== "constructor")) {
-      const given = makers.map((made) => call(made(), member, values[member] ?? []));
+      const given = makers.map((maker) => made(maker(), member, values[member]));
       assert.deepEqual([...new Set(given.map(kindOf))].sort(), kindsOf(gives), `${member}: ${gives}`);
       const fields = /^\{ (.*) \}$/.exec(gives)?.[1].split("; ");
       if (fields) assert.deepEqual(fields, Object.entries(given[0]).map(([field, it]) => `${field}: ${kindOf(it)}`));
@@ -174,11 +169,11 @@ for (const [name, [makers, values]] of Object.entries(MADE)) {
     for (const { member, takes } of declaredOf(name)) {
       for (const [place, { type, kinds }] of takes.entries()) {
         if (objects.has(type)) checkType(values[member][place], type, `${member}, parameter ${place + 1}`);
-        const samples = { ...SAMPLES, string: name === "Rtc" ? "MR" : "SCR",
+        const samples = { ...SAMPLES, string: NAMES[name] ?? "SCR",
           object: member === "fromState" ? values[member][0] : {} };
         const taken = Object.keys(samples).filter((one) => {
           try {
-            call(makers[0](), member, Object.assign([...values[member]], { [place]: samples[one] }));
+            made(makers[0](), member, Object.assign([...values[member]], { [place]: samples[one] }));
           } catch (error) {
             return !(error instanceof TypeError);
           }

@@ -7,9 +7,9 @@
 import assert from "node:assert/strict";
 import process from "node:process";
 import test from "node:test";
-import * as superio from "../superio.mjs";
+import { Console, Rtc, SavedStateError, Serial } from "../superio.mjs";
+import { DEVICES, contentsOf, kindOfField, made as call, membersOf, onlyLooks, parametersOf } from "./members.mjs";
 
-const { Console, I8042, Rtc, SavedStateError, Serial } = superio;
 const ROUNDS = 10_000;
 
 /** Numbers below a bound, by the generator mulberry32. TEST_SEED gives others, as each commit does. */
@@ -26,88 +26,75 @@ function randomNumbers(test) {
 const anyBytes = (below, most) => Uint8Array.from({ length: below(most + 1) }, () => below(256));
 const anyWord = (below) => below(2) ? below(2000) : below(2 ** 32);
 const anyMoment = (below) => below(2) ? below(2000) : BigInt(anyWord(below)) << 32n | BigInt(anyWord(below));
-const clockOffset = (below) => below(4) ? 4 * below(8) : below(0x10000);
-
-function anyPort(below) {
-  const names = Object.keys(new Serial().state).filter((name) => name !== "inBuffer");
-  return { ...Object.fromEntries(names.map((name) => [name, below(256)])), inBuffer: anyBytes(below, 64) };
-}
-
-function anyClock(below) {
-  const any = { number: () => anyWord(below), bigint: () => BigInt.asIntN(64, BigInt(anyMoment(below))),
-    boolean: () => below(2) === 1 };
-  return Object.fromEntries(Object.entries(new Rtc().state).map(([name, value]) => [name, any[typeof value]()]));
-}
-
-const any64 = (below) => BigInt(anyWord(below)) << 32n | BigInt(anyWord(below));
 const anyFlag = (below) => below(2) === 1;
 
-/** A console, with no output, little or nearly as much as may wait. */
-function anyConsole(below) {
-  const count = [0, below(9), 4096 - below(9)][below(3)];
-  return { port: anyPort(below), output: Uint8Array.from({ length: count }, () => below(256)),
-    dropped: below(2) ? any64(below) : 2n ** 64n - 1n, isPolled: anyFlag(below), isReady: anyFlag(below),
-    isAsleep: anyFlag(below), isRefused: anyFlag(below) };
+// What is drawn for a field or a parameter, by its kind in C.
+const OF_KIND = {
+  uint8_t: (below) => below(256), uint16_t: (below) => below(2) ? below(32) : below(0x10000), uint32_t: anyWord,
+  uint64_t: anyMoment, int64_t: (below) => BigInt.asIntN(64, BigInt(anyMoment(below))),
+  size_t: (below) => below(2) ? below(9) : below(2 ** 53), bool: anyFlag, bytes: (below) => anyBytes(below, 70),
+};
+// How many bytes a field of a state has at most.
+const MOST = { inBuffer: 64, output: 4096 };
+
+/** A state like a sample, with numbers of the kinds of a device's struct. A third has nearly as many bytes as fit. */
+function anyState(below, kind, sample = new kind().state) {
+  const anyOf = (name, value) => {
+    if (value instanceof Uint8Array) {
+      const count = [below(9), below(65), MOST[name] - below(9)][below(3)];
+      return Uint8Array.from({ length: count }, () => below(256));
+    }
+    if (typeof value === "object") return anyState(below, Serial, value);
+    if (typeof value === "boolean") return anyFlag(below);
+    const drawn = OF_KIND[kindOfField(kind, name)](below);
+    return typeof value === "bigint" ? below(4) ? BigInt(drawn) : 2n ** 63n - 1n - BigInt(below(9)) : drawn;
+  };
+  return Object.fromEntries(Object.entries(sample).map(([name, value]) => [name, anyOf(name, value)]));
 }
 
-// The members of each class, with arguments for each. Those that a port or a clock stays the same in come last.
-const CALLS = new Map([
-  [Console, { state: anyConsole, changing: {
-    read: (below) => [below(9)], write: (below) => [below(9), below(256)], receive: (below) => [anyBytes(below, 70)],
-    consume: (below) => [below(2) ? below(9) : below(2 ** 53)], setPolled: (below) => [anyFlag(below)],
-    ...Object.fromEntries(["turn", "refuse", "reset", "suspend"].map((name) => [name, () => []])),
-  }, constant: ["clone", "dropped", "isFull", "output", "state", "toBytes", "wants"] }],
-  [Serial, { state: anyPort, changing: {
-    read: (below) => [below(9)], write: (below) => [below(9), below(256)], enqueue: (below) => [anyBytes(below, 70)],
-    characterTimeout: () => [],
-  }, constant: ["clone", "fifoCapacity", "interruptLine", "interruptsDue", "isCoherent", "state", "toBytes"] }],
-  [Rtc, { state: anyClock, changing: {
-    read: (below) => [clockOffset(below), anyMoment(below)],
-    write: (below) => [clockOffset(below), anyWord(below), anyMoment(below)],
-  }, constant: ["alarmDue", "clone", "interruptLine", "state", "toBytes"] }],
-  [I8042, { changing: { read: (below) => [below(256)], write: (below) => [below(8), 0xfe - below(2)] },
-    constant: [] }],
-]);
-const STATES = Array.from(CALLS).filter(([, { state }]) => state);
+const STATED = DEVICES.filter((kind) => kind.fromState);
+// What is drawn otherwise: most are where there is a register, or near the reset command.
+const SPECIAL = {
+  "Console.offset": (below) => below(9), "Serial.offset": (below) => below(9),
+  "Rtc.offset": (below) => below(4) ? 4 * below(8) : below(0x10000),
+  "I8042.offset": (below) => below(2) ? below(8) : below(256), "I8042.value": (below) => 0xfe - below(2),
+};
 
-/** A member of a device, and arguments for it. */
-function drawn(kind, below) {
-  const { changing, constant } = CALLS.get(kind);
-  const names = [...Object.keys(changing), ...constant];
-  const name = names[below(names.length)];
-  return [name, changing[name]?.(below) ?? (name === "alarmDue" ? [anyMoment(below)] : [])];
+/** A member of a device, or the one that is given, and arguments for it. */
+function drawn(kind, below, only) {
+  const names = membersOf(kind);
+  const name = only ?? names[below(names.length)];
+  const any = (one) => (SPECIAL[`${kind.name}.${one.name}`] ?? OF_KIND[one.kind])(below);
+  return [name, parametersOf(kind, name).map(any)];
 }
 
-/** What a call gives. A device is its saved bytes. */
+/** What a call gives. A device is what it shows. */
 function made(device, [name, parameters]) {
-  const given = typeof device[name] === "function" ? device[name](...parameters) : device[name];
-  return name === "clone" ? given.toBytes() : given;
+  const given = call(device, name, parameters);
+  return given instanceof device.constructor ? contentsOf(given) : given;
 }
 
-test("each member of each class is in the table", () => {
-  const withoutMembers = ["RegisterError", "SavedStateError"];
-  assert.deepEqual([...CALLS.keys()].map((kind) => kind.name).concat(withoutMembers).sort(),
-    Object.keys(superio).sort());
-  for (const [kind, { changing, constant }] of CALLS) {
-    const members = Object.getOwnPropertyNames(kind.prototype).filter((name) => name !== "constructor");
-    assert.deepEqual([...Object.keys(changing), ...constant].sort(), members.sort());
-  }
-});
+/** A device in any state that it may be given, or else in one that some calls bring it to. */
+function anyDevice(kind, below) {
+  if (kind.fromState) return kind.fromState(anyState(below, kind));
+  const device = new kind();
+  for (let count = below(9); count > 0; count -= 1) made(device, drawn(kind, below));
+  return device;
+}
 
 test("what a call gives and what it is passed is the same after all later calls", () => {
   const below = randomNumbers(1);
-  const devices = [new Console(), new Serial(), new Rtc(), new I8042(), Console.fromState(anyConsole(below)),
-    Serial.fromState(anyPort(below))];
+  const devices = [...DEVICES.map((kind) => new kind()), ...DEVICES.map((kind) => anyDevice(kind, below))];
   const kept = [];
   for (let round = 0; round < ROUNDS; round += 1) {
     const device = devices[below(devices.length)];
-    const call = drawn(device.constructor, below);
-    const passed = structuredClone(call);
-    const given = made(device, call);
-    kept.push([given, structuredClone(given), call, passed]);
+    const one = drawn(device.constructor, below);
+    const passed = structuredClone(one);
+    const given = made(device, one);
+    kept.push([given, structuredClone(given), one, passed]);
   }
-  for (const [given, before, call, passed] of kept) {
-    assert.deepEqual([given, call], [before, passed]);
+  for (const [given, before, one, passed] of kept) {
+    assert.deepEqual([given, one], [before, passed]);
   }
 });
 
@@ -124,9 +111,9 @@ function spoil(value) {
 
 test("a device keeps nothing that is the caller's", () => {
   const below = randomNumbers(2);
-  for (const [kind, { state }] of STATES) {
+  for (const kind of STATED) {
     for (let round = 0; round < ROUNDS / 10; round += 1) {
-      const given = state(below);
+      const given = anyState(below, kind);
       const device = kind.fromState(given);
       const saved = device.toBytes();
       const other = kind.fromBytes(saved);
@@ -135,43 +122,65 @@ test("a device keeps nothing that is the caller's", () => {
       const before = other.state;
       saved.fill(0xee);
       assert.deepEqual(other.state, before);
-      const call = drawn(kind, below);
-      const result = made(device, call);
+      const one = drawn(kind, below);
+      const result = made(device, one);
       const after = device.state;
       spoil(result);
-      spoil(call[1]);
+      spoil(one[1]);
       spoil(device.state);
-      assert.deepEqual(device.state, after, call[0]);
+      assert.deepEqual(device.state, after, one[0]);
     }
   }
 });
 
-test("devices that take turns do what each does alone", () => {
-  const kinds = [Console, Serial, Rtc, Console, Serial, Rtc, I8042];
+test("devices that take turns do what each does alone, whatever becomes of what they give", () => {
+  const kinds = [...DEVICES, ...DEVICES];
   const below = randomNumbers(3);
   const calls = Array.from({ length: ROUNDS }, () => {
     const which = below(kinds.length);
     return [which, drawn(kinds[which], below)];
   });
   const turns = kinds.map((kind) => new kind());
-  const inTurns = calls.map(([which, call]) => structuredClone(made(turns[which], call)));
+  const inTurns = calls.map(([which, one]) => {
+    const [own, given] = [structuredClone(one), {}];
+    given.first = made(turns[which], own);
+    const kept = structuredClone(given.first);
+    spoil(given);
+    spoil(own[1]);
+    return kept;
+  });
   kinds.forEach((kind, own) => {
     const device = new kind();
-    calls.forEach(([which, call], place) => {
-      if (which === own) assert.deepEqual(made(device, call), inTurns[place], call[0]);
+    calls.forEach(([which, one], place) => {
+      if (which === own) assert.deepEqual(made(device, one), inTurns[place], one[0]);
     });
   });
 });
 
+test("a copy does what the device does, and is another one", () => {
+  const below = randomNumbers(9);
+  for (const kind of DEVICES.filter(({ prototype }) => prototype.clone)) {
+    for (let round = 0; round < ROUNDS / 50; round += 1) {
+      const device = anyDevice(kind, below);
+      const copy = device.clone();
+      const calls = Array.from({ length: 9 }, () => drawn(kind, below));
+      // The copy comes first, and the device notices none of its calls.
+      const [ofCopy, ofDevice] = [copy, device].map((each) => calls.map((one) => made(each, one)));
+      assert.deepEqual([ofCopy, contentsOf(copy)], [ofDevice, contentsOf(device)]);
+    }
+  }
+});
+
 test("calls that only look leave a device as it is", () => {
   const below = randomNumbers(4);
-  for (const [kind, { state, constant }] of STATES) {
+  for (const kind of DEVICES) {
+    const looks = membersOf(kind).filter((name) => onlyLooks(kind, name));
     for (let round = 0; round < ROUNDS / 10; round += 1) {
-      const before = state(below);
-      const device = kind.fromState(before);
-      for (const name of constant) {
-        made(device, [name, name === "alarmDue" ? [anyMoment(below)] : []]);
-        assert.deepEqual(device.state, before, name);
+      const device = anyDevice(kind, below);
+      const before = contentsOf(device);
+      for (const name of looks) {
+        made(device, drawn(kind, below, name));
+        assert.deepEqual(contentsOf(device), before, name);
       }
     }
   }
@@ -185,7 +194,7 @@ const enabled = ({ interruptEnable }) => ((interruptEnable & 1) << 2) | (interru
 test("the effects of a port's calls are what its states before and after show", () => {
   const below = randomNumbers(7);
   for (let round = 0; round < ROUNDS; round += 1) {
-    const before = anyPort(below);
+    const before = anyState(below, Serial);
     const port = Serial.fromState(before);
     const pending = before.interruptIdentification;
     assert.equal(port.fifoCapacity(), 64 - before.inBuffer.length);
@@ -219,7 +228,7 @@ test("the effects of a port's calls are what its states before and after show", 
 test("a clock's registers read as its state has them", () => {
   const below = randomNumbers(8);
   for (let round = 0; round < ROUNDS / 10; round += 1) {
-    const clock = Rtc.fromState(anyClock(below));
+    const clock = Rtc.fromState(anyState(below, Rtc));
     const now = anyMoment(below);
     for (const [offset, name] of [[0x04, "mr"], [0x08, "lr"], [0x10, "imsc"], [0x14, "ris"]]) {
       assert.deepEqual(clock.read(offset, now), { value: clock.state[name], invalidRead: false });
@@ -236,9 +245,9 @@ test("a clock's registers read as its state has them", () => {
 
 test("any state goes there and back", () => {
   const below = randomNumbers(5);
-  for (const [kind, { state }] of STATES) {
+  for (const kind of STATED) {
     for (let round = 0; round < ROUNDS / 10; round += 1) {
-      const one = state(below);
+      const one = anyState(below, kind);
       const device = kind.fromState(one);
       const other = kind.fromBytes(device.toBytes());
       assert.deepEqual([device.state, other.state, device.clone().state], [one, one, one]);
@@ -264,8 +273,8 @@ function loadedOr(bytes, load) {
 
 test("saved bytes that are cut, longer or changed in a bit are refused, or are another state", () => {
   const below = randomNumbers(6);
-  for (const [kind, { state }] of STATES) {
-    const some = state(below);
+  for (const kind of STATED) {
+    const some = anyState(below, kind);
     if (some.output) some.output = Uint8Array.of(1, 2, 3);
     const saved = kind.fromState(some).toBytes();
     const flipped = Array.from(saved, (_, place) => Array.from({ length: 8 }, (_, bit) =>

@@ -84,6 +84,7 @@ class Snapshot(NamedTuple):
     sent: int   # how many bytes went out
     calls: int  # how often the interrupt line was called
     counts: Counts
+    others: Tuple[str, ...] = ()  # the other devices, as `repr` shows each
 
 
 class Call(NamedTuple):
@@ -149,7 +150,8 @@ class Board:
 
     def snapshot(self) -> Snapshot:
         """What the board is now."""
-        return Snapshot(self.serial.state, self.clock.state, len(self.output), self.calls, self.counts)
+        return Snapshot(self.serial.state, self.clock.state, len(self.output), self.calls, self.counts,
+                        (repr(self.controller),))
 
     def _refuse(self, mask: int) -> None:
         self.mask, self.calls = mask, 0

@@ -213,7 +213,8 @@ def _values(board: Snapshot) -> List[int]:
 
 
 def changes(call: Call) -> List[str]:
-    """What a call changed, a row for each register, the FIFO, the output and the line; empty if nothing."""
+    """What a call changed, a row for each register, the FIFO, the output, another device and the line; empty if
+    nothing."""
     before, after = call.before, call.after
     rows = [f"{register.name} {old:#0{width}x} -> {_decoded(register, new, width)}"
             for (register, width), old, new in zip(_COMPARED, _values(before), _values(after)) if old != new]
@@ -225,6 +226,7 @@ def changes(call: Call) -> List[str]:
         rows.append(f"clock offset {before.clock.offset} -> {after.clock.offset} s")
     if before.clock.armed != after.clock.armed:
         rows.append("alarm set" if after.clock.armed else "alarm over")
+    rows.extend(f"{old} -> {new}" for old, new in zip(before.others, after.others) if old != new)
     return rows + [f"interrupt {'taken' if taken else 'refused'}" for taken in call.answers]
 
 

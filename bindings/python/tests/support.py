@@ -1,11 +1,17 @@
 # SPDX-License-Identifier: Apache-2.0 OR BSD-3-Clause
-"""What the tests share."""
+"""What the tests share: how the package is run, and what each class of a device has, by superio.abi."""
+import copy
+import inspect
 import os
+import pickle
+import re
 import subprocess
 import sys
 import tempfile
 import unittest
+from functools import lru_cache
 from pathlib import Path
+from typing import Any, NamedTuple, Union
 
 PACKAGE = Path(__file__).resolve().parent.parent
 # The sources of the package alone have what their tests read of the repository.
@@ -16,6 +22,61 @@ sys.path.insert(0, str(PACKAGE))
 ENVIRONMENT = {**os.environ, "PYTHONPATH": str(PACKAGE), "SUPERIO_HISTORY": "", "TERM": "xterm"}
 for name in ("NO_COLOR", "PYTHONDONTWRITEBYTECODE", "PYTHONUNBUFFERED"):
     ENVIRONMENT.pop(name, None)
+
+from superio import devices, library  # noqa: E402
+
+DEVICES = [kind for kind in map(vars(devices).get, devices.__all__) if not issubclass(kind, tuple)]
+"""The classes of devices. Those that are tuples are what calls give."""
+
+WAYS = [copy.copy, copy.deepcopy, *(lambda device, protocol=protocol: pickle.loads(pickle.dumps(device, protocol))
+                                    for protocol in range(pickle.HIGHEST_PROTOCOL + 1))]
+"""The ways to copy an object."""
+
+BITS = {"uint8_t": 8, "uint16_t": 16, "uint32_t": 32, "uint64_t": 64, "size_t": 64}
+
+# The members that have another name in C.
+IN_C = {"__init__": "new", "to_bytes": "save", "from_bytes": "load"}
+
+
+class Parameter(NamedTuple):
+    """A parameter of a member. `kind` is how many bits a number has, "bool", or "bytes"."""
+
+    name: str
+    kind: Any
+    may_be_name: bool  # of a register, in place of its offset
+
+
+def members(kind):
+    """What a device has: calls, and values."""
+    names = {name for each in kind.__mro__[:-1] for name in vars(each) if name[0] != "_"}
+    return sorted(names - {"from_bytes", "from_state"})
+
+
+def in_c(kind, member):
+    """What the C function of a member takes, in words, or nothing if it has none."""
+    name = f"superio_{kind.__name__.lower()}_{IN_C.get(member, member)}"
+    return "".join(library._found(rf"function \w+ {name}\((.*)\)"))
+
+
+def only_looks(kind, member):
+    """Whether a member leaves the device as it is: C takes it as a constant, or not at all."""
+    return not re.match(r"superio_\w+ \*", in_c(kind, member))
+
+
+@lru_cache(maxsize=None)
+def parameters(kind, member):
+    """The parameters of a member. In C the device stands before them, and what is written behind."""
+    call, words = getattr(kind, member), in_c(kind, member).replace("const uint8_t *, size_t", "bytes")
+    words = re.sub(r"(?:const )?superio_\w+ \*|uint8_t (?:\*, size_t|\[\w+\])|void", "", words)
+    kinds = [BITS.get(word, word) for word in words.split(", ") if word]
+    named = [one for one in inspect.signature(call).parameters.values() if one.name != "self"] if callable(call) else []
+    assert len(kinds) == len(named) and {*kinds} <= {*BITS.values(), "bytes", "bool"}, (kind, member)
+    return [Parameter(one.name, each, one.annotation == Union[int, str]) for one, each in zip(named, kinds)]
+
+
+def contents(device):
+    """All that a device holds."""
+    return bytes(device._struct) if hasattr(device, "_struct") else pickle.dumps(device)
 
 
 class FolderTest(unittest.TestCase):

@@ -1,6 +1,5 @@
 # SPDX-License-Identifier: Apache-2.0 OR BSD-3-Clause
 """The devices: what Python adds to the calls, which tests/devices/test_calls.py compares with recordings."""
-import copy
 import dataclasses
 import doctest
 import json
@@ -11,17 +10,19 @@ import shutil
 import tempfile
 import typing
 import unittest
+from functools import partial
 from itertools import product
 from pathlib import Path
 from unittest import mock
 
-from support import ROOT
+from support import DEVICES, ROOT, WAYS, contents, members, parameters
 
 import superio
-from superio import (AlarmIsSetError, Board, Command, Console, I8042, LibraryError, RegisterError, Rtc, RtcState,
+from superio import (AlarmIsSetError, Board, Command, I8042, LibraryError, RegisterError, Rtc, RtcState,
                      SavedStateError, ScriptError, Serial, SerialState, board, devices, library, parse, registers,
                      saved)
 from superio.saved import SAVED_STATE_ERRORS
+from superio.script import LINE_FIELDS, MASK
 
 ERROR_TEXTS = ROOT / "crates" / "superio_core" / "src" / "saved" / "error_text.rt"
 
@@ -52,48 +53,88 @@ OUT_OF_REACH = [
     (lambda: Rtc().read("LSR", 0), f"no register is called LSR: there are {' '.join(registers.CLOCK)}"),
 ]
 
-BYTE, WORD, MOMENT = (f"an int from 0 to {most} is wanted" for most in ("255", "2**32 - 1", "2**64 - 1"))
-OR_NAME = ", or the name of a register, is wanted"
+BYTE, WORD = (f"an int from 0 to {most} is wanted" for most in ("255", "2**32 - 1"))
 BYTES, SIGNED = "a bytes-like object is wanted", "an int from -2**63 to 2**63 - 1 is wanted"
 
-# Calls with a wrong argument, the error, and how its message begins and ends.
+# Wrong arguments beside those of `wrong_values`, the error, and how its message begins and ends.
 REFUSED = [
-    (lambda: Serial().write(7, 256), ValueError, "value is 256, of type int: ", BYTE),
-    (lambda: Serial().write(7, "a"), TypeError, "value is 'a', of type str: ", BYTE),
     (lambda: Serial().write(7, 10 ** 5000), ValueError, "value is ", BYTE),
-    (lambda: Serial().write(7, -1), ValueError, "value is -1", BYTE),
-    (lambda: Serial().read(1.0), TypeError, "offset is 1.0", f"an int from 0 to 255{OR_NAME}"),
-    (lambda: Serial().read(256), ValueError, "offset is 256", "is wanted"),
-    (lambda: Serial().enqueue(3), TypeError, "data is 3", BYTES),
-    (lambda: Serial.from_bytes("a"), TypeError, "data is 'a'", BYTES),
-    (lambda: Serial.from_state(None), TypeError, "state is None", "SerialState is wanted"),
     (lambda: Rtc.from_state(SerialState()), TypeError, "state is SerialState(", "RtcState is wanted"),
     (lambda: SerialState(scratch=256), ValueError, "scratch is 256", BYTE),
     (lambda: SerialState(in_buffer=3), TypeError, "in_buffer is 3", BYTES),
     (lambda: SerialState(in_buffer=bytes(65)), ValueError, "in_buffer has 65 bytes", "a port holds at most 64"),
-    (lambda: Rtc().read("DR", 1 << 64), ValueError, "now is ", MOMENT),
-    (lambda: Rtc().alarm_due(-1), ValueError, "now is -1", MOMENT),
-    (lambda: Rtc().write("LR", 1 << 32, 0), ValueError, "value is ", WORD),
-    (lambda: Rtc().write("LR", 0, 1.5), TypeError, "now is 1.5", MOMENT),
-    (lambda: Rtc().read(1 << 16, 0), ValueError, "offset is 65536", f"an int from 0 to 65535{OR_NAME}"),
     (lambda: RtcState(lr=-1), ValueError, "lr is -1", WORD),
     (lambda: RtcState(offset=1 << 63), ValueError, "offset is ", SIGNED),
     (lambda: RtcState(offset=-1 - (1 << 63)), ValueError, "offset is ", SIGNED),
-    (lambda: I8042().read(256), ValueError, "offset is 256", BYTE),
-    (lambda: I8042().write(256, 0), ValueError, "offset is 256", BYTE),
-    (lambda: I8042().write(4, 0x1FE), ValueError, "value is 510", BYTE),
     (lambda: parse("sr 05"), TypeError, "line is 'sr 05'", BYTES),
     (lambda: parse(b"refuse " + b"0" * 16), ScriptError, "a mask comes before every other line", ""),
     (lambda: Board().run("sr 05"), TypeError, "command is 'sr 05'", "Command is wanted"),
 ]
 
 
+def wrong_values(parameter):
+    """What a call may not be passed for a parameter: each value, its error, and what is wanted instead."""
+    if parameter.kind == "bytes":
+        return [(value, TypeError, BYTES) for value in (3, "a", None, [1])]
+    if parameter.kind == "bool":
+        return [(value, TypeError, "bool is wanted") for value in (0, 1, None, "a")]
+    bits, names = parameter.kind, ", or the name of a register," if parameter.may_be_name else ""
+    wanted = f"an int from 0 to {(1 << bits) - 1 if bits < 32 else f'2**{bits} - 1'}{names} is wanted"
+    others = [1.0, None, b"1", [1], *([] if names else ["a"])]
+    return [*((value, ValueError, wanted) for value in (-1, 1 << bits)),
+            *((value, TypeError, wanted) for value in others)]
+
+
+def edges(parameter):
+    """The least and the most that a call may be passed for a parameter."""
+    return {"bytes": [b"", bytes(128)], "bool": [False, True]}.get(parameter.kind) or [0, (1 << parameter.kind) - 1]
+
+
+def passed(member, values, place, device, value):
+    """Makes a call of a device, with this value at a place of the others."""
+    return getattr(device, member)(*values[:place], value, *values[place + 1:])
+
+
+def each_argument():
+    """Each parameter of each call of each device, with the call of a device with a value for it."""
+    for kind, member in ((kind, member) for kind in DEVICES for member in ["__init__", *members(kind)]):
+        taken = parameters(kind, member)
+        values = [{"bytes": b"a", "bool": True}.get(one.kind, 4) for one in taken]   # at 4 are MCR and MR
+        for place, parameter in enumerate(taken):
+            yield kind, member, parameter, partial(passed, member, values, place)
+
 
 def spellings(name):
     """A name in upper and lower case, with a capital, and with a capital at its end."""
     return name, name.lower(), name.capitalize(), name.capitalize().swapcase()
 
+
 class Arguments(unittest.TestCase):
+    def test_each_argument_of_each_call(self):
+        """It is taken at its edges. What is out of range or of another type is refused by its name, and changes
+        nothing."""
+        for kind, member, parameter, call in each_argument():
+            for value in edges(parameter):
+                call(kind(), value)
+            for value, error, wanted in wrong_values(parameter):
+                device = kind()
+                before = contents(device)
+                with self.subTest(kind, member=member, value=value), self.assertRaises(error) as caught:
+                    call(device, value)
+                said = f"{parameter.name} is {value!r}, of type {type(value).__name__}: {wanted}"
+                self.assertEqual((said, before), (str(caught.exception), contents(device)))
+
+    def test_what_makes_a_device(self):
+        """Bytes or a state, and nothing else."""
+        for kind in DEVICES:
+            made = [(kind.from_bytes, "data", BYTES)] if hasattr(kind, "from_bytes") else []
+            if hasattr(kind, "from_state"):
+                made.append((kind.from_state, "state", f"{type(kind().state).__name__} is wanted"))
+            for (call, name, wanted), value in product(made, (3, "a", None, [1], kind())):
+                with self.subTest(kind, value=value), self.assertRaises(TypeError) as caught:
+                    call(value)
+                self.assertRegex(str(caught.exception), f"^{name} is .*, of type {type(value).__name__}: {wanted}$")
+
     def test_what_is_refused(self):
         for call, kind, *message in [*REFUSED, *((call, RegisterError, said, "") for call, said in OUT_OF_REACH)]:
             with self.subTest(message), self.assertRaises(kind) as caught:
@@ -102,12 +143,8 @@ class Arguments(unittest.TestCase):
             self.assertEqual((kind, *message), (type(caught.exception), said[:len(message[0])],
                                                 said[len(said) - len(message[1]):]))
 
-    def test_a_refused_argument_changes_nothing(self):
-        port, clock, board = Serial(), Rtc(), Board()
-        for call in (lambda: port.enqueue("A"), lambda: port.write(7, 256), lambda: port.write(1.5, 1),
-                     lambda: clock.write("LR", 1, 1.5), lambda: clock.write("LR", -1, 1)):
-            self.assertRaises((TypeError, ValueError), call)
-        self.assertEqual((SerialState(), RtcState()), (port.state, clock.state))
+    def test_a_refused_command_leaves_the_board(self):
+        board = Board()
         board.reply(parse(b"sq 61"))
         before = board.number, board.snapshot()
         for command in (Command("sr", (256,)), Command("sw", (7, -1)), Command("sq", ("a",)), Command("cr", (-1, 0))):
@@ -121,8 +158,9 @@ class Arguments(unittest.TestCase):
         self.assertEqual(b"abcdef", port.state.in_buffer)
 
     def test_a_misspelt_attribute_is_refused(self):
-        for device in (Serial(), Rtc()):
-            self.assertRaises(AttributeError, setattr, device, "stat", None)
+        for kind in saved.Saved.__subclasses__():
+            if kind is not NamedPort:
+                self.assertRaises(AttributeError, setattr, kind(), "stat", None)
 
     def test_names_of_registers(self):
         """In any case, each is the register that is there, or is refused. The clock's may begin with RTC."""
@@ -148,9 +186,8 @@ class Arguments(unittest.TestCase):
     def test_each_device_says_that_there_is_no_library(self):
         with mock.patch.object(devices, "load", side_effect=LibraryError), \
                 mock.patch.object(saved, "load", side_effect=LibraryError):
-            for kind in (Console, Serial, Rtc, I8042):
+            for kind in DEVICES:
                 self.assertRaises(LibraryError, kind)
-
 
     def test_where_the_library_is_looked_for(self):
         with mock.patch.object(library, "FILE_NAME", "none.so"), mock.patch.dict(os.environ, {library.VARIABLE: ""}), \
@@ -190,15 +227,12 @@ class NamedPort(Serial):
 
 
 class States(unittest.TestCase):
-    WAYS = [copy.copy, copy.deepcopy, *(lambda device, protocol=protocol: pickle.loads(pickle.dumps(device, protocol))
-                                        for protocol in range(pickle.HIGHEST_PROTOCOL + 1))]
-
     def test_a_copy_has_the_state_and_goes_its_own_way(self):
         port = NamedPort("COM1")
         port.enqueue(b"abc")
         port.read("RBR")
         clock = Rtc.from_state(RtcState(lr=1, mr=2, imsc=3, ris=4, offset=-5, armed=True))
-        for way in self.WAYS:
+        for way in WAYS:
             for device, change in ((port, lambda copied: copied.read("RBR")),
                                    (clock, lambda copied: copied.write("LR", 9, 0))):
                 before, other = device.state, way(device)
@@ -228,12 +262,16 @@ class States(unittest.TestCase):
             port.read("RBR")
 
     def test_a_copied_board_goes_on_as_its_original(self):
-        """Every part of it, among them what its line has still to refuse."""
+        """Every part of it, among them what its line has still to refuse. Each line comes twice, so what it writes is
+        read."""
         lines = [b"sw 01 03", b"sq 6162", b"sw 00 41", b"sr 02", b"si", b"sw 00 42", b"st", b"se", b"so", b"sb", b"cb"]
+        texts = (" ".join([name, *("4" * field.digits or "44" for field in fields)])
+                 for name, fields in LINE_FIELDS.items() if name != MASK)
+        lines += 2 * [text.encode() for text in texts]
         board = Board()
         for line in (b"refuse 0000000000000055", b"cw 0000000000000000 0004 00000009", *lines):
             board.reply(parse(line, is_first=board.number == 0))
-        copies = [way(board) for way in self.WAYS[1:]]
+        copies = [way(board) for way in WAYS[1:]]
         calls = [board.run(parse(line)) for line in lines]
         for other in copies:
             self.assertEqual(calls, [other.run(parse(line)) for line in lines])
@@ -243,7 +281,7 @@ class States(unittest.TestCase):
         errors = [*map(SavedStateError, SAVED_STATE_ERRORS)]
         public = [kind for kind in vars(superio).values() if isinstance(kind, type) and issubclass(kind, Exception)]
         for error in [*errors, *(kind("a") for kind in public if kind is not SavedStateError)]:
-            for other in (way(error) for way in self.WAYS):
+            for other in (way(error) for way in WAYS):
                 self.assertEqual((type(error), str(error), vars(error)), (type(other), str(other), vars(other)))
 
     @unittest.skipUnless(ERROR_TEXTS.exists(), "the package's sources have no crates")

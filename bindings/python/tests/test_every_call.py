@@ -10,21 +10,25 @@ import json
 import os
 import pickle
 import random
+import typing
 import unittest
+from itertools import product
 from unittest import mock
 
-from support import FolderTest
+from support import DEVICES, FolderTest, WAYS, contents, members, only_looks, parameters
 
 from superio import (AlarmIsSetError, Console, ConsoleState, I8042, Rtc, RtcState, SavedStateError, Serial,
                      SerialState)
 from superio import devices, library, saved
 from superio.board import LINES, MASK, PROGRAM_LINES
 from superio.recording import replay
-from superio.registers import CLOCK, SERIAL
+from superio.registers import CLOCK, SERIAL, MovableState, State
 from superio.session import Session
 
 ROUNDS = 5_000
-PORT_FIELDS = [name for name in SerialState.kinds()]
+STATES = {kind: typing.get_type_hints(kind.from_state)["state"] for kind in DEVICES if hasattr(kind, "from_state")}
+SAVED = [kind for kind in DEVICES if hasattr(kind, "from_bytes")]
+MOST = {"in_buffer": 64, "output": 4096}   # bytes that a field of a state has
 
 
 class Drawn(random.Random):
@@ -33,62 +37,64 @@ class Drawn(random.Random):
     def __init__(self, what):
         super().__init__(f"{what} of {os.environ.get('TEST_SEED', 0)}")
 
-    def moment(self):
-        return self.choice([self.randrange(2_000), self.getrandbits(64)])
-
-    def word(self):
-        return self.choice([self.randrange(2_000), self.getrandbits(32)])
-
-    def port(self):
-        return SerialState(*self.randbytes(len(PORT_FIELDS)), in_buffer=self.randbytes(self.randrange(65)))
-
-    def clock(self):
-        offset = self.choice([self.randrange(-9, 9), self.getrandbits(64) - (1 << 63)])
-        return RtcState(*(self.word() for _ in range(4)), offset=offset, armed=self.flag())
-
-    def clock_offset(self):
-        return self.choice([4 * self.randrange(8), self.getrandbits(16)])
+    def number(self, bits):
+        """A number of so many bits. Small ones are common."""
+        return self.choice([self.randrange(min(2_000, 1 << bits)), self.getrandbits(bits)])
 
     def flag(self):
         return self.random() < 0.5
 
-    def console(self):
-        output = self.randbytes(self.choice([0, self.randrange(9), 4096 - self.randrange(9)]))
-        dropped = self.choice([self.randrange(9), (1 << 64) - 1 - self.randrange(9)])
-        return ConsoleState(self.port(), output, dropped, *(self.flag() for _ in range(4)))
+    def argument(self, kind, parameter):
+        """An argument of a call of a device."""
+        special = SPECIAL.get((kind, parameter.name))
+        if special:
+            return special(self)
+        if parameter.kind == "bytes":
+            return bytearray(self.randbytes(self.randrange(70)))
+        return self.flag() if parameter.kind == "bool" else self.number(parameter.kind)
+
+    def state(self, kind):
+        """A state of this class, which may be any."""
+        return kind(**{field.name: self.value(field) for field in dataclasses.fields(kind)})
+
+    def value(self, field):
+        if isinstance(field.default, State):
+            return self.state(type(field.default))
+        if isinstance(field.default, bytes):
+            most = MOST[field.name]
+            return self.randbytes(self.choice([self.randrange(9), self.randrange(65), most - self.randrange(9)]))
+        if isinstance(field.default, bool):
+            return self.flag()
+        bits = 8 * ctypes.sizeof(field.metadata["kind"])
+        if field.metadata["kind"] is ctypes.c_int64:
+            return self.choice([self.randrange(-9, 9), self.getrandbits(64) - (1 << 63)])
+        return self.choice([self.number(bits), self.getrandbits(bits), (1 << bits) - 1 - self.randrange(min(bits, 9))])
+
+    def device(self, kind):
+        """A device of this class in any state that it may be given, or else in one that some calls bring it to."""
+        if kind in STATES:
+            return kind.from_state(self.state(STATES[kind]))
+        device = kind()
+        for _ in range(self.randrange(9)):
+            made(device, *drawn_call(self, kind))
+        return device
 
 
-# The calls of each class that may change a device, with arguments for them, and those that may not.
-CHANGING = {
-    Console: {"read": lambda source: (source.randrange(9),),
-              "write": lambda source: (source.randrange(9), source.randrange(256)),
-              "receive": lambda source: (bytearray(source.randbytes(source.randrange(70))),),
-              "consume": lambda source: (source.choice([source.randrange(9), source.getrandbits(64)]),),
-              "set_polled": lambda source: (source.flag(),),
-              **{name: lambda source: () for name in ("turn", "refuse", "reset", "suspend")}},
-    Serial: {"read": lambda source: (source.randrange(9),),
-             "write": lambda source: (source.randrange(9), source.randrange(256)),
-             "enqueue": lambda source: (bytearray(source.randbytes(source.randrange(70))),),
-             "character_timeout": lambda source: ()},
-    Rtc: {"read": lambda source: (source.clock_offset(), source.moment()),
-          "write": lambda source: (source.clock_offset(), source.word(), source.moment())},
-    I8042: {"read": lambda source: (source.randrange(256),),
-            "write": lambda source: (source.randrange(8), 0xFE - source.randrange(2))},
+# Arguments that are drawn otherwise than by the type in C: most are where there is a register, of few bytes, or near
+# the reset command.
+SPECIAL = {
+    (Console, "offset"): lambda source: source.randrange(9), (Serial, "offset"): lambda source: source.randrange(9),
+    (Console, "count"): lambda source: source.choice([source.randrange(9), source.getrandbits(64)]),
+    (Rtc, "offset"): lambda source: source.choice([4 * source.randrange(8), source.getrandbits(16)]),
+    (I8042, "offset"): lambda source: source.choice([source.randrange(8), source.randrange(256)]),
+    (I8042, "value"): lambda source: 0xFE - source.randrange(2),
 }
-CONSTANT = {
-    Console: ["dropped", "is_full", "output", "state", "to_bytes", "wants"],
-    Serial: ["fifo_capacity", "interrupt_line", "interrupts_due", "is_coherent", "state", "to_bytes"],
-    Rtc: ["alarm_due", "interrupt_line", "state", "to_bytes"],
-    I8042: [],
-}
-STATES = {Console: Drawn.console, Serial: Drawn.port, Rtc: Drawn.clock}
 
 
-def drawn_call(source, kind):
-    name = source.choice([*CHANGING[kind], *CONSTANT[kind]])
-    if name in CHANGING[kind]:
-        return name, CHANGING[kind][name](source)
-    return name, (source.moment(),) if name == "alarm_due" else ()
+def drawn_call(source, kind, only=None):
+    """A member of a device, which may be given, and arguments for it."""
+    name = only or source.choice(members(kind))
+    return name, tuple(source.argument(kind, parameter) for parameter in parameters(kind, name))
 
 
 def made(device, name, arguments):
@@ -121,29 +127,22 @@ class Watched:
 
 
 class EveryCall(unittest.TestCase):
-    def test_each_member_is_drawn(self):
-        ways = {"from_bytes", "from_state"}
-        for kind in CHANGING:
-            members = {name for each in kind.__mro__[:-1] for name in vars(each) if name[0] != "_"} - ways
-            self.assertEqual(members, {*CHANGING[kind], *CONSTANT[kind]})
-
     def test_arrays_are_as_large_as_the_table_says(self):
         source, watched = Drawn("arrays"), Watched(library.load())
         with mock.patch.object(devices, "load", lambda: watched), mock.patch.object(saved, "load", lambda: watched):
-            objects = [Console(), Serial(), Rtc(), I8042()]
+            objects = [kind() for kind in DEVICES]
             for _ in range(ROUNDS):
                 device = source.choice(objects)
                 made(device, *drawn_call(source, type(device)))
-            for kind, state in STATES.items():
-                kind.from_bytes(kind.from_state(state(source)).to_bytes())
+            for kind in SAVED:
+                kind.from_bytes(source.device(kind).to_bytes())
                 for count in range(9):
                     self.assertRaises(SavedStateError, kind.from_bytes, bytes(count))
         self.assertEqual({*library.PROTOTYPES} - {"superio_abi"}, watched.called)
 
     def test_what_a_call_gives_and_takes_is_the_same_after_all_later_calls(self):
         source, kept = Drawn("kept"), []
-        objects = [Console(), Serial(), Rtc(), I8042(), Console.from_state(source.console()),
-                   Serial.from_state(source.port())]
+        objects = [*(kind() for kind in DEVICES), *map(source.device, DEVICES)]
         for _ in range(ROUNDS):
             device = source.choice(objects)
             name, arguments = drawn_call(source, type(device))
@@ -155,7 +154,7 @@ class EveryCall(unittest.TestCase):
             self.assertEqual((before, passed), (given, arguments))
 
     def test_devices_that_take_turns_do_what_each_does_alone(self):
-        source, kinds = Drawn("turns"), [Console, Serial, Rtc, Console, Serial, Rtc, I8042]
+        source, kinds = Drawn("turns"), [*DEVICES, *DEVICES]
         order = [source.randrange(len(kinds)) for _ in range(ROUNDS)]
         calls = [(which, *drawn_call(source, kinds[which])) for which in order]
         objects = [kind() for kind in kinds]
@@ -168,13 +167,28 @@ class EveryCall(unittest.TestCase):
 
     def test_calls_that_only_look_leave_a_device_as_it_is(self):
         source = Drawn("looks")
-        for kind, state in STATES.items():
+        for kind in DEVICES:
+            looks = [name for name in members(kind) if only_looks(kind, name)]
             for _ in range(ROUNDS // 20):
-                device = kind.from_state(state(source))
-                before = bytes(device._struct)
-                for name in (*CONSTANT[kind], "__repr__", "__reduce__"):
-                    made(device, name, (source.moment(),) if name == "alarm_due" else ())
-                    self.assertEqual(before, bytes(device._struct), name)
+                device = source.device(kind)
+                before = contents(device)
+                for name in looks:
+                    made(device, *drawn_call(source, kind, name))
+                    self.assertEqual(before, contents(device), name)
+                for name in ("__repr__", "__reduce__"):
+                    getattr(device, name)()
+                    self.assertEqual(before, contents(device), name)
+
+    def test_a_copy_does_what_the_device_does_and_is_another_one(self):
+        """Neither notices the calls of the other. The copy has the same calls first."""
+        source = Drawn("copies")
+        for kind, way in product(DEVICES, WAYS):
+            for _ in range(ROUNDS // 200):
+                device = source.device(kind)
+                other, calls = way(device), [drawn_call(source, kind) for _ in range(9)]
+                self.assertEqual((kind, pickle.dumps(device)), (type(other), pickle.dumps(other)))
+                self.assertEqual([made(other, *call) for call in calls], [made(device, *call) for call in calls])
+                self.assertEqual(pickle.dumps(device), pickle.dumps(other))
 
     def test_an_enqueue_takes_the_first_64_bytes_of_any_number(self):
         for count in (63, 64, 65, 1 << 16, (1 << 24) + 1):
@@ -195,7 +209,7 @@ class EveryState(unittest.TestCase):
         source = Drawn(seed)
         for kind, state in STATES.items():
             for _ in range(ROUNDS // 20):
-                yield kind, state(source)
+                yield kind, source.state(state)
 
     def test_a_state_goes_there_and_back(self):
         for kind, state in self.drawn("back"):
@@ -208,7 +222,7 @@ class EveryState(unittest.TestCase):
 
     def test_a_state_goes_to_vm_superio_and_back_unless_an_alarm_is_set(self):
         for kind, state in self.drawn("moved"):
-            if kind is Console:  # which vm-superio has not
+            if not isinstance(state, MovableState):   # as of a console, which vm-superio has not
                 continue
             new = type(state)()
             known = dataclasses.replace(new, **{name: getattr(state, name) for name in new.to_vm_superio()})
@@ -244,9 +258,10 @@ class EveryState(unittest.TestCase):
             self.assertRaises(TypeError, Console.from_state, other)
 
     def test_saved_bytes_that_are_damaged_are_refused_or_are_another_state(self):
-        console = dataclasses.replace(Drawn(3).console(), output=b"abc")
-        for kind, state in ((Serial, Drawn(1).port()), (Rtc, Drawn(2).clock()), (Console, console)):
-            data = kind.from_state(state).to_bytes()
+        for kind in SAVED:
+            state = Drawn(1).state(STATES[kind])
+            less = {"output": b"abc"} if kind is Console else {}   # else it takes long
+            data = kind.from_state(dataclasses.replace(state, **less)).to_bytes()
             flipped = [bytes([*data[:place], data[place] ^ 1 << bit, *data[place + 1:]])
                        for place in range(len(data)) for bit in range(8)]
             lengths = [data[:count] for count in range(len(data))] + [data + bytes(count) for count in (1, 9, 65536)]
@@ -267,13 +282,12 @@ class EveryTrace(FolderTest):
             register = source.choice([*SERIAL])
             return source.choice([f"read {register}", f"write {register} {source.randrange(256)}", 'type "hi\\x00"',
                                   "drain", "restore", f"clock read {source.choice([*CLOCK])} +5",
-                                  f"clock write {source.choice([*CLOCK])} {source.word()}", "alarm +5",
+                                  f"clock write {source.choice([*CLOCK])} {source.number(32)}", "alarm +5",
                                   f"i8042 write 4 {source.randrange(250, 256)}", "regs", "why", "diff", "trace on"])
         values = (source.getrandbits(4 * field.digits) if field.digits else source.randbytes(source.randrange(1, 129))
                   for field in LINES[name].fields)
         if name in ("sl", "cl") and source.random() < 0.8:
-            device = Serial.from_state(source.port()) if name == "sl" else Rtc.from_state(source.clock())
-            values = (device.to_bytes(),)
+            values = (source.device(Serial if name == "sl" else Rtc).to_bytes(),)
         values = tuple(value & 7 if name in ("sr", "sw") and place == 0 and source.random() < 0.9 else value
                        for place, value in enumerate(values))
         texts = (value.hex() if isinstance(value, bytes) else f"{value:0{field.digits}x}"

@@ -10,10 +10,10 @@ from itertools import product
 from pathlib import Path
 from unittest import mock
 
-from support import PACKAGE, ROOT, FolderTest, run
+from support import DEVICES, PACKAGE, ROOT, FolderTest, run
 
-from superio import Command, Rtc, Serial, SerialState
-from superio.board import LINES
+from superio import Command, I8042, Rtc, Serial, SerialState
+from superio.board import FURTHER_LINES, LINES
 from superio.prompt import Leave, write_text
 from superio.registers import CLOCK, CLOCK_KEPT, SERIAL
 from superio.script import ScriptError, line_of, reason_of, shown
@@ -412,6 +412,31 @@ class Words(FolderTest):
                 self.session.run(Command("sl", (saved,)), is_short=True)
             self.assertEqual(expected, self.said("why")[-2])
         self.assertEqual([["5a"], ["0000000000000000"]], [self.said("sr 07"), self.said("st")])
+
+    def test_any_device_of_the_board(self):
+        """What a line changes of a device of which the shell knows nothing is shown, and no script for the program
+        lacks it."""
+        class Counter(I8042):
+            count = 0
+
+            def write(self, offset, value):
+                self.count += 1
+                return super().write(offset, value)
+
+            def __repr__(self):
+                return f"<Counter {self.count}>"
+
+        self.afresh()
+        parts = vars(self.session.board)
+        others = {name for name, part in parts.items() if type(part) in DEVICES} - {"serial", "clock"}
+        self.assertEqual(sorted(repr(parts[name]) for name in others),
+                         sorted(self.session.board.snapshot().others))
+        self.session.board.controller = Counter()
+        self.assertEqual(["kw 04 00", "  <Counter 0> -> <Counter 1>"], self.said("kw 04 00", "diff"))
+        self.assertEqual(["kr 04", "  nothing changed"], self.said("kr 04", "diff"))
+        with mock.patch.dict(FURTHER_LINES, {"kw": LINES["kw"]}):
+            self.said("kw 04 00")
+        self.assertRaisesRegex(ScriptError, "call 3, kw 04 00, is none of its lines", self.said, "script")
 
     def test_what_is_quoted_can_be_typed(self):
         for data in (bytes([one, other]) for one in range(256) for other in b"a0\\\"\xff"):
