@@ -21,6 +21,7 @@ import test_consoles
 import test_counts
 import test_files
 import test_header
+import test_mistakes
 from builds import HOST, make_words, prebuilt
 from common.comparison import Comparison
 from common.seed import VARIABLE, seed
@@ -459,14 +460,28 @@ def test_warnings_of_the_header(line, tmp_path, monkeypatch):
     header = (ROOT / "bindings/c/superio.h").read_text("ascii")
     words = [tmp_path if word == ROOT / "bindings" / "c" else word for word in test_header.WARNINGS]
     assert words.count(tmp_path) == 1
-    monkeypatch.setattr(test_header, "WARNINGS", words)
+    for module in (test_header, test_mistakes):
+        monkeypatch.setattr(module, "WARNINGS", words)
     for more, is_warned in (("", False), (line, True)):
         # Once, as the header may be read twice.
         guarded = f"#ifndef MORE\n#define MORE\n{more}\n#endif\n" if more else ""
         (tmp_path / "superio.h").write_text(header + guarded, "ascii")
-        assert refuses(test_header.test_header, compiler, tmp_path) == is_warned
-        assert refuses(test_header.test_mistake, compiler, ["(void)port;", "nothing"], tmp_path) == is_warned
-    assert refuses(test_header.test_mistake, compiler, ["(void)port;", "unused-result"], tmp_path)
+        for test in (test_header.test_header, test_mistakes.test_mistakes):
+            assert refuses(test, compiler, tmp_path) == is_warned
+
+
+@pytest.mark.needs("cc")
+@pytest.mark.parametrize("mistakes", [["LOST"], ["NO_PLACE"], ["LOST", "NO_PLACE"]], ids=" ".join)
+def test_mistakes_of_a_call(mistakes, tmp_path, monkeypatch):
+    """A call has all its mistakes and no other: that this one loses its result, or that its device is NULL."""
+    [compiler] = test_header.COMPILERS["gcc"].values
+    name = "superio_serial_interrupts_due"
+    function = dict(test_mistakes.FUNCTIONS)[name]
+    for wanted in ([], ["LOST"], ["NO_PLACE"], ["LOST", "NO_PLACE"]):
+        case = test_mistakes.Case(name, function, [getattr(test_mistakes, mistake) for mistake in wanted],
+                                  {"port": "NULL"} if "NO_PLACE" in mistakes else {}, loses="LOST" in mistakes)
+        monkeypatch.setattr(test_mistakes, "CASES", [case])
+        assert refuses(test_mistakes.test_mistakes, compiler, tmp_path) == (wanted != mistakes)
 
 
 # What each sanitizer finds: a read behind memory, and a sum that is too large.
