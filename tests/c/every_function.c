@@ -1,10 +1,10 @@
 /* SPDX-License-Identifier: Apache-2.0 OR BSD-3-Clause */
 /*
  * Makes calls of each function of superio.h, as C and as C++, and compares each field of what they return and of what
- * they leave behind pointers. every_function.py makes functions.h, with a caller for each function, from superio.abi and
- * the header. It also makes the calls, which come on standard input, with what the same library did through Python.
+ * they leave behind pointers. every_function.py makes functions.h, with a caller for each function, from superio.abi
+ * and the header. It also makes the calls, which come on standard input, with what the library did through Python.
  *
- * Each struct and each string of bytes is beside a page that nobody may touch: after one or before one, as the call says.
+ * Each struct and each string of bytes is beside a page that nobody may touch: after it or before it, as the call says.
  *
  * Prints the first ten calls that differ, how many did the same, and how many have a number that no size_t has here.
  * Exits 1 if one differs, or if there is none.

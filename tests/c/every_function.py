@@ -2,7 +2,7 @@
 """For every_function.c: the callers in C of each function of superio.h, and calls with what they did through ctypes."""
 import ctypes
 
-from abi import FUNCTIONS
+from abi import FUNCTIONS, STRUCTS
 from generators.header import BYTES, read_header
 from harness import at_least
 from random_calls import Place, random_calls, value_of
@@ -21,9 +21,11 @@ def taken(kind):
 
 
 def fields_of(struct, number, other):
-    """A line of C for each field of a struct. `number` gives it for the type and the name of a number, and `other` for
-    a field of bytes or a struct."""
-    for kind, name, length in HEADER.structs[struct]:
+    """A line of C for each field of a struct, in the order of superio.abi. `number` gives it for the type and the name
+    of a number, and `other` for a field of bytes or a struct."""
+    declared = {field.name: field for field in HEADER.structs[struct]}
+    for name, _ in STRUCTS[struct]._fields_:
+        kind, _, length = declared[name]
         if kind in HEADER.structs or length and kind == "uint8_t":
             yield other("bytes" if length else kind, name, bool(length))
         elif length:
@@ -76,7 +78,8 @@ def functions_in_c():
     callers = (CALLER.format(name=name, lines="\n    ".join(lines_of_caller(name, HEADER.functions[name])))
                for name in names)
     rows = "".join(f'    {{"{name}", call_{name}}},\n' for name in names)
-    return "\n".join([*(text for struct in HEADER.structs for text in of_struct(struct)), *callers, TABLE.format(rows=rows)])
+    structs = (text for struct in HEADER.structs for text in of_struct(struct))
+    return "\n".join([*structs, *callers, TABLE.format(rows=rows)])
 
 
 def encoded(kind, value):
@@ -94,7 +97,7 @@ def encoded_place(parameter, content):
 
 
 def encoded_call(sides, function, arguments, result, left):
-    """A call as every_function.c reads it: the function's place, the sides of guards, the arguments, and what it did."""
+    """A call as every_function.c reads it: the function's place, the sides of guards, the arguments, what it did."""
     yield bytes([FUNCTIONS.index(function), sides])
     pointers = []
     for parameter, argument in zip(function.parameters, arguments):

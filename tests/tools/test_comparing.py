@@ -319,7 +319,7 @@ def test_guards_of_each_function(prebuilt_library, tmp_path):
 
 @pytest.mark.needs("cc")
 def test_each_function_is_compared(prebuilt_library, tmp_path):
-    """A call of each function that did something else in its first byte or its last, or a byte less or more, is found."""
+    """A call of each function that did something else, in its first byte, its last, or by a byte less or more."""
     (tmp_path / "functions.h").write_text(functions_in_c(), "ascii")
     check(["cc", "-I", ROOT / "bindings/c", "-I", tmp_path, ROOT / "tests/c/every_function.c", prebuilt(HOST), "-o",
            tmp_path / "functions"], "")
