@@ -127,9 +127,9 @@ RATTLE = [path.read_text(encoding="utf-8") for path in CRATES.glob("*/src/**/*.r
 def test_each_place_is_named():
     """In a line or at a test, and each line and each comment has a place. The lines are sorted, no two of one place."""
     listed = [place for place, _, _ in LINES]
-    noted = [place for text in RATTLE for place in noted_places(text)]
+    named = {*listed, *at_least(30, [place for text in RATTLE for place in noted_places(text)])}
     assert listed == sorted({*listed})
-    assert sorted(PLACES) == sorted({*listed, *at_least(30, noted)})
+    assert [{*PLACES} - named, named - {*PLACES}] == [set(), set()]
 
 
 def test_each_comment_is_above_a_test():
