@@ -5,16 +5,19 @@ back by every way, and a session's trace makes it again. The variable TEST_SEED 
 import copy
 import ctypes
 import dataclasses
+import inspect
 import io
 import json
 import os
 import pickle
 import random
+import typing
 import unittest
 from unittest import mock
 
 from support import FolderTest
 
+import superio
 from superio import (AlarmIsSetError, Console, ConsoleState, I8042, Rtc, RtcState, SavedStateError, Serial,
                      SerialState)
 from superio import devices, library, saved
@@ -58,37 +61,61 @@ class Drawn(random.Random):
         return ConsoleState(self.port(), output, dropped, *(self.flag() for _ in range(4)))
 
 
-# The calls of each class that may change a device, with arguments for them, and those that may not.
-CHANGING = {
-    Console: {"read": lambda source: (source.randrange(9),),
-              "write": lambda source: (source.randrange(9), source.randrange(256)),
-              "receive": lambda source: (bytearray(source.randbytes(source.randrange(70))),),
-              "consume": lambda source: (source.choice([source.randrange(9), source.getrandbits(64)]),),
-              "set_polled": lambda source: (source.flag(),),
-              **{name: lambda source: () for name in ("turn", "refuse", "reset", "suspend")}},
-    Serial: {"read": lambda source: (source.randrange(9),),
-             "write": lambda source: (source.randrange(9), source.randrange(256)),
-             "enqueue": lambda source: (bytearray(source.randbytes(source.randrange(70))),),
-             "character_timeout": lambda source: ()},
-    Rtc: {"read": lambda source: (source.clock_offset(), source.moment()),
-          "write": lambda source: (source.clock_offset(), source.word(), source.moment())},
-    I8042: {"read": lambda source: (source.randrange(256),),
-            "write": lambda source: (source.randrange(8), 0xFE - source.randrange(2))},
+# The devices: what the package has that a guest reads and writes.
+DEVICES = [kind for kind in vars(superio).values() if isinstance(kind, type) and {"read", "write"} <= {*vars(kind)}]
+# What is drawn for a parameter by its name, and where a device takes others.
+BY_NAME = {
+    "offset": lambda source: source.randrange(9),
+    "value": lambda source: source.randrange(256),
+    "now": Drawn.moment,
+    "data": lambda source: bytearray(source.randbytes(source.randrange(70))),
+    "count": lambda source: source.choice([source.randrange(9), source.getrandbits(64)]),
+    "polled": Drawn.flag,
 }
-CONSTANT = {
-    Console: ["dropped", "is_full", "output", "state", "to_bytes", "wants"],
-    Serial: ["fifo_capacity", "interrupt_line", "interrupts_due", "is_coherent", "state", "to_bytes"],
-    Rtc: ["alarm_due", "interrupt_line", "state", "to_bytes"],
-    I8042: [],
+OTHERS = {
+    (Rtc, "offset"): Drawn.clock_offset, (Rtc, "value"): Drawn.word,
+    (I8042, "offset"): lambda source: source.choice([source.randrange(8), source.randrange(256)]),
+    (I8042, "value"): lambda source: 0xFE - source.randrange(2),
 }
 STATES = {Console: Drawn.console, Serial: Drawn.port, Rtc: Drawn.clock}
 
 
+def members(kind):
+    """What a device has, other than the ways to make one, in an order that is always the same."""
+    return sorted({name for each in kind.__mro__[:-1] for name in vars(each) if name[0] != "_"} -
+                  {"from_bytes", "from_state"})
+
+
+def only_looks(kind, name):
+    """Whether a member leaves a device as it is: C's function of that name takes it by a pointer to const."""
+    row = rf"function \w+ superio_{getattr(kind, '_name', kind.__name__.lower())}_{name}\(const superio_\w+ \*.*\)"
+    return name in ("state", "to_bytes") or library._found(row) != []
+
+
+CONSTANT = {kind: [name for name in members(kind) if only_looks(kind, name)] for kind in DEVICES}
+
+
+def drawn_state(source, kind):
+    """A state of a device. By default each of its fields is any number."""
+    if kind in STATES:
+        return STATES[kind](source)
+    state = typing.get_type_hints(kind.state.fget)["return"]
+    return state(**{name: of_c(source.getrandbits(64)).value for name, of_c in state.kinds().items()})
+
+
+STATEFUL = [kind for kind in DEVICES if hasattr(kind, "from_state")]
+
+
+def drawn_arguments(source, kind, name):
+    """Arguments for a member. A property has none."""
+    member = getattr(kind, name)
+    parameters = [] if isinstance(member, property) else [*inspect.signature(member).parameters][1:]
+    return tuple(OTHERS.get((kind, word), BY_NAME[word])(source) for word in parameters)
+
+
 def drawn_call(source, kind):
-    name = source.choice([*CHANGING[kind], *CONSTANT[kind]])
-    if name in CHANGING[kind]:
-        return name, CHANGING[kind][name](source)
-    return name, (source.moment(),) if name == "alarm_due" else ()
+    name = source.choice(members(kind))
+    return name, drawn_arguments(source, kind, name)
 
 
 def made(device, name, arguments):
@@ -121,29 +148,29 @@ class Watched:
 
 
 class EveryCall(unittest.TestCase):
-    def test_each_member_is_drawn(self):
-        ways = {"from_bytes", "from_state"}
-        for kind in CHANGING:
-            members = {name for each in kind.__mro__[:-1] for name in vars(each) if name[0] != "_"} - ways
-            self.assertEqual(members, {*CHANGING[kind], *CONSTANT[kind]})
+    def test_the_devices_and_what_only_looks(self):
+        self.assertLessEqual({Console, Serial, Rtc, I8042}, {*DEVICES})
+        self.assertLessEqual({*STATES}, {*STATEFUL})
+        self.assertEqual({"alarm_due", "interrupt_line", "state", "to_bytes"}, {*CONSTANT[Rtc]})
+        self.assertEqual({"consume", "read", "receive", "refuse", "reset", "set_polled", "suspend", "turn", "write"},
+                         {*members(Console)} - {*CONSTANT[Console]})
 
     def test_arrays_are_as_large_as_the_table_says(self):
         source, watched = Drawn("arrays"), Watched(library.load())
         with mock.patch.object(devices, "load", lambda: watched), mock.patch.object(saved, "load", lambda: watched):
-            objects = [Console(), Serial(), Rtc(), I8042()]
+            objects = [kind() for kind in DEVICES]
             for _ in range(ROUNDS):
                 device = source.choice(objects)
                 made(device, *drawn_call(source, type(device)))
-            for kind, state in STATES.items():
-                kind.from_bytes(kind.from_state(state(source)).to_bytes())
+            for kind in STATEFUL:
+                kind.from_bytes(kind.from_state(drawn_state(source, kind)).to_bytes())
                 for count in range(9):
                     self.assertRaises(SavedStateError, kind.from_bytes, bytes(count))
         self.assertEqual({*library.PROTOTYPES} - {"superio_abi"}, watched.called)
 
     def test_what_a_call_gives_and_takes_is_the_same_after_all_later_calls(self):
         source, kept = Drawn("kept"), []
-        objects = [Console(), Serial(), Rtc(), I8042(), Console.from_state(source.console()),
-                   Serial.from_state(source.port())]
+        objects = [*(kind() for kind in DEVICES), *(kind.from_state(drawn_state(source, kind)) for kind in STATEFUL)]
         for _ in range(ROUNDS):
             device = source.choice(objects)
             name, arguments = drawn_call(source, type(device))
@@ -155,7 +182,7 @@ class EveryCall(unittest.TestCase):
             self.assertEqual((before, passed), (given, arguments))
 
     def test_devices_that_take_turns_do_what_each_does_alone(self):
-        source, kinds = Drawn("turns"), [Console, Serial, Rtc, Console, Serial, Rtc, I8042]
+        source, kinds = Drawn("turns"), [*DEVICES, *STATEFUL]
         order = [source.randrange(len(kinds)) for _ in range(ROUNDS)]
         calls = [(which, *drawn_call(source, kinds[which])) for which in order]
         objects = [kind() for kind in kinds]
@@ -168,12 +195,12 @@ class EveryCall(unittest.TestCase):
 
     def test_calls_that_only_look_leave_a_device_as_it_is(self):
         source = Drawn("looks")
-        for kind, state in STATES.items():
+        for kind in STATEFUL:
             for _ in range(ROUNDS // 20):
-                device = kind.from_state(state(source))
+                device = kind.from_state(drawn_state(source, kind))
                 before = bytes(device._struct)
                 for name in (*CONSTANT[kind], "__repr__", "__reduce__"):
-                    made(device, name, (source.moment(),) if name == "alarm_due" else ())
+                    made(device, name, drawn_arguments(source, kind, name))
                     self.assertEqual(before, bytes(device._struct), name)
 
     def test_an_enqueue_takes_the_first_64_bytes_of_any_number(self):
@@ -193,9 +220,9 @@ def wrong_values(kind):
 class EveryState(unittest.TestCase):
     def drawn(self, seed):
         source = Drawn(seed)
-        for kind, state in STATES.items():
+        for kind in STATEFUL:
             for _ in range(ROUNDS // 20):
-                yield kind, state(source)
+                yield kind, drawn_state(source, kind)
 
     def test_a_state_goes_there_and_back(self):
         for kind, state in self.drawn("back"):
@@ -208,7 +235,7 @@ class EveryState(unittest.TestCase):
 
     def test_a_state_goes_to_vm_superio_and_back_unless_an_alarm_is_set(self):
         for kind, state in self.drawn("moved"):
-            if kind is Console:  # which vm-superio has not
+            if not hasattr(state, "to_vm_superio"):  # of a device that vm-superio lacks
                 continue
             new = type(state)()
             known = dataclasses.replace(new, **{name: getattr(state, name) for name in new.to_vm_superio()})
@@ -244,8 +271,9 @@ class EveryState(unittest.TestCase):
             self.assertRaises(TypeError, Console.from_state, other)
 
     def test_saved_bytes_that_are_damaged_are_refused_or_are_another_state(self):
-        console = dataclasses.replace(Drawn(3).console(), output=b"abc")
-        for kind, state in ((Serial, Drawn(1).port()), (Rtc, Drawn(2).clock()), (Console, console)):
+        for kind in STATEFUL:
+            state = drawn_state(Drawn(f"damaged {kind.__name__}"), kind)
+            state = dataclasses.replace(state, output=b"abc") if kind is Console else state
             data = kind.from_state(state).to_bytes()
             flipped = [bytes([*data[:place], data[place] ^ 1 << bit, *data[place + 1:]])
                        for place in range(len(data)) for bit in range(8)]
