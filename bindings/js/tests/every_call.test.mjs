@@ -5,6 +5,7 @@
  * that are damaged are refused or are another state.
  */
 import assert from "node:assert/strict";
+import { readFileSync } from "node:fs";
 import process from "node:process";
 import test from "node:test";
 import * as superio from "../superio.mjs";
@@ -50,32 +51,54 @@ function anyConsole(below) {
     isAsleep: anyFlag(below), isRefused: anyFlag(below) };
 }
 
-// The members of each class, with arguments for each. Those that a port or a clock stays the same in come last.
-const CALLS = new Map([
-  [Console, { state: anyConsole, changing: {
-    read: (below) => [below(9)], write: (below) => [below(9), below(256)], receive: (below) => [anyBytes(below, 70)],
-    consume: (below) => [below(2) ? below(9) : below(2 ** 53)], setPolled: (below) => [anyFlag(below)],
-    ...Object.fromEntries(["turn", "refuse", "reset", "suspend"].map((name) => [name, () => []])),
-  }, constant: ["clone", "dropped", "isFull", "output", "state", "toBytes", "wants"] }],
-  [Serial, { state: anyPort, changing: {
-    read: (below) => [below(9)], write: (below) => [below(9), below(256)], enqueue: (below) => [anyBytes(below, 70)],
-    characterTimeout: () => [],
-  }, constant: ["clone", "fifoCapacity", "interruptLine", "interruptsDue", "isCoherent", "state", "toBytes"] }],
-  [Rtc, { state: anyClock, changing: {
-    read: (below) => [clockOffset(below), anyMoment(below)],
-    write: (below) => [clockOffset(below), anyWord(below), anyMoment(below)],
-  }, constant: ["alarmDue", "clone", "interruptLine", "state", "toBytes"] }],
-  [I8042, { changing: { read: (below) => [below(256)], write: (below) => [below(8), 0xfe - below(2)] },
-    constant: [] }],
-]);
+/** A state of another device, in which a number is a byte. */
+function anyState(kind, below) {
+  const any = { number: () => below(256), bigint: () => any64(below), boolean: () => anyFlag(below) };
+  return Object.fromEntries(Object.entries(new kind().state).map(([name, value]) => [name, any[typeof value]()]));
+}
+
+// The devices: what the package has that a guest reads and writes. What is drawn for a parameter by its name, unless a
+// device takes others.
+const DEVICES = Object.values(superio).filter((kind) => kind.prototype.read && kind.prototype.write);
+const BY_NAME = { offset: (below) => below(9), value: (below) => below(256), now: anyMoment,
+  bytes: (below) => anyBytes(below, 70), count: (below) => below(2) ? below(9) : below(2 ** 53), isPolled: anyFlag };
+const OTHERS = new Map([[Rtc, { offset: clockOffset, value: anyWord }],
+  [I8042, { offset: (below) => below(below(2) ? 8 : 256), value: (below) => 0xfe - below(2) }]]);
+const OTHER_STATES = new Map([[Console, anyConsole], [Serial, anyPort], [Rtc, anyClock]]);
+const INTERFACE = readFileSync(new URL("../../python/superio/superio.abi", import.meta.url), "ascii");
+
+/** Whether a member leaves a device as it is: C's function of that name takes it by a pointer to const. */
+function onlyLooks(kind, name) {
+  const words = name.replace(/[A-Z]/g, (letter) => `_${letter.toLowerCase()}`);
+  return ["clone", "state", "toBytes"].includes(name)
+    || INTERFACE.includes(` superio_${kind.name.toLowerCase()}_${words}(const superio_`);
+}
+
+/** What draws the arguments of a member. A property has none. */
+function drawing(kind, name) {
+  const { value } = Object.getOwnPropertyDescriptor(kind.prototype, name);
+  const names = value ? /\(([^)]*)\)/.exec(value.toString())[1].split(", ").filter(Boolean) : [];
+  return (below) => names.map((parameter) => (OTHERS.get(kind)?.[parameter] ?? BY_NAME[parameter])(below));
+}
+
+/** The members of a class, each with what draws its arguments. Those in which a device stays the same come last. */
+function membersOf(kind) {
+  const names = Object.getOwnPropertyNames(kind.prototype).filter((name) => name !== "constructor").sort();
+  const table = (looks) => Object.fromEntries(names.filter((name) => onlyLooks(kind, name) === looks)
+    .map((name) => [name, drawing(kind, name)]));
+  const state = "state" in kind.prototype && (OTHER_STATES.get(kind) ?? ((below) => anyState(kind, below)));
+  return { state, changing: table(false), constant: table(true) };
+}
+
+const CALLS = new Map(DEVICES.map((kind) => [kind, membersOf(kind)]));
 const STATES = Array.from(CALLS).filter(([, { state }]) => state);
 
 /** A member of a device, and arguments for it. */
 function drawn(kind, below) {
   const { changing, constant } = CALLS.get(kind);
-  const names = [...Object.keys(changing), ...constant];
-  const name = names[below(names.length)];
-  return [name, changing[name]?.(below) ?? (name === "alarmDue" ? [anyMoment(below)] : [])];
+  const members = Object.entries({ ...changing, ...constant });
+  const [name, drawArguments] = members[below(members.length)];
+  return [name, drawArguments(below)];
 }
 
 /** What a call gives. A device is its saved bytes. */
@@ -84,20 +107,21 @@ function made(device, [name, parameters]) {
   return name === "clone" ? given.toBytes() : given;
 }
 
-test("each member of each class is in the table", () => {
+test("each class is a device or an error, and what only looks is known", () => {
   const withoutMembers = ["RegisterError", "SavedStateError"];
   assert.deepEqual([...CALLS.keys()].map((kind) => kind.name).concat(withoutMembers).sort(),
     Object.keys(superio).sort());
-  for (const [kind, { changing, constant }] of CALLS) {
-    const members = Object.getOwnPropertyNames(kind.prototype).filter((name) => name !== "constructor");
-    assert.deepEqual([...Object.keys(changing), ...constant].sort(), members.sort());
+  for (const [kind, names] of [[Rtc, "read write"], [I8042, "read write"],
+    [Serial, "characterTimeout enqueue read write"],
+    [Console, "consume read receive refuse reset setPolled suspend turn write"]]) {
+    assert.equal(Object.keys(CALLS.get(kind).changing).join(" "), names);
   }
 });
 
 test("what a call gives and what it is passed is the same after all later calls", () => {
   const below = randomNumbers(1);
-  const devices = [new Console(), new Serial(), new Rtc(), new I8042(), Console.fromState(anyConsole(below)),
-    Serial.fromState(anyPort(below))];
+  const devices = [...DEVICES.map((kind) => new kind()),
+    ...STATES.map(([kind, { state }]) => kind.fromState(state(below)))];
   const kept = [];
   for (let round = 0; round < ROUNDS; round += 1) {
     const device = devices[below(devices.length)];
@@ -147,7 +171,7 @@ test("a device keeps nothing that is the caller's", () => {
 });
 
 test("devices that take turns do what each does alone", () => {
-  const kinds = [Console, Serial, Rtc, Console, Serial, Rtc, I8042];
+  const kinds = [...DEVICES, ...STATES.map(([kind]) => kind)];
   const below = randomNumbers(3);
   const calls = Array.from({ length: ROUNDS }, () => {
     const which = below(kinds.length);
@@ -169,8 +193,8 @@ test("calls that only look leave a device as it is", () => {
     for (let round = 0; round < ROUNDS / 10; round += 1) {
       const before = state(below);
       const device = kind.fromState(before);
-      for (const name of constant) {
-        made(device, [name, name === "alarmDue" ? [anyMoment(below)] : []]);
+      for (const [name, drawArguments] of Object.entries(constant)) {
+        made(device, [name, drawArguments(below)]);
         assert.deepEqual(device.state, before, name);
       }
     }
