@@ -30,7 +30,7 @@ from seeds import random_source, seeds
 from toolchains import toolchain_for
 
 HERE = Path(__file__).parent
-LOADED_CALLS, RUNS, ROUNDS = 20_000, 2_500, 100
+LOADED_CALLS, RUNS, ROUNDS = 20_000, 2_500, 60
 DEMO = at_least(210, re.findall(r"^\w.*", (HERE / "demo.txt").read_text("ascii"), re.M))
 OTHERS = ["s390x", "arm"]   # for which there is only the library from source
 WORDS_OF_32_BITS = ["arm"]
