@@ -13,14 +13,12 @@ Member = tuple[str, str, int]                        # its name, its type, and h
 Function = tuple[str, list[tuple[str, str]]]        # its result, and the name and type of each parameter
 
 HEADER = "bindings/c/superio.h"
-# The name of each struct in C.
-STRUCTS = {"Uart": "superio_serial", "ReadEffects": "superio_serial_read_effects",
-           "WriteEffects": "superio_serial_write_effects", "EnqueueEffects": "superio_serial_enqueue_effects",
-           "Pl031": "superio_rtc", "RtcReadEffects": "superio_rtc_read_effects",
-           "RtcWriteEffects": "superio_rtc_write_effects", "I8042WriteEffects": "superio_i8042_write_effects",
-           "Console": "superio_console", "Work": "superio_console_work", "Wants": "superio_console_wanted",
-           "ConsoleRead": "superio_console_read_effects", "ConsoleReceived": "superio_console_receive_effects"}
-TYPES = {**STRUCTS, **{f"i{width}": f"int{width}_t" for width in (8, 16, 32, 64)},
+# The name in C of each struct that has there another than by the rule of `name_in_c`.
+NAMES = {"Uart": "superio_serial", "ReadEffects": "superio_serial_read_effects",
+         "WriteEffects": "superio_serial_write_effects", "EnqueueEffects": "superio_serial_enqueue_effects",
+         "Pl031": "superio_rtc", "Work": "superio_console_work", "Wants": "superio_console_wanted",
+         "ConsoleRead": "superio_console_read_effects", "ConsoleReceived": "superio_console_receive_effects"}
+PLAIN = {**{f"i{width}": f"int{width}_t" for width in (8, 16, 32, 64)},
          **{f"u{width}": f"uint{width}_t" for width in (8, 16, 32, 64)}, "usize": "size_t", "bool": "bool",
          "()": "void"}
 SIGNATURE = re.compile(r'^#\[no_mangle\]\npub (?:unsafe )?extern "C" fn (\w+)\(([^)]*)\)(?: -> (\w+))? \{$', re.M)
@@ -52,15 +50,22 @@ def check_header(root: Path, crate: Any) -> None:
     numbers = once(re.findall(r"^#define (SUPERIO_\w+) (\d+)$", text, re.M))
     for name in numbers.keys() & set(re.findall(r"^#undef (\w+)", text, re.M)):
         raise Refused(f"{HEADER}: {name} is undefined")
-    same(once((name, fields_of(body, numbers)) for name, body in STRUCT.findall(text)),
-         {STRUCTS[name]: [*fields(crate, name)] for name in STRUCTS})
+    declared = once((name, fields_of(body, numbers)) for name, body in STRUCT.findall(text))
+    structs = {name: name_in_c(name) for name in crate.types if name_in_c(name) in declared}
+    types = PLAIN | structs
+    same(declared, once((in_c, [*fields(crate, types, name)]) for name, in_c in structs.items()))
     for name, constant in NUMBERS.items():
         if crate.number(crate.consts[constant].value) != int(numbers[name]):
             raise Refused(f"{HEADER}: {name} is not {constant}")
     loads = re.findall(r"SUPERIO_LOAD_(\w+) = (\d+)", text)
     same({name.replace("_", "").lower(): int(number) for name, number in loads}, faults(crate))
     prototypes = PROTOTYPE.findall(text)
-    same(once((name, (result, parameters_of(given))) for result, name, given in prototypes), functions(root))
+    same(once((name, (result, parameters_of(given))) for result, name, given in prototypes), functions(root, types))
+
+
+def name_in_c(name: str) -> str:
+    """The name in C of a struct of Rust, if it has one there: `RtcReadEffects` is `superio_rtc_read_effects`."""
+    return NAMES.get(name) or "superio_" + re.sub(r"(?<!^)(?=[A-Z])", "_", name).lower()
 
 
 def header(root: Path) -> str:
@@ -89,12 +94,12 @@ def faults(crate: Any) -> dict[str, int]:
     return found | {"ok": crate.number(crate.consts["LOADED"].value)}
 
 
-def functions(root: Path) -> dict[str, Function]:
+def functions(root: Path, types: dict[str, str]) -> dict[str, Function]:
     """The result and the parameters of each function that C can call."""
     found: dict[str, Function] = {}
     for name, given, result in SIGNATURE.findall(source(root / "bindings/c/from-source/src/lib.rs")):
         parts = " ".join(given.split()).rstrip(",")
-        found[name] = TYPES[result or "()"], [of_c(*part.split(": ")) for part in parts.split(", ") if part]
+        found[name] = types[result or "()"], [of_c(types, *part.split(": ")) for part in parts.split(", ") if part]
     return found
 
 
@@ -121,18 +126,18 @@ def fields_of(body: str, numbers: dict[str, str]) -> list[Member]:
     return found
 
 
-def fields(crate: Any, name: str) -> Iterator[Member]:
+def fields(crate: Any, types: dict[str, str], name: str) -> Iterator[Member]:
     """The fields of a struct as C has them. A struct in it that has no name in C gives its own fields one by one."""
     item = crate.types[name]
     if item.kind != "struct" or "repr(C)" not in item.derived:
         raise Refused(f"{name} has not the layout of C")
     for field, type_ in item.fields:
         if isinstance(type_, List):
-            yield field, TYPES[type_[1]], crate.number(type_.length)
-        elif type_ in TYPES:
-            yield field, TYPES[type_], 0
+            yield field, types[type_[1]], crate.number(type_.length)
+        elif type_ in types:
+            yield field, types[type_], 0
         else:
-            for inner, its_type, count in fields(crate, type_):
+            for inner, its_type, count in fields(crate, types, type_):
                 yield f"output_{inner}" if field == "output" else inner, its_type, count  # of a console's output
 
 
@@ -148,10 +153,10 @@ def parameters_of(given: str) -> list[tuple[str, str]]:
     return found
 
 
-def of_c(name: str, type_: str) -> tuple[str, str]:
+def of_c(types: dict[str, str], name: str, type_: str) -> tuple[str, str]:
     """A parameter as C has it."""
     pointer = re.fullmatch(r"(&mut |&|\*mut |\*const )(\w+)", type_)
     if not pointer:
-        return name.lstrip("_"), TYPES[type_]
+        return name.lstrip("_"), types[type_]
     constant = "const " if pointer[1] in ("&", "*const ") else ""
-    return name.lstrip("_"), f"{constant}{TYPES[pointer[2]]} *"
+    return name.lstrip("_"), f"{constant}{types[pointer[2]]} *"

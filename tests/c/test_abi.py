@@ -2,7 +2,7 @@
 """What holds of every C function by its row of superio.abi, whatever the function is for.
 
 A call writes where its parameters allow and nowhere else, reads nothing else, leaves what earlier calls gave, and keeps
-no state. The devices have any bytes in them: most are none that a guest leads to.
+no state.
 """
 import ctypes
 import mmap
@@ -11,88 +11,20 @@ from pathlib import Path
 
 import pytest
 from abi import CONSTANTS, FUNCTIONS, STRUCTS
-from board import CLOCK, SERIAL, fault
+from board import fault
+from common.facts import KINDS
 from console import console_fault
 from generators.libraries import SHARED
-from harness import ROOT, check
+from harness import ROOT, at_least, check
+from random_calls import Place, call, places, random_calls, random_device, value_of
 from seeds import random_source
 
-GUARD = 64      # bytes before and behind what a pointer leads to
 ROUNDS = 400    # calls of each function
-SAVED = {"serial": CONSTANTS["SUPERIO_SERIAL_SAVED_MAX"], "console": CONSTANTS["SUPERIO_CONSOLE_SAVED_MAX"],
-         "rtc": CONSTANTS["SUPERIO_RTC_SAVED_SIZE"]}
+# How many bytes the saved states of each device have at most.
+SAVED = {function.name[len("superio_"):-len("_save")]: function.parameters[1].number for function in FUNCTIONS
+         if function.name.endswith("_save")}
 HEADER = 8      # the bytes of a saved state before its fields
-FLAGS = ("is_polled", "is_ready", "is_asleep", "is_refused")
-
-
-class Place:
-    """Memory that a pointer leads to, between guards."""
-
-    def __init__(self, source, content):
-        self.before = source.randbytes(GUARD) + content + source.randbytes(GUARD)
-        self.memory = ctypes.create_string_buffer(self.before, len(self.before))
-        self.pointer = ctypes.addressof(self.memory) + GUARD
-
-    def content(self):
-        return self.memory.raw[GUARD:-GUARD]
-
-    def content_before(self):
-        return self.before[GUARD:-GUARD]
-
-    def is_guarded(self):
-        now = self.memory.raw
-        return now[:GUARD] == self.before[:GUARD] and now[-GUARD:] == self.before[-GUARD:]
-
-
-def random_device(source, kind):
-    """A struct of any bytes. Half of the ports hold no more bytes than they may, and in half of the consoles no more
-    bytes of output wait than may."""
-    device = kind.from_buffer_copy(source.randbytes(ctypes.sizeof(kind)))
-    port = getattr(device, "port", device)
-    if hasattr(port, "len") and source.random() < 0.5:
-        port.len %= 65
-    if hasattr(device, "output_len") and source.random() < 0.5:
-        device.output_len %= 4097
-    return bytes(device)
-
-
-def arguments_of(source, function, states):
-    """Arguments for a call: the places of pointers, and numbers. Every other list of bytes is a saved state."""
-    arguments, count = [], None
-    for parameter in function.parameters:
-        if parameter.is_pointer and parameter.number is None:
-            content = source.choice([source.randbytes(source.randrange(100)), source.choice(states[-4:])])
-            count = len(content)
-            arguments.append(Place(source, content))
-        elif parameter.is_pointer and parameter.kind is ctypes.c_uint8:
-            arguments.append(Place(source, source.randbytes(parameter.number)))
-        elif parameter.is_pointer:
-            arguments.append(Place(source, random_device(source, parameter.kind)))
-        elif count is not None:
-            arguments.append(count)
-            count = None
-        else:
-            number = source.choice([source.randrange(10), source.getrandbits(64)])
-            arguments.append(number % 2 ** (8 * ctypes.sizeof(parameter.kind)))
-    return arguments
-
-
-def places(arguments):
-    return [argument for argument in arguments if isinstance(argument, Place)]
-
-
-def value_of(result):
-    """A result as a value. The bytes between the fields of a struct are nobody's."""
-    if isinstance(result, ctypes.Structure):
-        return [value_of(getattr(result, name)) for name, _ in result._fields_]
-    return bytes(result) if isinstance(result, ctypes.Array) else result
-
-
-def call(library, function, arguments):
-    """The result of a call, as a value, and what it left behind each pointer."""
-    pointers = [argument.pointer if isinstance(argument, Place) else argument for argument in arguments]
-    result = getattr(library, function.name)(*pointers)
-    return value_of(result), [place.content() for place in places(arguments)]
+FLAGS = ("armed", "is_polled", "is_ready", "is_asleep", "is_refused")
 
 
 def writable_pieces(path):
@@ -111,16 +43,11 @@ def library(request):
 def made(library):
     """Calls of all functions in turn, with their arguments, results, what they left, and whether the library's own
     memory is as it was."""
-    source, states, calls, pieces = random_source("abi"), [b""], [], writable_pieces(library._name)
+    calls, pieces = [], writable_pieces(library._name)
     own_memory = [ctypes.string_at(*piece) for piece in pieces]
-    for _ in range(ROUNDS):
-        for function in FUNCTIONS:
-            arguments = arguments_of(source, function, states)
-            result, left = call(library, function, arguments)
-            if function.name.endswith("_save"):
-                states.append(left[-1][:result])
-            before, own_memory = own_memory, [ctypes.string_at(*piece) for piece in pieces]
-            calls.append((function, arguments, result, left, before == own_memory))
+    for row in random_calls(library, random_source("abi"), ROUNDS):
+        before, own_memory = own_memory, [ctypes.string_at(*piece) for piece in pieces]
+        calls.append((*row, before == own_memory))
     return calls
 
 
@@ -270,7 +197,15 @@ def loaded(library, kind, data):
     return getattr(library, f"superio_{kind}_load")(ctypes.byref(device), data, len(data)), device
 
 
-@pytest.mark.parametrize("kind", SAVED)
+def test_kinds(library):
+    """The saved states of each kind of device have its number."""
+    numbers = {kind: saved(library, kind, STRUCTS[f"superio_{kind}"]())[4] for kind in SAVED}
+    assert sorted(numbers.values()) == [*KINDS.values()]
+    known = {"serial": KINDS["serial port"], "rtc": KINDS["clock"], "console": KINDS["console"]}
+    assert known.items() <= numbers.items()
+
+
+@pytest.mark.parametrize("kind", at_least(3, SAVED))
 def test_there_and_back(library, kind):
     """A state that was loaded has the fields of the saved one, and the same saved state."""
     source, struct = random_source(kind), STRUCTS[f"superio_{kind}"]
@@ -289,18 +224,19 @@ def in_ring(ring, head, count):
 
 def kept(device):
     """What a saved state keeps of a struct."""
-    fields = {name: getattr(device, name) for name, _ in device._fields_}
+    fields = {name: value_of(getattr(device, name)) for name, _ in device._fields_}
+    fields.update({name: bool(fields[name]) for name in FLAGS if name in fields})
     if "port" in fields:
         ring = in_ring(*(fields.pop(f"output_{name}") for name in ("bytes", "head", "len")))
-        return {**fields, "port": kept(device.port), "output": ring, **{name: bool(fields[name]) for name in FLAGS}}
+        return {**fields, "port": kept(device.port), "output": ring}
     if "bytes" in fields:
         return {**fields, "bytes": in_ring(device.bytes, device.head, device.len), "head": 0, "len": 0}
-    return {**fields, "armed": bool(device.armed)}
+    return fields
 
 
 def status_of(kind, data):
-    """What a load of bytes returns, by the first check of docs/SAVED-STATES.md that they fail."""
-    words = console_fault(data) if kind == "console" else fault({"serial": SERIAL, "rtc": CLOCK}[kind], data)
+    """What a load of bytes as a kind of device returns, by the first check of docs/SAVED-STATES.md that they fail."""
+    words = console_fault(data) if kind == KINDS["console"] else fault(kind, data)
     words = re.sub("(version) ..", r"\1", words)   # without the version
     return CONSTANTS[f"SUPERIO_LOAD_{words.upper().replace(' ', '_')}"]
 
@@ -321,7 +257,7 @@ def test_damaged(library, kind):
         with_length = [data[:6] + count.to_bytes(2, "little") + bytes(count) for count in (0, 8, 9, 25, 73, 74, 65535)]
         for damaged in flipped + other_lengths + with_length:
             status, device = loaded(library, kind, damaged)
-            assert status == status_of(kind, damaged)
+            assert status == status_of(data[4], damaged)
             if status == 0:
                 assert saved(library, kind, device) == damaged
             else:

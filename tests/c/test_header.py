@@ -1,16 +1,14 @@
 # SPDX-License-Identifier: Apache-2.0 OR BSD-3-Clause
 """The header and the compilers that use it, and the prebuilt libraries, which are those of the sources."""
 import re
-from pathlib import Path
 
 import pytest
 from builds import COMPILERS, compilers_for
 from common.rattle import alone
 from generators.header import read_header
 from generators.libraries import INTERFACE, PREBUILT, build_into, library_sums, source_line, sums_of
-from harness import ROOT, at_least, check, run
+from harness import ROOT, check, run
 
-HERE = Path(__file__).parent
 WARNINGS = ["-O1", "-Wall", "-Wextra", "-pedantic", "-I", ROOT / "bindings" / "c"]
 # What a line of superio.abi says of a program.
 CONDITIONS = [
@@ -23,28 +21,6 @@ CONDITIONS = [
 STANDARD = "#include <stdbool.h>\n#include <stddef.h>\n#include <stdint.h>\n"
 # The names that the header uses for itself.
 HIDDEN = ["HAS_ATTRIBUTE", "MUST_USE", "NONNULL", "ACCESS", "COUNTED", "AT_LEAST"]
-CALLER = """#include <superio.h>
-void use(uint64_t result);
-void make(superio_serial *port, superio_console *console, superio_rtc *clock);
-void make(superio_serial *port, superio_console *console, superio_rtc *clock) {{
-    (void)port, (void)console, (void)clock;
-    {}
-}}
-"""
-# A caller with memory of its own in place of one argument.
-OF_MEMORY = """void {name}(superio_serial *port, superio_console *console, superio_rtc *clock, uint8_t *bytes);
-void {name}(superio_serial *port, superio_console *console, superio_rtc *clock, uint8_t *bytes) {{
-    (void)port, (void)console, (void)clock, (void)bytes;
-    {memory}
-    {call};
-}}
-"""
-# The arguments that need not be set, since their calls only write them.
-WRITTEN = {"superio_console_new_console", "superio_serial_load_port", "superio_console_load_console",
-           "superio_rtc_load_clock", "superio_console_output_bytes", "superio_serial_save_bytes",
-           "superio_console_save_bytes", "superio_rtc_save_bytes"}
-MISTAKES = at_least(50, [re.split("  +", row) for row in (HERE / "mistakes.txt").read_text("ascii").splitlines()
-                         if row and not row.startswith("#")])
 
 
 def test_prebuilt_sums():
@@ -79,12 +55,6 @@ def test_version():
     version = (ROOT / "VERSION").read_text("ascii").strip()
     assert version == constants["SUPERIO_VERSION"] == ".".join(
         str(constants[f"SUPERIO_VERSION_{part}"]) for part in ("MAJOR", "MINOR", "PATCH"))
-
-
-@pytest.mark.parametrize("name", ["replay.c", "mistakes.txt"])
-def test_each_function_is_called(name):
-    called = set(re.findall(r"\b(superio_\w+)\(", (HERE / name).read_text(encoding="utf-8")))
-    assert not {*at_least(37, read_header().functions)} - called
 
 
 @pytest.mark.parametrize("compiler", compilers_for("x86_64", "aarch64"))
@@ -135,48 +105,3 @@ def test_warnings_after_the_header(tmp_path):
     (tmp_path / "own.c").write_text(f"#include <superio.h>\n{own}\n", "ascii")
     said = run(["clang", *WARNINGS, "-Wgcc-compat", "-fsyntax-only", tmp_path / "own.c"]).stdout
     assert "own.c:2" in said and "[-Wgcc-compat]" in said and "superio.h" not in said, said
-
-
-@pytest.mark.parametrize("compiler", [COMPILERS["gcc"], COMPILERS["clang"]])
-@pytest.mark.parametrize("row", MISTAKES, ids=lambda row: row[0])
-def test_mistake(compiler, row, tmp_path):
-    """A compiler warns of each mistake of mistakes.txt, and of nothing else."""
-    call, *warnings = row
-    wanted = warnings["clang" in compiler and len(warnings) > 1]
-    source = tmp_path / "mistake.c"
-    source.write_text(CALLER.format(call), "ascii")
-    said = run([*compiler.split(), *WARNINGS, "-c", source, "-o", "/dev/null"]).stdout
-    assert said == "" if wanted == "nothing" else all(warning in said for warning in wanted.split(", "))
-
-
-def callers(name, parameters):
-    """Callers of a function. In each one, an argument is not set, or is a byte too small. If the caller says how many
-    bytes there are, it says ten."""
-    def call(argument="", by=""):
-        words = [by if parameter.name == argument else
-                 parameter.name if parameter.kind.endswith("*") or parameter.length else
-                 "10" if parameter.kind == "size_t" else "0" for parameter in parameters]
-        return f"{name}({', '.join(words)})"
-
-    for argument, length in [(parameter.name, parameter.length or 10) for parameter in parameters
-                             if parameter.name == "bytes"]:
-        yield f"{name}_{argument}", f"uint8_t memory[{length}];", call(argument, "memory")
-        yield f"{name}_few", f"uint8_t memory[{length} - 1]; fill(memory);", call(argument, "memory")
-    for argument, kind in [(parameter.name, parameter.kind.strip("*").split()[-1]) for parameter in parameters
-                           if "superio" in parameter.kind]:
-        yield f"{name}_{argument}", f"{kind} memory;", call(argument, "&memory")
-
-
-@pytest.mark.needs("cc")
-def test_memory_of_arguments(tmp_path):
-    """Gcc warns of each argument that is read and not set, of each that is too small, and of no other."""
-    made = at_least(50, [caller for name, function in read_header().functions.items()
-                         for caller in callers(name, function.parameters)])
-    source = "".join(OF_MEMORY.format(name=name, memory=memory, call=call) for name, memory, call in made)
-    (tmp_path / "memory.c").write_text(f"#include <superio.h>\nvoid fill(uint8_t *memory);\n{source}", "ascii")
-    said = run(["gcc", "-std=c99", *WARNINGS, "-Wno-unused-result", "-c", "memory.c", "-o", "/dev/null"], cwd=tmp_path)
-    parts = re.findall(r"^memory\.c: In function .(\w+).:$(.*?)(?=^memory\.c: In|\Z)", said.stdout, re.M | re.S)
-    warned = {(name, warning) for name, part in parts for warning in re.findall(r"\[-W(?:maybe-)?([a-z]+)", part)}
-    assert warned == {(name, "stringop" if name.endswith("_few") else "uninitialized")
-                      for name, *_ in made if name not in WRITTEN}
-    assert WRITTEN <= {name for name, *_ in made}

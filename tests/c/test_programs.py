@@ -4,8 +4,9 @@
 The Makefile builds and runs them, for this processor by gcc, with sanitizers, and by clang, and for others by Debian's
 cross compilers and qemu's user mode.
 
-- replay.c calls each function: recorded calls, some with values from the data sheets, every answer, loads and random
-  calls, which do what a search of the past says, and those of a console what a model says.
+- every_function.c calls each function of superio.h, and each call does what it does through Python.
+- replay.c makes recorded calls, some with values from the data sheets, every answer, loads and random calls, which do
+  what a search of the past says, and those of a console what a model says.
 - the programs of examples/c print what they should, and the machine does the duties of demo.txt.
 - console.c has guests that receive and send at once over a bare port, and no byte waits for ever, unless a monitor or a
   driver breaks a rule.
@@ -19,18 +20,20 @@ from board import Board
 from builds import HOST, PROCESSORS, compilers_for, make_words, prebuilt
 from common.seed import seed
 from console import random_runs
+from every_function import calls_of_functions, functions_in_c
 from generators.libraries import STATIC
 from harness import ROOT, at_least, check
 from made import every_load
 from recorded import every_answer, random_recorded, recording_of, recordings
 from script import line_of, replies_of
-from seeds import seeds
+from seeds import random_source, seeds
 from toolchains import toolchain_for
 
 HERE = Path(__file__).parent
-LOADED_CALLS, RUNS = 20_000, 2_500
+LOADED_CALLS, RUNS, ROUNDS = 20_000, 2_500, 60
 DEMO = at_least(210, re.findall(r"^\w.*", (HERE / "demo.txt").read_text("ascii"), re.M))
 OTHERS = ["s390x", "arm"]   # for which there is only the library from source
+WORDS_OF_32_BITS = ["arm"]
 
 
 def loads():
@@ -53,6 +56,16 @@ def calls(tmp_path_factory):
     assert number >= 395_000
     path.write_text(text, "ascii")
     return path, number
+
+
+@pytest.fixture(scope="session")
+def each(prebuilt_library, tmp_path_factory):
+    """A file of calls of each function, how many it has, and how many of them no size_t of 32 bits allows."""
+    text, number, too_large = calls_of_functions(prebuilt_library, random_source("each function in C"), ROUNDS)
+    assert number >= 37 * ROUNDS and too_large > 0
+    path = tmp_path_factory.mktemp("each") / "each"
+    path.write_bytes(text)
+    return path, number, too_large
 
 
 @pytest.fixture(scope="session")
@@ -91,6 +104,14 @@ def replay(compiler, processor, library, calls, folder):
           f"{number} calls did the same, 0 did not\n")
 
 
+def call_each(compiler, processor, library, each, folder):
+    path, number, too_large = each
+    passed_over = too_large if processor in WORDS_OF_32_BITS else 0
+    (folder / "functions.h").write_text(functions_in_c(), "ascii")
+    check(make_words(compiler, processor, library, folder, "functions", f"EACH={path}"),
+          f"{number - passed_over} calls did the same, 0 did not, {passed_over} have a number that is too large\n")
+
+
 def exchange(compiler, processor, library, folder):
     said = check(make_words(compiler, processor, library, folder, "exchanges", f"SEED={seed()}"))
     assert sum(map(int, re.findall(r"^\d+ of (\d+) exchanges stalled: ", said, re.M))) >= 30_000
@@ -104,6 +125,12 @@ def make_worlds(compiler, processor, library, folder):
 @pytest.mark.parametrize("compiler, processor", PREBUILT)
 def test_calls(compiler, processor, calls, tmp_path):
     replay(compiler, processor, prebuilt(processor), calls, tmp_path)
+
+
+@needs_make
+@pytest.mark.parametrize("compiler, processor", PREBUILT)
+def test_each_function(compiler, processor, each, tmp_path):
+    call_each(compiler, processor, prebuilt(processor), each, tmp_path)
 
 
 @needs_make
@@ -138,6 +165,12 @@ def test_threads_of_examples_by_gcc(tmp_path):
 @pytest.mark.parametrize("compiler, processor", SOURCE)
 def test_calls_from_source(compiler, processor, calls, from_source, tmp_path):
     replay(compiler, processor, from_source(processor), calls, tmp_path)
+
+
+@needs_cargo
+@pytest.mark.parametrize("compiler, processor", SOURCE)
+def test_each_function_from_source(compiler, processor, each, from_source, tmp_path):
+    call_each(compiler, processor, from_source(processor), each, tmp_path)
 
 
 @needs_cargo

@@ -1,6 +1,6 @@
 # SPDX-License-Identifier: Apache-2.0 OR BSD-3-Clause
-"""Each place of the proved crates that makes an error, takes memory or calls an object is in places.txt, with the tests
-that fail if its code is wrong.
+"""Each place of the proved crates that makes an error, takes memory or calls an object is named with a test that fails
+if its code is wrong: in places.txt, or above a test in Rattle by a comment `/// Fails if this is wrong: PLACE`.
 
 A place is named by its file, its function, its kind and its number among those of its kind there:
 
@@ -8,8 +8,8 @@ A place is named by its file, its function, its kind and its number among those 
 - `memory`: a call that may be refused memory.
 - `call`: it calls a trigger, an events object, a reader or a writer, or passes it to a function that does.
 
-A test in Rattle is named by crate, module and function, one of pytest by file and function. Where a wrong body cannot
-show, the line has `clause` and the clause that it breaks, by function and name.
+In places.txt a test in Rattle is named by crate, module and function, one of pytest by file and function. Where a wrong
+body cannot show, the line has `clause` and the clause that it breaks, by function and name.
 """
 import re
 from collections import Counter
@@ -23,17 +23,31 @@ PROVED = ["superio_core", "superio_laws", "superio_console", "vm_superio", "supe
           "superio_examples"]
 SOURCES = {path.relative_to(CRATES).as_posix(): path.read_text(encoding="utf-8")
            for crate in PROVED for path in sorted((CRATES / crate / "src").rglob("*.rt"))}
+# The crates whose traits a user's objects have.
+WITH_OBJECTS = "vm_superio", "superio_examples"
+TRAIT = re.compile(r"^pub trait \w+[^{;]*\{", re.M)
 NO_BODY = re.compile(r"\b(?:(?:ensures|requires)\*?\s*\w*|ghost \w+ ?[:=])\s*\{|\bghost use [^;]*;|#!?\[[^\]]*\]")
 # Functions that take an object by `&mut`.
 TAKES = re.compile(r"\bfn (\w+)<[^(]*\((?![^()]*\bself\b)[^()]*\w: &mut [A-Z]{1,2}(?=[,)])")
 PASSES = "|".join({name for text in SOURCES.values() for name in TAKES.findall(code_of(text))} - {"fmt"})
+
+
+def calls_of_objects():
+    """The names of the calls that a device makes on objects: those of the public traits."""
+    for name, text in SOURCES.items():
+        code = code_of(text)
+        for trait in TRAIT.finditer(code) if name.startswith(WITH_OBJECTS) else ():
+            yield from re.findall(r"\bfn (\w+)\(&mut self\b", code[trait.start():end_of_braces(code, trait.end() - 1)])
+
+
+CALLED = "|".join(at_least(8, sorted({*calls_of_objects()})))
 ERRORS = r"\b(?:Error|SavedStateError|LoadError|LineFault|ScriptFault|BusError)::[A-Z]\w*|\bSelf::(?:Memory|Invalid)\b"
 KINDS = {
     "error": rf"\bErr\(|\.(?:map_err|ok_or)\(|(?<!fn )\bload_status\(|{ERRORS}",
     "memory": r"(?<!fn )(?<![\w:])(?!Vec::new\b)[\w:]+!?[(\[]\s*(?:in )?(?:rt\.alloc\(\)|alloc\b(?!:))"
               r"|\.push\((?=[^;]*\)\?)",
-    "call": r"\.(?:trigger|buffer_read|out_byte|tx_lost_byte|in_buffer_empty|invalid_read|invalid_write|flush)\(\)"
-            rf"|\.write_all\(|\bout\.write_byte\(|\bsink\.write\(|\breader\.read\(|(?<![.:\w])(?<!fn )(?:{PASSES})\(",
+    "call": rf"(?<!\bself)\.(?:{CALLED})\(|\.flush\(\)|\.write_all\(|\bsink\.write\(|\breader\.read\("
+            rf"|(?<![.:\w])(?<!fn )(?:{PASSES})\(",
 }
 
 
@@ -90,7 +104,14 @@ PLACES = at_least(140, [place for name, text in SOURCES.items() for place, _ in 
 LINES = [line.partition(": ") for line in
          (ROOT / "tests/crates/places.txt").read_text(encoding="utf-8").splitlines() if not line.startswith("#")]
 TESTS = {test for _, _, tests in LINES if not tests.startswith("clause ") for test in tests.split(", ")}
+NOTE = re.compile(r"^/// Fails if this is wrong: (.*)$", re.M)
 CLAUSES = [(place.split()[0], tests.split()[1:]) for place, _, tests in LINES if tests.startswith("clause ")]
+
+
+def noted_places(text):
+    """The places that the comments above the tests of a source name."""
+    comments = re.findall(r"^((?:///.*\n)+)#\[test\]\n", text, re.M)
+    return [place for lines in comments for place in NOTE.findall(lines)]
 
 
 def names_in_rattle():
@@ -100,13 +121,22 @@ def names_in_rattle():
             yield f"{path.parts[-3]}::{path.stem}::{name}"
 
 
-def test_lines():
-    """Each place has one line, and each line a place. They are sorted."""
+RATTLE = [path.read_text(encoding="utf-8") for path in CRATES.glob("*/src/**/*.rt")]
+
+
+def test_each_place_is_named():
+    """In a line or at a test, and each line and each comment has a place. The lines are sorted, no two of one place."""
     listed = [place for place, _, _ in LINES]
-    assert sorted(PLACES) == listed
+    named = {*listed, *at_least(30, [place for text in RATTLE for place in noted_places(text)])}
+    assert listed == sorted({*listed})
+    assert [{*PLACES} - named, named - {*PLACES}] == [set(), set()]
 
 
-@pytest.mark.parametrize("name", at_least(40, sorted(TESTS)))
+def test_each_comment_is_above_a_test():
+    assert [text for text in RATTLE if noted_places(text) != NOTE.findall(text)] == []
+
+
+@pytest.mark.parametrize("name", at_least(35, sorted(TESTS)))
 def test_is_there(name):
     """A test that is named is there."""
     file, _, function = name.partition(".py::")
@@ -132,6 +162,7 @@ def test_clause(file, words):
     ("// Err(a)\n prove!(a == \"Err(b)\");", ""),
     ("made.push(byte)?; let a = Vec::new(alloc);", "memory"),
     ("x.trigger(); out.write_all(&[1]).map_err(f)?; report_read(&mut events, a);", "call call call error"),
+    ("self.events.invalid_read(); self.out.write_byte(a)?; self.write_byte(a); f.invalid();", "call call"),
 ])
 def test_what_is_found(body, kinds):
     """Places of a body. What is of a pattern, a comment or a string is none."""

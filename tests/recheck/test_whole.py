@@ -174,6 +174,9 @@ CHANGES |= {
         in_header("bool superio_serial_is_coherent(const superio_serial *port)\n"
                   "    SUPERIO_MUST_USE SUPERIO_NONNULL SUPERIO_ACCESS(read_only, 1);\n", ""), "superio.h: superio_serial_is_coherent: None"),
     "an error that the header lacks": (in_header("    SUPERIO_LOAD_TOO_SHORT = 1, ", "    "), "superio.h: tooshort: None"),
+    "a struct that Rust lacks": (in_header("uint32_t superio_abi(void);", "uint32_t superio_abi(void);\ntypedef struct superio_more {\n    uint8_t one;\n} superio_more;"),
+                                 "superio.h: superio_more: [('one', 'uint8_t', 0)], and in Rust None"),
+    "two structs of one name in C": ([(C_FUNCTIONS, "", "\n#[repr(C)]\npub struct Rtc {\n    pub lr: u32,\n}\n")], "superio.h: superio_rtc twice"),
     "a field that the header lacks": (in_header("    uint8_t scratch; ", "    "), "superio.h: superio_serial: "),
 }
 

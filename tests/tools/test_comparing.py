@@ -21,14 +21,17 @@ import test_consoles
 import test_counts
 import test_files
 import test_header
+import test_mistakes
 from builds import HOST, make_words, prebuilt
 from common.comparison import Comparison
 from common.seed import VARIABLE, seed
 from contracts import functions_of
 from documents import BUILT
+from every_function import calls_of_functions, encoded_call, functions_in_c
 from generators import counts
 from generators.libraries import replace_lines
 from harness import LIMIT, ROOT, at_least, check, run
+from random_calls import random_calls
 from recorded import difference, recordings
 from script_tests import Script
 from seeds import random_source, seeds
@@ -284,22 +287,53 @@ superio_console_read_effects __wrap_superio_console_read(superio_console *consol
 TOUCHED = ["sw 00 41", "sq 6869", "cr 3e8 0000", "lr 05"]
 
 
+def ends_of_touching(program, calls, folder):
+    """How a program ends after calls over the functions of TOUCHING, by what is told to them."""
+    (folder / "touching.c").write_text(TOUCHING, "ascii")
+    wrapped = sorted({f"-Wl,--wrap={name}" for name in re.findall(r"__wrap_(\w+)", TOUCHING)})
+    check(["cc", "-I", ROOT / "bindings/c", "-I", folder, ROOT / "tests/c" / program, folder / "touching.c", *wrapped,
+           prebuilt(HOST), "-o", folder / "program"], "")
+    told = ["nothing", *(f"{name} {side}" for name in at_least(4, re.findall(r', "(\w+)"\);', TOUCHING))
+                         for side in ("before", "behind"))]
+    return {words: subprocess.run([folder / "program"], input=calls, stdout=subprocess.DEVNULL,
+                                  env={**os.environ, "TOUCH": words}).returncode for words in told}
+
+
 @pytest.mark.needs("cc")
 def test_guards_of_replay(tmp_path):
     """An access to a byte beside each struct, and beside the bytes of an enqueue, ends the program, on either side."""
-    (tmp_path / "touching.c").write_text(TOUCHING, "ascii")
-    wrapped = sorted({f"-Wl,--wrap={name}" for name in re.findall(r"__wrap_(\w+)", TOUCHING)})
-    check(["cc", "-I", ROOT / "bindings/c", ROOT / "tests/c/replay.c", tmp_path / "touching.c", *wrapped, prebuilt(HOST),
-           "-o", tmp_path / "replay"], "")
+    ends = ends_of_touching("replay.c", "".join(f"{call} = ?\n{call} = ?\n" for call in TOUCHED).encode(), tmp_path)
+    assert ends.pop("nothing") == 1 and {*ends.values()} == {-signal.SIGSEGV}, ends
 
-    def ended(told):
-        rows = "".join(f"{call} = ?\n{call} = ?\n" for call in TOUCHED)
-        ran = subprocess.run([tmp_path / "replay"], input=rows, text=True, stdout=subprocess.DEVNULL,
-                             env={**os.environ, "TOUCH": told})
-        return ran.returncode
-    assert ended("nothing") == 1
-    for name in at_least(4, re.findall(r', "(\w+)"\);', TOUCHING)):
-        assert [ended(f"{name} {side}") for side in ("before", "behind")] == [-signal.SIGSEGV] * 2, name
+
+# Programs that call each function
+
+@pytest.mark.needs("cc")
+def test_guards_of_each_function(prebuilt_library, tmp_path):
+    """So does one in the program that calls each function."""
+    (tmp_path / "functions.h").write_text(functions_in_c(), "ascii")
+    calls = calls_of_functions(prebuilt_library, random_source("guards"), 20)[0]
+    ends = ends_of_touching("every_function.c", calls, tmp_path)
+    assert ends.pop("nothing") == 0 and {*ends.values()} == {-signal.SIGSEGV}, ends
+
+
+@pytest.mark.needs("cc")
+def test_each_function_is_compared(prebuilt_library, tmp_path):
+    """A call of each function that did something else, in its first byte, its last, or by a byte less or more."""
+    (tmp_path / "functions.h").write_text(functions_in_c(), "ascii")
+    check(["cc", "-I", ROOT / "bindings/c", "-I", tmp_path, ROOT / "tests/c/every_function.c", prebuilt(HOST), "-o",
+           tmp_path / "functions"], "")
+    source = random_source("compared")
+    calls = [[*encoded_call(source.getrandbits(8), *call)] for call in random_calls(prebuilt_library, source, 1)]
+    changes = [lambda did: did, lambda did: bytes([did[0] ^ 1]) + did[1:],
+               *(lambda did, place=place: altered(did)[place] for place in range(3))]
+    for change in changes:
+        changed = (change(did[4:]) for *_, did in calls)
+        rows = [b"".join([*call[:-1], len(did).to_bytes(4, "little"), did]) for call, did in zip(calls, changed)]
+        ran = subprocess.run([tmp_path / "functions"], input=b"".join(rows), capture_output=True)
+        same = len(calls) * (change is changes[0])
+        said = f"{same} calls did the same, {len(calls) - same} did not, 0 have a number that is too large\n"
+        assert (ran.returncode == 0, ran.stdout.decode().endswith(said)) == (same > 0, True), ran.stdout
 
 
 # Others end the program if a struct has what SHAPE names: the header allows it, and no library of ours leaves it there.
@@ -459,14 +493,28 @@ def test_warnings_of_the_header(line, tmp_path, monkeypatch):
     header = (ROOT / "bindings/c/superio.h").read_text("ascii")
     words = [tmp_path if word == ROOT / "bindings" / "c" else word for word in test_header.WARNINGS]
     assert words.count(tmp_path) == 1
-    monkeypatch.setattr(test_header, "WARNINGS", words)
+    for module in (test_header, test_mistakes):
+        monkeypatch.setattr(module, "WARNINGS", words)
     for more, is_warned in (("", False), (line, True)):
         # Once, as the header may be read twice.
         guarded = f"#ifndef MORE\n#define MORE\n{more}\n#endif\n" if more else ""
         (tmp_path / "superio.h").write_text(header + guarded, "ascii")
-        assert refuses(test_header.test_header, compiler, tmp_path) == is_warned
-        assert refuses(test_header.test_mistake, compiler, ["(void)port;", "nothing"], tmp_path) == is_warned
-    assert refuses(test_header.test_mistake, compiler, ["(void)port;", "unused-result"], tmp_path)
+        for test in (test_header.test_header, test_mistakes.test_mistakes):
+            assert refuses(test, compiler, tmp_path) == is_warned
+
+
+@pytest.mark.needs("cc")
+@pytest.mark.parametrize("mistakes", [["LOST"], ["NO_PLACE"], ["LOST", "NO_PLACE"]], ids=" ".join)
+def test_mistakes_of_a_call(mistakes, tmp_path, monkeypatch):
+    """A call has all its mistakes and no other: that this one loses its result, or that its device is NULL."""
+    [compiler] = test_header.COMPILERS["gcc"].values
+    name = "superio_serial_interrupts_due"
+    function = dict(test_mistakes.FUNCTIONS)[name]
+    for wanted in ([], ["LOST"], ["NO_PLACE"], ["LOST", "NO_PLACE"]):
+        case = test_mistakes.Case(name, function, [getattr(test_mistakes, mistake) for mistake in wanted],
+                                  {"port": "NULL"} if "NO_PLACE" in mistakes else {}, loses="LOST" in mistakes)
+        monkeypatch.setattr(test_mistakes, "CASES", [case])
+        assert refuses(test_mistakes.test_mistakes, compiler, tmp_path) == (wanted != mistakes)
 
 
 # What each sanitizer finds: a read behind memory, and a sum that is too large.

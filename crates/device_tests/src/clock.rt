@@ -1,7 +1,10 @@
 // SPDX-License-Identifier: Apache-2.0 OR BSD-3-Clause
 //! The clock by accesses of the guest and their moments: guest time, the registers, invalid offsets, saved states and
-//! the alarm. A test that vm-superio has too gives its name there.
+//! the alarm. A test that vm-superio has too gives its name there. At the end stand its calls and its state, as a
+//! program uses them, so that a change of a signature is a compile error.
 use crate::clock::Access::{Read, Write};
+use crate::serial_calls::is_compared_and_printed;
+use std::alloc::Global;
 use std::process::Abort;
 use superio_script::Counts;
 use vm_superio::rtc_pl031::{NoEvents, RtcEvents};
@@ -266,6 +269,7 @@ fn the_mask_hides_the_interrupt_and_keeps_it(rt: HostRuntime) {
 }
 
 /// `test_interrupt_clear_register`
+/// Fails if this is wrong: vm_superio/src/rtc_pl031.rt Rtc::read_value call 1
 #[test]
 fn a_clear_ends_the_interrupt_and_its_register_is_not_readable(rt: HostRuntime) {
     let mut clock = interrupted(1, 1);
@@ -441,6 +445,7 @@ fn remade(state: &RtcState) -> Rtc<Counts> {
 }
 
 /// `test_state`
+/// Fails if this is wrong: vm_superio/src/rtc_pl031.rt Rtc::write_value call 1
 #[test]
 fn a_restored_clock_has_the_state_and_its_own_events_object(rt: HostRuntime) {
     let mut clock = fresh();
@@ -608,4 +613,61 @@ fn five_fields_are_those_of_a_state_without_an_alarm(rt: HostRuntime) {
         ..state
     };
     assert!(rt; state.to_five().is_none());
+}
+
+// ---- its calls, with their signatures
+
+fn clock_with_events<EV: RtcEvents>(rtc_events: EV) -> Rtc<EV> {
+    Rtc::with_events(rtc_events)
+}
+
+fn clock_from_state<EV: RtcEvents>(state: &RtcState, rtc_events: EV) -> Rtc<EV> {
+    Rtc::from_state(state, rtc_events)
+}
+
+fn state_and_events<EV: RtcEvents>(clock: &Rtc<EV>) -> (RtcState, &EV) {
+    (clock.state(), clock.events())
+}
+
+fn write_clock<EV: RtcEvents>(clock: &mut Rtc<EV>, offset: u16, bytes: &[u8; 4], now: u64) {
+    clock.write(offset, bytes, now)
+}
+
+fn read_clock<EV: RtcEvents>(clock: &mut Rtc<EV>, offset: u16, bytes: &mut [u8; 4], now: u64) {
+    clock.read(offset, bytes, now)
+}
+
+#[test]
+fn a_clock_is_made_used_and_remade(rt: HostRuntime) {
+    let made: Rtc<NoEvents> = Rtc::new();
+    let default: Rtc<NoEvents> = Rtc::default();
+    assert!(rt; made.state() == default.state());
+    let mut first = clock_with_events(Counts::new());
+    write_clock(&mut first, 0x004, &[1, 2, 3, 4], 0);
+    let (state, events) = state_and_events(&first);
+    let mut second = clock_from_state(&state, *events);
+    let mut bytes = [0; 4];
+    read_clock(&mut second, 0x004, &mut bytes, 0);
+    assert!(rt; bytes == [1, 2, 3, 4]);
+}
+
+/// Whether the state of a clock with these fields is the default one, and is printed.
+fn is_clock_state_printed(alloc: Global) -> bool {
+    let clock = RtcState {
+        lr: 0,
+        offset: 0,
+        mr: 0,
+        imsc: 0,
+        ris: 0,
+        armed: false,
+        ..RtcState::default()
+    };
+    clock == RtcState::default()
+        && clock == RtcState::from_five(0, 0, 0, 0, 0)
+        && is_compared_and_printed(alloc, &clock)
+}
+
+#[test]
+fn the_state_of_a_clock_is_compared_and_printed(rt: HostRuntime) {
+    assert!(rt; is_clock_state_printed(rt.alloc()));
 }

@@ -1,7 +1,8 @@
 // SPDX-License-Identifier: Apache-2.0 OR BSD-3-Clause
-//! The i8042 controller: it resets at one command, and reads 0. A test that vm-superio has too gives its name there.
+//! The i8042 controller: it resets at one command, and reads 0. A test that vm-superio has too gives its name there. At
+//! the end stand its calls as a program uses them, so that a change of a signature is a compile error.
 use superio_script::{Line, LineRefused};
-use vm_superio::I8042Device;
+use vm_superio::{I8042Device, Trigger};
 
 /// A controller whose reset line refuses the calls of this mask.
 fn controller(mask: u64) -> I8042Device<Line> {
@@ -9,6 +10,7 @@ fn controller(mask: u64) -> I8042Device<Line> {
 }
 
 /// `test_i8042_valid_ops`
+/// Fails if this is wrong: vm_superio/src/i8042.rt I8042Device::write call 1
 #[test]
 fn the_reset_command_calls_the_reset_line_once(rt: HostRuntime) {
     let mut device = controller(0);
@@ -27,6 +29,7 @@ fn another_value_or_offset_resets_nothing(rt: HostRuntime) {
     assert!(rt; device.reset_evt().calls() == 0);
 }
 
+/// Fails if this is wrong: superio_script/src/objects.rt Line::trigger error 1
 #[test]
 fn a_refusal_of_the_reset_line_is_returned(rt: HostRuntime) {
     let mut device = controller(0b01);
@@ -63,5 +66,31 @@ fn one_of_all_writes_resets_and_all_reads_give_0(rt: HostRuntime) {
             "{offset} {wrong:?}"
         );
     }
+    assert!(rt; device.reset_evt().calls() == 1);
+}
+
+// ---- its calls, with their signatures
+
+fn made<T: Trigger>(reset_evt: T) -> I8042Device<T> {
+    I8042Device::new(reset_evt)
+}
+
+fn read_controller<T: Trigger>(device: &mut I8042Device<T>, offset: u8) -> u8 {
+    device.read(offset)
+}
+
+fn write_controller<T: Trigger>(
+    device: &mut I8042Device<T>,
+    offset: u8,
+    value: u8,
+) -> Result<(), T::E> {
+    device.write(offset, value)
+}
+
+#[test]
+fn a_controller_is_made_and_used(rt: HostRuntime) {
+    let mut device = made(Line::new(0));
+    assert!(rt; read_controller(&mut device, 0) == 0);
+    assert!(rt; write_controller(&mut device, 4, 0xFE).is_ok());
     assert!(rt; device.reset_evt().calls() == 1);
 }

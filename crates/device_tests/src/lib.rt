@@ -1,6 +1,7 @@
 // SPDX-License-Identifier: Apache-2.0 OR BSD-3-Clause
-//! The worked cases of each device through its public calls: the serial port, runs of calls, the clock, the controller
-//! and saved states, and the signatures of the calls.
+//! The worked cases of each device through its public calls, with their signatures: the serial port, runs of calls, the
+//! clock, the controller and saved states. `Fails if this is wrong:` above a test names a place that makes an error or
+//! calls an object, as tests/crates/test_places.py numbers them.
 #![tactic(auto)]
 
 #[cfg(test)]
@@ -8,11 +9,11 @@ mod clock;
 #[cfg(test)]
 mod controller;
 #[cfg(test)]
-mod public_calls;
-#[cfg(test)]
 mod runs;
 #[cfg(test)]
 mod saved_states;
+#[cfg(test)]
+mod serial_calls;
 #[cfg(test)]
 mod serial_interrupts;
 #[cfg(test)]

@@ -367,6 +367,7 @@ fn a_refused_restore_in_a_run_leaves_the_port(rt: HostRuntime) {
     assert!(rt; handed_back(done.first(), 0b10, 2, 1));
 }
 
+/// Fails if this is wrong: vm_superio/src/serial/effects.rt call_trigger call 2
 #[test]
 fn a_run_records_what_the_trigger_answered(rt: HostRuntime) {
     static ROWS: [Row; 7] = [
@@ -387,6 +388,8 @@ fn a_run_records_what_the_trigger_answered(rt: HostRuntime) {
     run_shows(&rt, rt.alloc(), &mut port, &ROWS, None, 5);
 }
 
+/// Fails if this is wrong: vm_superio/src/serial.rt Serial::timeout_for_run call 1
+/// Fails if this is wrong: vm_superio/src/serial.rt Serial::timeout_for_run error 1
 #[test]
 fn a_run_records_character_timeouts(rt: HostRuntime) {
     static ROWS: [Row; 5] = [

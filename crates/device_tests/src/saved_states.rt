@@ -66,6 +66,7 @@ fn a_clock_is_saved_and_read_back(rt: HostRuntime) {
     assert!(rt; RtcState::from_bytes(&clock().to_bytes()) == Ok(clock()));
 }
 
+/// Fails if this is wrong: vm_superio/src/serial/encoding.rt SerialState::to_uart error 1
 #[test]
 fn a_port_of_sixty_five_bytes_has_no_form(rt: HostRuntime) {
     let fields = Fields {
@@ -142,6 +143,8 @@ fn is_no_port(alloc: Global, row: &Row) -> bool {
     read == Some(LoadError::Invalid(fault))
 }
 
+/// Fails if this is wrong: superio_core/src/serial/encoding.rt decode_serial error 1
+/// Fails if this is wrong: superio_core/src/serial/encoding.rt decode_serial error 2
 #[test]
 fn bytes_of_no_port_are_refused_for_the_first_reason(rt: HostRuntime) {
     for row in OF_NO_PORT.iter() {
@@ -180,6 +183,12 @@ fn is_no_clock(row: &Row) -> bool {
     RtcState::from_bytes(&clock_with(changes)[..length.min(SAVED_SIZE)]) == Err(fault)
 }
 
+/// Fails if this is wrong: superio_core/src/rtc_pl031/encoding.rt RtcState::parse error 1
+/// Fails if this is wrong: superio_core/src/rtc_pl031/encoding.rt RtcState::parse error 2
+/// Fails if this is wrong: superio_core/src/saved.rt decode_header error 1
+/// Fails if this is wrong: superio_core/src/saved.rt decode_header error 3
+/// Fails if this is wrong: superio_core/src/saved.rt decode_header error 4
+/// Fails if this is wrong: superio_core/src/saved.rt decode_header error 5
 #[test]
 fn bytes_of_no_clock_are_refused_for_the_first_reason(rt: HostRuntime) {
     for row in OF_NO_CLOCK.iter() {

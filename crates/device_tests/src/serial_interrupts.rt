@@ -36,6 +36,8 @@ fn rda_comes_once_for_bytes_that_arrive_together(rt: HostRuntime) {
     );
 }
 
+/// Fails if this is wrong: vm_superio/src/serial.rt Serial::enqueue_for_run call 1
+/// Fails if this is wrong: vm_superio/src/serial/effects.rt call_trigger call 1
 #[test]
 fn a_read_of_one_byte_ends_rda_until_the_next_arrives(rt: HostRuntime) {
     fresh_shows(
@@ -173,6 +175,7 @@ fn an_iir_read_acknowledges_thre(rt: HostRuntime) {
     );
 }
 
+/// Fails if this is wrong: vm_superio/src/serial.rt Serial::write_for_run call 2
 #[test]
 fn a_sent_byte_leaves_ier_and_shows_thre(rt: HostRuntime) {
     fresh_shows(
@@ -238,6 +241,7 @@ fn ier_keeps_its_upper_two_bits_without_effect(rt: HostRuntime) {
 
 // ---- refusals
 
+/// Fails if this is wrong: vm_superio/src/serial/effects.rt write_reply error 1
 #[test]
 fn a_refused_rda_ends_the_ier_write(rt: HostRuntime) {
     fresh_shows(
@@ -289,6 +293,7 @@ fn a_refused_rda_is_shown_and_raised_again_after_iir(rt: HostRuntime) {
     );
 }
 
+/// Fails if this is wrong: vm_superio/src/serial.rt Serial::enqueue_for_run error 1
 #[test]
 fn a_refused_enqueue_keeps_its_bytes_and_is_not_asked_again(rt: HostRuntime) {
     fresh_shows(

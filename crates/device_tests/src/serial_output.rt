@@ -20,6 +20,8 @@ fn sends_each(port: &mut TestSerial<Vec<u8>>, bytes: &[u8], iir: u8) -> bool {
     port.writer().as_slice() == bytes
 }
 
+/// Fails if this is wrong: vm_superio/src/serial.rt Serial::write_for_run call 1
+/// Fails if this is wrong: vm_superio/src/serial/effects.rt send_where_due call 1
 #[test]
 fn sent_bytes_reach_a_vector_without_interrupt(rt: HostRuntime) {
     let mut port = made(&rt, rt.alloc(), 0, Vec::new(rt.alloc()));
@@ -70,6 +72,7 @@ fn a_refusal_comes_before_the_fault_of_the_writer(rt: HostRuntime) {
     );
 }
 
+/// Fails if this is wrong: vm_superio/src/serial/effects.rt report_sent call 2
 #[test]
 fn a_byte_that_is_not_flushed_is_lost(rt: HostRuntime) {
     fresh_over_shows(
@@ -84,6 +87,8 @@ fn a_byte_that_is_not_flushed_is_lost(rt: HostRuntime) {
     );
 }
 
+/// Fails if this is wrong: vm_superio/src/serial/effects.rt report_sent call 1
+/// Fails if this is wrong: vm_superio/src/serial/effects.rt send_where_due call 3
 #[test]
 fn a_writer_that_is_full_loses_the_next_byte(rt: HostRuntime) {
     fresh_over_shows(

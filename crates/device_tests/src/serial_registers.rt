@@ -120,6 +120,7 @@ fn loopback_shows_the_modem_outputs_as_inputs(rt: HostRuntime) {
     );
 }
 
+/// Fails if this is wrong: vm_superio/src/serial.rt Serial::enqueue_for_run error 2
 #[test]
 fn enqueue_stops_at_sixty_four(rt: HostRuntime) {
     fresh_shows(
@@ -192,6 +193,7 @@ fn bytes_stay_in_order_as_others_arrive(rt: HostRuntime) {
     assert!(rt; takes_in_order(rt.alloc(), &mut port) && gives_in_order(&mut port));
 }
 
+/// Fails if this is wrong: vm_superio/src/serial/effects.rt report_read call 4
 #[test]
 fn loopback_drops_what_does_not_fit_and_receives_nothing_else(rt: HostRuntime) {
     let mut port = made(&rt, rt.alloc(), 0, Narrow::with_room(256));

@@ -58,6 +58,7 @@ fn refusal_of(alloc: Global, state: &SerialState, line: Line) -> Option<(u64, Er
     }
 }
 
+/// Fails if this is wrong: vm_superio/src/serial/effects.rt restored error 1
 #[test]
 fn more_than_sixty_four_bytes_are_refused_before_any_call(rt: HostRuntime) {
     let of_128_bytes = Fields {
@@ -91,6 +92,9 @@ fn a_restore_calls_the_trigger_for_both_conditions(rt: HostRuntime) {
     restored_shows(&rt, BOTH_PENDING, &[Calls(2), Read(IIR, 0xC6)]);
 }
 
+/// Fails if this is wrong: vm_superio/src/serial.rt Serial::from_state error 1
+/// Fails if this is wrong: vm_superio/src/serial/effects.rt call_again error 1
+/// Fails if this is wrong: vm_superio/src/serial/effects.rt restored error 2
 #[test]
 fn a_refused_restore_hands_the_trigger_back(rt: HostRuntime) {
     let state = state_with(&rt, rt.alloc(), BOTH_PENDING);
@@ -114,6 +118,9 @@ fn a_restore_calls_the_new_trigger_for_thre(rt: HostRuntime) {
     );
 }
 
+/// Fails if this is wrong: vm_superio/src/serial.rt Serial::from_state call 1
+/// Fails if this is wrong: vm_superio/src/serial/effects.rt call_again call 1
+/// Fails if this is wrong: vm_superio/src/serial/effects.rt restored call 1
 #[test]
 fn a_restore_calls_the_new_trigger_for_rda(rt: HostRuntime) {
     fresh_shows(
@@ -190,6 +197,7 @@ fn an_iir_of_all_bits_has_both_conditions(rt: HostRuntime) {
     );
 }
 
+/// Fails if this is wrong: vm_superio/src/serial/effects.rt report_read call 1
 #[test]
 fn a_read_of_no_byte_takes_rda_alone_out_of_iir(rt: HostRuntime) {
     for (iir, shown) in [(0x04, 0xC1), (0x08, 0xC8), (0xFF, 0xFB)] {
