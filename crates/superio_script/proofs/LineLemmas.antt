@@ -4,9 +4,8 @@ use Rattle.std.proofs.Common.{◌≡◌, ℕ, List, length, ◌≤◌, Option, S
 use Rattle.std.specs.Io.KnownBytes.{Consumes}
 use Rattle.std.proofs.lemmas.List.{length-take-le, take-append-le, take_rest}
 use Rattle.std.proofs.Math.Seq.{take-append-add}
-use Rattle.superio_laws.specs.Rtc.{RtcState, Access, fresh_clock, clock_step, clock_response, clock_history_response}
+use Rattle.superio_laws.specs.Rtc.{RtcState, Access, fresh_clock, clock_step, clock_response, clock_of_history, clock_history_response}
 use Rattle.superio_laws.proofs.Lemmas.Rtc.{GoesOnByHistory-step, clock_is_history}
-use Rattle.superio_script.specs.ClockScript.{clock_after}
 use Rattle.std.specs.List.{position, position_from}
 use Rattle.std.proofs.lemmas.Iterator.Adapters.{position_from-zero}
 use Rattle.std.proofs.lemmas.List.Quantifiers.{position-Some}
@@ -15,12 +14,12 @@ use Rattle.superio_script.specs.Fields.{prepend_to_first, pieces_of, lines_of}
 -- ---- what an access of the clock does, after these accesses
 
 pub clock_goes_on :
-    (accesses : List Access) (old new : RtcState) (access : Access) → new ≡ clock_step old access → old ≡ clock_after accesses →
-    new ≡ clock_after (access ∷ accesses)
+    (accesses : List Access) (old new : RtcState) (access : Access) → new ≡ clock_step old access → old ≡ clock_of_history fresh_clock accesses →
+    new ≡ clock_of_history fresh_clock (access ∷ accesses)
 clock_goes_on accesses old new access made at = GoesOnByHistory-step access made fresh_clock accesses at
 
 pub clock_responds :
-    (accesses : List Access) (old : RtcState) (access : Access) (response : Option ℕ) → response ≡ clock_response old access → old ≡ clock_after accesses →
+    (accesses : List Access) (old : RtcState) (access : Access) (response : Option ℕ) → response ≡ clock_response old access → old ≡ clock_of_history fresh_clock accesses →
     response ≡ clock_history_response fresh_clock accesses access
 clock_responds accesses old access response made at = made ∙ clock_is_history.response_follows old access fresh_clock accesses at
 

@@ -6,10 +6,8 @@ use Rattle.std.proofs.lemmas.Slice.Eq.{bytes_eq-Decides}
 use Rattle.std.proofs.lemmas.Option.{option_and_then_some}
 use Rattle.std.specs.Int.{Width}
 use Rattle.superio_script.specs.Fields.{by_syntax, prepend_to_first, pieces_of, fields_of, number, bytes, end, first_number, first_bytes, later_fields}
-use Rattle.superio_script.specs.Command.{command_of_name, command_of_fields, command_of, Serial, Clock, Controller}
 use Rattle.superio_script.specs.SerialScript.{SerialCommand, serial_syntaxes}
-use Rattle.superio_script.specs.ClockScript.{ClockCommand, clock_syntaxes}
-use Rattle.superio_script.specs.ControllerScript.{ControllerCommand, controller_syntaxes}
+use Rattle.superio_script.specs.Devices.{Command, command_of_name, command_of_fields, command_of, Serial}
 use Rattle.superio_script.specs.declared.serial_lines.SerialCommand.TheVariants as line
 
 -- ---- a line of one field
@@ -63,19 +61,36 @@ ended : (fields : List (List ℕ)) → end line.Restore fields ≡ Some line.Res
 ended [] is = refl
 ended (field ∷ fields) is = absurd cc
 
-by_letter : (letter : ℕ) (serial : Option SerialCommand) (clock : Option ClockCommand) (controller : Option ControllerCommand) →
-    (if letter == 0x73 then option_map (λ line. Serial line) serial
-    else (if letter == 0x63 then option_map (λ line. Clock line) clock
-    else (if letter == 0x6B then option_map (λ line. Controller line) controller
-    else None))) ≡ Some (Serial line.Restore) → serial ≡ Some line.Restore
-by_letter letter serial clock controller is = grind arith
+-- ---- the device
+
+abbrev is_serial : (command : Option Command) → Bool
+is_serial (Some (Serial line)) = true
+is_serial _ = false
+
+-- the serial port's lines come from its own syntaxes, if the other devices' syntaxes give none of them
+own_line : (named : Bool) (serial : Option SerialCommand) (others : Option Command) (line : SerialCommand) → is_serial others ≡ false →
+    (if named then option_map (λ line. Serial line) serial else others) ≡ Some (Serial line) → serial ≡ Some line
+own_line named serial others line none is = grind arith
+
+-- one of the other devices
+other_line : {A : Type 0} (named : Bool) (make : A → Command) (line : Option A) (others : Option Command) → ((line : A) → is_serial (Some (make line)) ≡ false) → is_serial others ≡ false →
+    is_serial (if named then option_map make line else others) ≡ false
+other_line true make (Some line) others differs none = differs line
+other_line true make None others differs none = refl
+other_line false make line others differs none = none
+
+serial-name : (letter : ℕ) (letters : List ℕ) (fields : List (List ℕ)) → command_of_name (letter ∷ letters) fields ≡ Some (Serial line.Restore)
+    → by_syntax serial_syntaxes (letter ∷ letters) fields ≡ Some line.Restore
+serial-name letter letters fields is =
+    own_line (letter == 0x73) (by_syntax serial_syntaxes (letter ∷ letters) fields) _ line.Restore (search other_line depth 16) is
+
+-- ---- the line
 
 restore-name : (name : List ℕ) (fields : List (List ℕ)) → command_of_name name fields ≡ Some (Serial line.Restore) → name ∷ fields ≡ codes "ss" ∷ []
 restore-name [] fields is = absurd cc
 restore-name (letter ∷ letters) fields is =
     let name = letter ∷ letters in
-    let (named, alone) = restore-syntax name fields
-    (by_letter letter (by_syntax serial_syntaxes name fields) (by_syntax clock_syntaxes name fields) (by_syntax controller_syntaxes name fields) is) in
+    let (named, alone) = restore-syntax name fields (serial-name letter letters fields is) in
     ap (λ name. name ∷ fields) ((bytes_eq-Decides name (codes "ss")).0 named) ∙ ap (λ fields. codes "ss" ∷ fields) (ended fields alone)
 
 pub restore_line-is_ss : (text : List ℕ) → command_of text ≡ Some (Serial line.Restore) → text ≡ codes "ss"

@@ -1,6 +1,7 @@
 -- SPDX-License-Identifier: Apache-2.0 OR BSD-3-Clause
--- What the lines so far add to what was written, whatever is still to come, and what was written when a run ends.
-use Rattle.std.proofs.Common.{arith, ◌≡◌, ℕ, ◌+◌, ◌≤◌, List, [], ◌∷◌, ◌++◌, length, Bool, Option, Some, None, refl, ap, sym, ◌∙◌, subst, append_assoc, append-nil, length-append, IsTrue, IsSomeAnd, is_some, if◌then◌else◌, nat_le, codes}
+-- A board between two lines; what the lines so far add to what was written, whatever is still to come; and what was
+-- written when a run ends.
+use Rattle.std.proofs.Common.{arith, ◌≡◌, ℕ, ◌+◌, ◌≤◌, List, [], ◌∷◌, ◌++◌, length, Bool, Option, Some, None, refl, ap, sym, ◌∙◌, subst, append_assoc, append-nil, length-append, IsTrue, Result, Ok, Err, IfOk, OnErr, IsSomeAnd, is_some, if◌then◌else◌, nat_le, codes}
 use Rattle.std.specs.Cmp.Derive.{both_true}
 use Rattle.std.proofs.lemmas.Bool.{and_parts}
 use Rattle.std.proofs.lemmas.Bool.Decides.{nat_tests}
@@ -13,13 +14,53 @@ use Rattle.vm_superio.specs.Serial.{SerialView, Trace}
 use Rattle.vm_superio.proofs.Lemmas.{Appends-nothing, Appends-append}
 use Rattle.superio_laws.proofs.Lemmas.Rtc.{fresh_clock-history}
 use Rattle.superio_script.specs.Objects.{Line, Counts, Output}
-use Rattle.superio_script.specs.Command.{command_of, Command, Serial, Clock, Controller}
-use Rattle.superio_script.specs.SerialScript.{Outcome, outcomes_of, all_short, trace_after_line, prints_after_loss}
-use Rattle.superio_script.specs.ClockScript.{clock_after, access_of_line, clock_replies}
-use Rattle.superio_script.specs.Board.{Devices, IsAfter, IsFresh, IsLineStep}
-use Rattle.superio_script.specs.ControllerScript.{controller_replies}
-use Rattle.superio_script.specs.Script.{has_syntax, until_bad, good_commands, first_bad_line, serial_lines, clock_lines, controller_lines, replies_in_order, text_from, script_text, PrintsLines, StopsWithoutMemory}
+use Rattle.superio_script.specs.SerialScript.{SerialCommand, Outcome, outcomes_of, all_short, trace_after_line, prints_after_loss, IsAfter, IsSerialLineStep}
+use Rattle.superio_script.specs.Devices.{ClockCommand, clock_after, access_of_line, clock_replies, IsClockLineStep, controller_replies, Command, Serial, Clock, Controller, command_of, Devices, IsBetweenLines, IsFresh, IsLineStep, serial_lines, clock_lines, controller_lines, replies_in_order, text_from}
+use Rattle.superio_script.specs.Script.{has_syntax, until_bad, good_commands, first_bad_line, script_text, PrintsLines, StopsWithoutMemory}
 use Rattle.superio_script.proofs.SerialScriptLemmas.{outcomes_taken, printed_taken, first-replies, outcomes-after_line}
+
+-- ---- a board between two lines
+
+pub IsBetweenLines-at_start : {mask : ℕ} {board : Devices} → IsFresh mask board → IsBetweenLines board.serial board.clock board.controller
+IsBetweenLines-at_start {mask} fresh = record {
+  mask = mask;
+  trace = [];
+  serial = fresh.serial;
+  accesses = [];
+  clock = ap (λ (clock : ClockDevice Counts). clock.state) fresh.clock ∙ fresh_clock-history;
+  controller = fresh.controller;
+}
+
+-- a line of the serial port leads from its trace to another, unless it fails
+pub IsBetweenLines-after_serial_line :
+    {Reply Fault : Type 0} (items : Reply → List ℕ) (line : SerialCommand) (result : Result Reply Fault) {old new : SerialView Line Counts Output} {rtc : ClockDevice Counts} {reset_line : Line}
+    → IfOk result (λ reply. IsSerialLineStep line (items reply) old new) → OnErr result (new ≡ old) → IsBetweenLines old rtc reset_line → IsBetweenLines new rtc reset_line
+IsBetweenLines-after_serial_line items line (Ok reply) step unchanged before =
+    let taken = step before.mask before.trace before.serial in record {
+      mask = before.mask;
+      trace = trace_after_line before.mask before.trace taken.outcome line;
+      serial = taken.after;
+      accesses = before.accesses;
+      clock = before.clock;
+      controller = before.controller;
+    }
+IsBetweenLines-after_serial_line items line (Err fault) {rtc = rtc} {reset_line = reset_line} step unchanged before =
+    subst (λ (port : SerialView Line Counts Output). IsBetweenLines port rtc reset_line) (sym unchanged) before
+
+-- a line of the clock adds its access
+pub IsBetweenLines-after_clock_line :
+    (line : ClockCommand) (reply : List ℕ) {old new : ClockDevice Counts} {port : SerialView Line Counts Output} {reset_line : Line}
+    → IsClockLineStep line reply old.state new.state → IsBetweenLines port old reset_line → IsBetweenLines port new reset_line
+IsBetweenLines-after_clock_line line reply step before = record {
+  mask = before.mask;
+  trace = before.trace;
+  serial = before.serial;
+  accesses = access_of_line line ∷ before.accesses;
+  clock = (step before.accesses before.clock).1;
+  controller = before.controller;
+}
+
+pub ruleset between_lines = (IsBetweenLines-after_clock_line)
 
 -- ---- a line of the board
 

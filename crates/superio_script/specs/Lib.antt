@@ -1,8 +1,5 @@
 -- SPDX-License-Identifier: Apache-2.0 OR BSD-3-Clause
-pub mod Board
-pub mod ClockScript
-pub mod Command
-pub mod ControllerScript
+pub mod Devices
 pub mod Driver
 pub mod Fields
 pub mod Objects

@@ -1,16 +1,23 @@
 -- SPDX-License-Identifier: Apache-2.0 OR BSD-3-Clause
 -- The text of a script: what a run of it prints.
-use Rattle.std.specs.Prelude.{◌≡◌, ℕ, ◌+◌, ◌≤◌, List, [], ◌∷◌, ◌++◌, length, if◌then◌else◌, Bool, Option, Some, None, is_some, IsTrue, codes}
+use Rattle.std.specs.Prelude.{◌≡◌, ℕ, ◌+◌, ◌≤◌, List, [], ◌∷◌, ◌++◌, length, if◌then◌else◌, Bool, Option, Some, None, is_some, IsTrue, codes, bytes_eq}
+use Rattle.std.specs.Int.{w64}
 use Rattle.std.specs.List.{list_all}
 use Rattle.std.specs.Io.KnownBytes.{Appends, Consumes, IsAtEnd}
-use Rattle.superio_script.specs.Fields.{lines_of}
+use Rattle.superio_script.specs.Fields.{number, end, fields_of, lines_of}
 use Rattle.superio_script.specs.Objects.{output_limit}
-use Rattle.superio_script.specs.Command.{command_of, mask_of, Command, Serial, Clock, Controller}
-use Rattle.superio_laws.specs.Rtc.{Access}
-use Rattle.vm_superio.specs.Serial.{Trace}
-use Rattle.superio_script.specs.SerialScript.{SerialCommand, Outcome, out_before_loss, all_short, serial_replies}
-use Rattle.superio_script.specs.ClockScript.{ClockCommand, clock_replies}
-use Rattle.superio_script.specs.ControllerScript.{ControllerCommand, controller_replies}
+use Rattle.superio_script.specs.SerialScript.{Outcome, out_before_loss, all_short}
+use Rattle.superio_script.specs.Devices.{Command, command_of, text_from_fresh}
+
+-- ---- the first line
+
+-- the mask of a line `refuse MMMMMMMMMMMMMMMM`, which is a syntax of a script's first line alone
+abbrev pub mask_of_fields : (fields : List (List ℕ)) → Option ℕ
+mask_of_fields [] = None
+mask_of_fields (name ∷ fields) = if bytes_eq name (codes "refuse") then number w64 end fields else None
+
+abbrev pub mask_of : (line : List ℕ) → Option ℕ
+mask_of line = mask_of_fields (fields_of line)
 
 -- ---- the lines
 
@@ -51,47 +58,11 @@ abbrev pub first_bad_line : (number : ℕ) (lines : List (List ℕ)) → Option 
 first_bad_line number [] = None
 first_bad_line number (line ∷ lines) = if has_syntax line then first_bad_line (number + 1) lines else Some number
 
--- ---- each device's own lines
-
-abbrev pub serial_lines : (commands : List Command) → List SerialCommand
-serial_lines [] = []
-serial_lines (Serial line ∷ commands) = line ∷ serial_lines commands
-serial_lines (_ ∷ commands) = serial_lines commands
-
-abbrev pub clock_lines : (commands : List Command) → List ClockCommand
-clock_lines [] = []
-clock_lines (Clock line ∷ commands) = line ∷ clock_lines commands
-clock_lines (_ ∷ commands) = clock_lines commands
-
-abbrev pub controller_lines : (commands : List Command) → List ControllerCommand
-controller_lines [] = []
-controller_lines (Controller line ∷ commands) = line ∷ controller_lines commands
-controller_lines (_ ∷ commands) = controller_lines commands
-
 -- ---- the text
-
--- the devices' replies in the order of the commands: each command takes the next reply of its device
-abbrev pub replies_in_order : (commands : List Command) (serial clock controller : List (List ℕ)) → List ℕ
-replies_in_order (Serial line ∷ commands) (reply ∷ serial) clock controller =
-    reply ++ replies_in_order commands serial clock controller
-replies_in_order (Clock line ∷ commands) serial (reply ∷ clock) controller =
-    reply ++ replies_in_order commands serial clock controller
-replies_in_order (Controller line ∷ commands) serial clock (reply ∷ controller) =
-    reply ++ replies_in_order commands serial clock controller
-replies_in_order _ serial clock controller = []
-
--- the replies to these commands, from this trace of the serial port and these accesses of the clock on, given what a
--- script leaves open. The replies of each device come from its own lines alone
-abbrev pub text_from :
-    (mask : ℕ) (trace : Trace) (accesses : List Access) (commands : List Command)
-    (outcomes : List Outcome) (printed : List (List ℕ)) → List ℕ
-text_from mask trace accesses commands outcomes printed =
-    replies_in_order commands (serial_replies mask trace (serial_lines commands) outcomes printed)
-    (clock_replies accesses (clock_lines commands)) (controller_replies (controller_lines commands))
 
 -- the text of these lines: the replies to the good ones, from fresh devices
 abbrev pub script_text : (mask : ℕ) (lines : List (List ℕ)) (outcomes : List Outcome) (printed : List (List ℕ)) → List ℕ
-script_text mask lines outcomes printed = text_from mask [] [] (good_commands lines) outcomes printed
+script_text mask lines outcomes printed = text_from_fresh mask (good_commands lines) outcomes printed
 
 -- the number of a script's first bad line, counted from 1, or `None` if every line is good
 abbrev pub first_bad_line_of : (script : List ℕ) → Option ℕ

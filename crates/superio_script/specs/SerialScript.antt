@@ -1,14 +1,14 @@
 -- SPDX-License-Identifier: Apache-2.0 OR BSD-3-Clause
 -- The serial port's part of a script: its lines, and the replies to them, by the history. They depend on these lines
 -- alone, on the mask, and on what a script leaves open: which bytes are lost, and what `so` prints once one was.
-use Rattle.std.specs.Prelude.{ℕ, zero, suc, ◌+◌, ◌-◌, Bool, true, false, not, if◌then◌else◌, List, [], ◌∷◌, ◌++◌, length, drop, count_by, codes, nat_le}
+use Rattle.std.specs.Prelude.{◌≡◌, ◌≤◌, ℕ, zero, suc, ◌+◌, ◌-◌, Bool, true, false, not, if◌then◌else◌, List, [], ◌∷◌, ◌++◌, length, drop, count_by, codes, nat_le, IsTrue}
 use Rattle.std.specs.Int.{w8}
 use Rattle.std.specs.List.{list_all}
-use Rattle.vm_superio.specs.Serial.{fifo_size, State, Asked, Sent, Op, Read, Write, Enqueue, Restore, TraceEntry, Trace, answer_count, ends_in_refusal, sent_by, Event, buffer_read, out_byte, tx_lost_byte, in_buffer_empty, fresh_state, not_empty}
+use Rattle.vm_superio.specs.Serial.{fifo_size, SerialView, State, Asked, Sent, Op, Read, Write, Enqueue, Restore, TraceEntry, Trace, answer_count, ends_in_refusal, sent_by, Event, buffer_read, out_byte, tx_lost_byte, in_buffer_empty, fresh_state, not_empty}
 use Rattle.superio_core.specs.Serial.Operations.{Response, ByteRead, WriteOk, EnqueueOk, TimeoutOk, TriggerRefused, WriterFailed, FifoFull, OutOfMemory, NoResponse}
-use Rattle.superio_laws.specs.Serial.History.{decode_at, dlab_after, held_bytes, guest_read, none_lost, output, history_events, history_response, calls_due, conditions_due_after, state_of_history}
+use Rattle.superio_laws.specs.Serial.History.{decode_at, dlab_after, held_bytes, guest_read, none_lost, output, history_events, history_response, calls_due, conditions_due_after, state_of_history, is_fitting}
 use Rattle.superio_script.specs.Fields.{Syntax, number, bytes, end}
-use Rattle.superio_script.specs.Objects.{is_call_refused, output_limit, saturated, Line, Counts}
+use Rattle.superio_script.specs.Objects.{is_call_refused, output_limit, written_bytes, saturated, Line, Counts, Output}
 use Rattle.superio_script.specs.Reply.{with_lf, digits_reply, count_digits}
 pub use Rattle.superio_script.specs.declared.serial_lines.SerialCommand.{SerialCommand}
 use Rattle.superio_script.specs.declared.serial_lines.SerialCommand.TheVariants as serial
@@ -243,3 +243,31 @@ serial_replies mask trace (line ∷ lines) outcomes printed =
     ∷ serial_replies mask (trace_after_line mask trace outcome line) lines
     (if line_sends trace line then drop 1 outcomes else outcomes)
     (if prints_after_loss trace line then drop 1 printed else printed)
+
+-- ---- what a contract sees of a board's serial port, and of one line on it
+
+-- a board's serial port after this trace, with this mask of its interrupt line: the history gives its state and its
+-- objects, the output only while no byte is lost. Before the first loss the output takes at most 256 bytes
+pub record IsAfter (mask : ℕ) (trace : Trace) (port : SerialView Line Counts Output) : Type 0 where
+  pub state : port.state ≡ state_of_history fresh_state trace
+  pub interrupt_line : port.trigger ≡ interrupt_line_after mask (calls_made trace)
+  pub counts : port.events ≡ counts_of (events_reported trace)
+  pub output : IsTrue (none_lost trace) → written_bytes port.out ≡ output fresh_state [] trace
+  pub fitting : IsTrue (is_fitting fresh_state trace)
+  pub within_room : out_before_loss (outcomes_of trace) ≤ output_limit
+
+-- a line of the serial port, after a trace. For some outcome and some printed bytes the trace gives the reply, and the
+-- port is then after the longer trace
+pub record SerialLineStep
+    (mask : ℕ) (trace : Trace) (line : SerialCommand) (reply : List ℕ) (new : SerialView Line Counts Output) :
+    Type 0 where
+  pub outcome : Outcome
+  pub printed : List ℕ
+  pub short : length printed ≤ output_limit
+  pub replied : reply ≡ serial_reply mask trace outcome printed line
+  pub after : IsAfter mask (trace_after_line mask trace outcome line) new
+
+-- this holds after every trace that leads to the port
+abbrev pub IsSerialLineStep : (line : SerialCommand) (reply : List ℕ) (old new : SerialView Line Counts Output) → Type 0
+IsSerialLineStep line reply old new =
+    (mask : ℕ) (trace : Trace) → IsAfter mask trace old → SerialLineStep mask trace line reply new

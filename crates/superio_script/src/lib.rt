@@ -2,9 +2,6 @@
 //! Scripts that drive the devices of `vm_superio` on a board, one line at a time.
 #![tactic(auto)]
 
-mod clock_lines;
-mod command;
-mod controller_lines;
 mod devices;
 mod driver;
 mod fields;

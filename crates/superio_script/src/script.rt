@@ -3,11 +3,10 @@
 ghost use Rattle.std.specs.Prelude.{◌≡◌, ◌≢◌, ◌⊎◌, ℕ, ◌+◌, ◌^◌, ◌<◌, ◌≤◌, length, IfOk, IfErr, IfSome, OnOk, vec_len, take, Some, None};
 ghost use Rattle.std.specs.Io.KnownBytes.{Consumes, IsAtEnd};
 ghost use Rattle.superio_script.specs.Fields.{lines_of};
-ghost use Rattle.superio_script.specs.Script.{body_of, first_bad_line, script_limit, PrintsLines, StopsWithoutMemory, RunsUpTo, EndsWithoutMemory, ReadsBytes};
+ghost use Rattle.superio_script.specs.Script.{mask_of, body_of, first_bad_line, script_limit, PrintsLines, StopsWithoutMemory, RunsUpTo, EndsWithoutMemory, ReadsBytes};
 
-use crate::command::refused_mask;
 use crate::devices::Board;
-use crate::fields::Lines;
+use crate::fields::{Fields, Lines};
 use crate::replies::{LineFault, ScriptFault};
 use std::alloc::Global;
 use std::io;
@@ -60,6 +59,18 @@ fn read_script<R: Read>(alloc: Global, reader: &mut R) -> Result<Vec<u8>, Script
     }
     script.truncate(filled);
     Ok(script)
+}
+
+/// The mask of a line `refuse MMMMMMMMMMMMMMMM`, given without its LF, or `None` if the line is not of this syntax.
+fn refused_mask(line: &[u8]) -> Option<u64>
+    ensures { result ≡ mask_of line.now }
+{
+    let mut fields = Fields::of(line);
+    if fields.next_field()? != b"refuse".as_slice() {
+        return None;
+    }
+    let mask = fields.u64()?;
+    fields.end(mask)
 }
 
 /// The head of a script: the mask of a first line `refuse`, or 0; the number of such lines, 1 or 0; and the lines after

@@ -3,8 +3,7 @@
 ghost use Rattle.std.specs.Prelude.{◌≡◌, ◌<◌, IfOk, IfErr, OnErr};
 ghost use Rattle.vm_superio.specs.Serial.{write_response, enqueue_response, failure_response};
 ghost use Rattle.superio_script.specs.Fields.{by_syntax, remaining_fields};
-ghost use Rattle.superio_script.specs.SerialScript.{serial_syntaxes, response_reply, counts_reply};
-ghost use Rattle.superio_script.specs.Board.{IsSerialLineStep};
+ghost use Rattle.superio_script.specs.SerialScript.{serial_syntaxes, response_reply, counts_reply, IsSerialLineStep};
 ghost use Rattle.superio_script.specs.declared.serial_lines.SerialCommand.TheVariants.{Restore};
 
 use crate::driver::drain;

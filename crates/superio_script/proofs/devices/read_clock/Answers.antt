@@ -2,10 +2,10 @@
 -- The reply shows what the history says, and the accesses go on with the read.
 use Rattle.std.proofs.Common.{◌∙◌, ap, sym}
 use Rattle.superio_laws.specs.Rtc.{read}
-use Rattle.superio_script.specs.ClockScript.{value_reply}
+use Rattle.superio_script.specs.Devices.{value_reply}
 use Rattle.superio_script.specs.Reply.{digits_reply}
 use Rattle.superio_script.proofs.LineLemmas.{clock_goes_on, clock_responds}
-use Rattle.superio_script.proofs.clock_lines.read.Goals as goal
+use Rattle.superio_script.proofs.devices.read_clock.Goals as goal
 
 pub returns-in-Some : goal.returns-in-Some
 returns-in-Some c =

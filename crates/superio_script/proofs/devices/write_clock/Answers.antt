@@ -4,7 +4,7 @@ use Rattle.std.proofs.Common.{◌∙◌, ap, sym, Bool, List, ℕ, codes, if◌t
 use Rattle.superio_laws.specs.Rtc.{write}
 use Rattle.superio_script.specs.Reply.{with_lf}
 use Rattle.superio_script.proofs.LineLemmas.{clock_goes_on}
-use Rattle.superio_script.proofs.clock_lines.write.Goals as goal
+use Rattle.superio_script.proofs.devices.write_clock.Goals as goal
 
 abbrev reply : Bool → List ℕ
 reply taken = with_lf (if taken then codes "ok" else codes "invalid")
