@@ -3,12 +3,12 @@
 
 The mistakes follow from the declarations, by these rules, so a new function needs no row:
 
-- A lost result is a mistake. It is none if the comments of its fields say that each is what the guest reads or an
-  event: then nothing is left to do. Nor is it for the functions of NEEDLESS.
+- A lost result is a mistake, unless each of its fields is what the guest reads or an event, as their comments say: then
+  nothing is left to do. Nor is it one for the functions of NEEDLESS.
 - NULL is a mistake in place of each pointer, but for bytes whose number is passed, if that number is 0.
 - So are fewer bytes than the declaration or the passed number says. Clang sees the declaration alone.
-- So is memory that is read and not set, which Clang does not see. A function that makes or loads a device sets it, and
-  only writes what is no pointer to const, if that leads to bytes.
+- So is memory that is not set, which Clang does not see, unless the call only writes it. That is so of a device that is
+  made or loaded, and of bytes behind a pointer that is not to const.
 """
 import re
 
@@ -16,7 +16,7 @@ import pytest
 from builds import COMPILERS
 from generators.header import COMMENT, STRUCT, read_header
 from generators.libraries import HEADER
-from harness import ROOT, at_least, check, run
+from harness import ROOT, at_least, run
 
 WARNINGS = ["-O1", "-Wall", "-Wextra", "-pedantic", "-I", ROOT / "bindings" / "c"]
 # Functions whose result a program may lose, though it is no event.
