@@ -68,7 +68,7 @@ class Drawn(random.Random):
         bits = 8 * ctypes.sizeof(field.metadata["kind"])
         if field.metadata["kind"] is ctypes.c_int64:
             return self.choice([self.randrange(-9, 9), self.getrandbits(64) - (1 << 63)])
-        return self.choice([self.number(bits), self.getrandbits(bits), (1 << bits) - 1 - self.randrange(min(bits, 9))])
+        return self.number(bits) if bits == 8 or self.flag() else (1 << bits) - 1 - self.randrange(9)
 
     def device(self, kind):
         """A device of this class in any state that it may be given, or else in one that some calls bring it to."""
