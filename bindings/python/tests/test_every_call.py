@@ -123,6 +123,7 @@ class Watched:
                 if parameter == "uint8_t *":
                     assert isinstance(argument, ctypes.Array) and ctypes.sizeof(argument) == following, name
             return getattr(self._found, name)(*arguments)
+        setattr(self, name, call)   # which is then found at once
         return call
 
 
@@ -183,7 +184,7 @@ class EveryCall(unittest.TestCase):
         """Neither notices the calls of the other. The copy has the same calls first."""
         source = Drawn("copies")
         for kind, way in product(DEVICES, WAYS):
-            for _ in range(ROUNDS // 200):
+            for _ in range(ROUNDS // 500):
                 device = source.device(kind)
                 other, calls = way(device), [drawn_call(source, kind) for _ in range(9)]
                 self.assertEqual((kind, pickle.dumps(device)), (type(other), pickle.dumps(other)))
