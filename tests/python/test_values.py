@@ -7,7 +7,9 @@ import pickle
 from dataclasses import replace
 
 import pytest
+from harness import at_least
 from hypothesis import given, strategies as st
+from support import DEVICES
 from superio import Console, ConsoleState, Rtc, RtcState, SavedStateError, Serial, SerialState
 
 BYTE, WORD = st.integers(0, 255), st.integers(0, 2**32 - 1)
@@ -46,7 +48,7 @@ def test_console_there_and_back(state):
     assert [device.state for device in ways(Console.from_state(state))] == [state] * 5
 
 
-@pytest.mark.parametrize("device", [Console, Serial, Rtc])
+@pytest.mark.parametrize("device", at_least(3, [kind for kind in DEVICES if hasattr(kind, "from_bytes")]))
 @given(data=st.binary(max_size=100))
 def test_any_bytes(device, data):
     """They are a saved state that is saved the same again, or are refused."""

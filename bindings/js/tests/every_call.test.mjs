@@ -34,6 +34,7 @@ const OF_KIND = {
   uint64_t: anyMoment, int64_t: (below) => BigInt.asIntN(64, BigInt(anyMoment(below))),
   size_t: (below) => below(2) ? below(9) : below(2 ** 53), bool: anyFlag, bytes: (below) => anyBytes(below, 70),
 };
+const MOST_OF = { uint64_t: 2n ** 64n - 1n, int64_t: 2n ** 63n - 1n };
 // How many bytes a field of a state has at most.
 const MOST = { inBuffer: 64, output: 4096 };
 
@@ -46,8 +47,9 @@ function anyState(below, kind, sample = new kind().state) {
     }
     if (typeof value === "object") return anyState(below, Serial, value);
     if (typeof value === "boolean") return anyFlag(below);
-    const drawn = OF_KIND[kindOfField(kind, name)](below);
-    return typeof value === "bigint" ? below(4) ? BigInt(drawn) : 2n ** 63n - 1n - BigInt(below(9)) : drawn;
+    const ofField = kindOfField(kind, name);
+    const drawn = OF_KIND[ofField](below);
+    return typeof value === "bigint" ? below(4) ? BigInt(drawn) : MOST_OF[ofField] - BigInt(below(9)) : drawn;
   };
   return Object.fromEntries(Object.entries(sample).map(([name, value]) => [name, anyOf(name, value)]));
 }

@@ -46,6 +46,7 @@ class Parameter(NamedTuple):
     may_be_name: bool  # of a register, in place of its offset
 
 
+@lru_cache(maxsize=None)
 def members(kind):
     """What a device has: calls, and values."""
     names = {name for each in kind.__mro__[:-1] for name in vars(each) if name[0] != "_"}

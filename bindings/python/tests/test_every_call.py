@@ -68,7 +68,7 @@ class Drawn(random.Random):
         bits = 8 * ctypes.sizeof(field.metadata["kind"])
         if field.metadata["kind"] is ctypes.c_int64:
             return self.choice([self.randrange(-9, 9), self.getrandbits(64) - (1 << 63)])
-        return self.choice([self.number(bits), self.getrandbits(bits), (1 << bits) - 1 - self.randrange(min(bits, 9))])
+        return self.number(bits) if bits == 8 or self.flag() else (1 << bits) - 1 - self.randrange(9)
 
     def device(self, kind):
         """A device of this class in any state that it may be given, or else in one that some calls bring it to."""
@@ -123,6 +123,7 @@ class Watched:
                 if parameter == "uint8_t *":
                     assert isinstance(argument, ctypes.Array) and ctypes.sizeof(argument) == following, name
             return getattr(self._found, name)(*arguments)
+        setattr(self, name, call)   # which is then found at once
         return call
 
 
@@ -183,7 +184,7 @@ class EveryCall(unittest.TestCase):
         """Neither notices the calls of the other. The copy has the same calls first."""
         source = Drawn("copies")
         for kind, way in product(DEVICES, WAYS):
-            for _ in range(ROUNDS // 200):
+            for _ in range(ROUNDS // 500):
                 device = source.device(kind)
                 other, calls = way(device), [drawn_call(source, kind) for _ in range(9)]
                 self.assertEqual((kind, pickle.dumps(device)), (type(other), pickle.dumps(other)))
