@@ -95,6 +95,13 @@ def test_no_state(made):
     assert not failures(made, lambda *row: row[-1])
 
 
+def fields_left(function, left):
+    """What a call left behind each pointer, as values. The bytes between the fields of a struct are nobody's."""
+    kinds = [parameter.kind for parameter in function.parameters if parameter.is_pointer]
+    return [value_of(kind.from_buffer_copy(content)) if issubclass(kind, ctypes.Structure) else content
+            for kind, content in zip(kinds, left)]
+
+
 def test_same_again(library, made):
     """A call that is made again, between other guards and in the other order, does the same: it reads nothing but what
     it is passed, and devices that take turns do what each does alone."""
@@ -102,7 +109,8 @@ def test_same_again(library, made):
     for function, arguments, result, left, _ in reversed(made):
         again = [Place(source, argument.content_before()) if isinstance(argument, Place) else argument
                  for argument in arguments]
-        if call(library, function, again) != (result, left):
+        result_again, left_again = call(library, function, again)
+        if (result_again, fields_left(function, left_again)) != (result, fields_left(function, left)):
             different.add(function.name)
     assert not different
 
