@@ -3,14 +3,14 @@
 // them for the program in C. LEVELS or STOPS_POLLING is true if the lines for this are there. Beside each access, the
 // calls that docs/USING.md tells of are made on a copy of the console, and the line and the event loop get the same.
 
-/// What the line holds. A line of levels gets one thing if it goes down, and two if it goes up.
-const ROOM: usize = 2;
+/// With this counter, an eventfd refuses to add 1. A line of levels gets one thing if it goes down, and two if it goes up.
+const FULL: u64 = u64::MAX - 1;
 
 struct Copied {
     console: Console,
     /// How many edges the line takes. It refuses the next one.
-    room: usize,
-    raised: usize,
+    room: u64,
+    raised: u64,
     is_up: bool,
     wakes: bool,
 }
@@ -19,10 +19,10 @@ impl Copied {
     fn carry_out(&mut self, work: Work) {
         self.wakes |= work.wakes;
         if LEVELS {
-            self.raised += if work.is_up == self.is_up { 0 } else { 1 + usize::from(work.is_up) };
+            self.raised += if work.is_up == self.is_up { 0 } else { 1 + u64::from(work.is_up) };
             self.is_up = work.is_up;
-        } else if usize::from(work.interrupts) <= self.room {
-            self.raised += usize::from(work.interrupts);
+        } else if u64::from(work.interrupts) <= self.room {
+            self.raised += u64::from(work.interrupts);
         } else {
             self.raised = self.room;
             self.wakes |= self.console.refuse().wakes;
@@ -65,18 +65,22 @@ fn prepare(monitor: &Monitor, state: &mut u32) {
     }
 }
 
+/// The counter of an eventfd, which is 0 then.
+fn taken(mut eventfd: &File) -> u64 {
+    let mut bytes = [0; 8];
+    eventfd.read(&mut bytes).map_or(0, |_| u64::from_ne_bytes(bytes))
+}
+
 fn accesses(is_polled: bool, state: &mut u32) {
-    let (irq, line) = sync_channel(ROOM);
-    let (events, woken) = sync_channel(16);
-    let monitor = made(Console::new(is_polled), irq, events);
+    let monitor = made(Console::new(is_polled));
     for _ in 0..200 {
         prepare(&monitor, state);
-        line.try_iter().count();
+        taken(&monitor.irq);
         let console = monitor.console.lock().unwrap().clone();
         let (is_up, room) = (console.port.interrupt_line(), drawn(state, 3).into());
         let mut copy = Copied { console, room, raised: 0, is_up, wakes: false };
-        let before = if LEVELS { 0 } else { ROOM - room };
-        (0..before).for_each(|_| monitor.irq.send(()).unwrap());
+        let before = if LEVELS { 0 } else { FULL - room };
+        (&monitor.irq).write(&before.to_ne_bytes()).unwrap();
         let offset = drawn(state, 8);
         let value = if drawn(state, 4) > 0 { drawn(state, 4) } else { drawn(state, 256) };
         if drawn(state, 2) > 0 {
@@ -85,8 +89,8 @@ fn accesses(is_polled: bool, state: &mut u32) {
         } else {
             assert_eq!(copy.read(offset), monitor.read_access(offset), "another byte is read");
         }
-        assert_eq!(line.try_iter().count() - before, copy.raised, "the line gets something else");
-        assert_eq!(woken.try_iter().count() > 0, copy.wakes, "the event loop is woken for nothing, or is not woken");
+        assert_eq!(taken(&monitor.irq) - before, copy.raised, "the line gets something else");
+        assert_eq!(taken(&monitor.wake_up) > 0, copy.wakes, "the event loop is woken for nothing, or is not woken");
         assert!(*monitor.console.lock().unwrap() == copy.console, "the console is another");
     }
 }

@@ -34,7 +34,8 @@ UNREAD = re.compile(r"^rt |^rattle-kit-|^-|\w=\w|\bout/")
 # What the documents name besides, and no source has: names of other programs and of device trees, and digits to fill in.
 ELSEWHERE = set("""
     --add-architecture apb_pclk armhf bazel compatible CONFIG_SERIAL_8250_16550A_VARIANTS devscripts eh_frame frequency
-    IAPC_BOOT_ARCH libsuperioN linear NNNNNNNNNNNNNNNN --no-isolation nodejs ns16550a primecell typescript xzcat""".split())
+    IAPC_BOOT_ARCH KVM_IRQFD_FLAG_RESAMPLE libsuperioN linear NNNNNNNNNNNNNNNN --no-isolation nodejs ns16550a primecell
+    typescript xzcat""".split())
 
 
 class Sources:

@@ -17,6 +17,10 @@ LIBRARY = ROOT / "prebuilt" / f"{platform.machine()}-linux" / "libsuperio_c.a"
 HI = ("the event loop wakes, and reads input\n2 bytes accepted, 1 interrupt to raise\nthe guest reads h\n"
       "for what is left, turn asks for 1 interrupt\n")
 MONITOR = "fn event_loop"   # which the whole monitor of docs/RUST.md has
+LIBC = 'libc = "0.2"\n'   # which docs/RUST.md adds for it below the crate of ours
+# Words for Cargo, which then takes crates of others from Debian's folder.
+FROM_DEBIAN = ["--config", 'source.crates-io.replace-with="debian"', "--config",
+               'source.debian.directory="/usr/share/cargo/registry"']
 # What the program of docs/RUST.md with a bus prints: the clock twice, a read of the port, and the reset.
 BUS = "".join(f"{line}\n" for line in [*["the timer goes off at 1700000060"] * 2, *[
     "Work { interrupts: 0, is_up: false, wakes: false }"] * 2])
@@ -39,28 +43,28 @@ PROBE = """    write_access(1, 0x0F);
 SET_PIPE_SIZE = 1031   # of Linux, which Python 3.9 does not name
 # The function of the program in Rust for a line that takes edges; and what a monitor has for one that takes levels.
 CARRY_OUT = re.compile(r"(?:^    ///[^\n]*\n)+    fn carry_out\(.*?^    \}\n", re.M | re.S)
-LEVEL_FIELD = [("    is_stuck: AtomicBool,\n", "    is_stuck: AtomicBool,\n    was_up: AtomicBool,\n"),
-               ("is_stuck, irq", "is_stuck, was_up: AtomicBool::new(false), irq")]
+LEVEL_FIELD = [("    is_off: AtomicBool,\n", "    is_off: AtomicBool,\n    was_up: AtomicBool,\n"),
+               ("is_off: AtomicBool::new(false),", "is_off: AtomicBool::new(false), was_up: AtomicBool::new(false),")]
 SET_LINE_IN_RUST = """
     fn set_line(&self, is_up: bool) {
         if is_up {
-            let _ = self.irq.try_send(());
+            let _ = signal(&self.irq);
         }
     }
 """
 # One that tells what the line got, as accesses.rs counts it. And how accesses.rs makes a monitor, and knows its lines.
 SET_BOTH_IN_RUST = """
     fn set_line(&self, is_up: bool) {
-        (0..1 + u8::from(is_up)).for_each(|_| self.irq.try_send(()).unwrap());
+        (0..1 + u8::from(is_up)).for_each(|_| assert!(signal(&self.irq).is_ok()));
     }
 """
 MADE_IN_RUST = """
 const LEVELS: bool = {};
 const STOPS_POLLING: bool = {};
 
-fn made(console: Console, irq: SyncSender<()>, events: SyncSender<Event>) -> Monitor {{
+fn made(console: Console) -> Monitor {{
     let (console, has_room, is_stuck) = (Mutex::new(console), Condvar::new(), AtomicBool::new(true));
-    Monitor {{ console, has_room, is_stuck, irq, events }}
+    Monitor {{ console, has_room, is_stuck, is_off: AtomicBool::new(false), irq: eventfd(), wake_up: eventfd() }}
 }}
 """
 # As PROBE and READY, in Rust. Before them, the end of a write there.
@@ -129,11 +133,15 @@ def test_loader_that_polls(tmp_path):
 
 @pytest.mark.needs("cc")
 def test_files_are_left_as_they_were(tmp_path):
-    """The shell uses them, too: at the end each blocks again."""
     compile_c(tmp_path, "console", code("docs/C.md", "c", "int main"), LIBRARY, "-pthread", "-o", "console")
+    check_files_stay(tmp_path / "console")
+
+
+def check_files_stay(program):
+    """The shell uses them, too: at the end each blocks again."""
     (to_program, typed), (printed, from_program) = os.pipe(), os.pipe()
     os.write(typed, b"hello\n")
-    done = subprocess.run([tmp_path / "console"], stdin=to_program, stdout=from_program, timeout=LIMIT)
+    done = subprocess.run([program], stdin=to_program, stdout=from_program, timeout=LIMIT)
     assert done.returncode == 0 and os.read(printed, 100) == b"HELLO\n"
     assert [fcntl.fcntl(file, fcntl.F_GETFL) & os.O_NONBLOCK for file in (to_program, from_program)] == [0, 0]
     for file in (to_program, typed, printed, from_program):
@@ -365,22 +373,23 @@ def run_rust(program, printed, typed, built, folder):
     """Runs a program by the lines for Cargo.toml in README.md. The `Machine` of docs/PORT.md is around a guest."""
     (folder / "src").mkdir()
     manifest = code("README.md", "toml", "rust/superio" if "use superio::" in program else "patch")
+    words = FROM_DEBIAN if "libc::" in program else []
+    manifest += LIBC if words else ""
     (folder / "Cargo.toml").write_text(PACKAGE + manifest.replace("CLONE", str(ROOT)), encoding="utf-8")
     if "fn main" not in program:
         (folder / "src" / "lib.rs").write_text(program, encoding="utf-8")
         program = (ROOT / "tests/documents/bare_serial.rs").read_text(encoding="utf-8")
     (folder / "src" / "main.rs").write_text(program, encoding="utf-8")
-    check(["cargo", "run", "--quiet", "--offline"], printed, cwd=folder, env=built, input=typed)
+    check(["cargo", "run", "--quiet", "--offline", *words], printed, cwd=folder, env=built, input=typed)
 
 
 @pytest.mark.needs("cargo")
-@pytest.mark.parametrize("document, of, typed, printed", [
-    ("README.md", "Console", "", HI), ("docs/PORT.md", "Cell", "", "h"), ("docs/PORT.md", "from_snapshot", "", "h"),
-    ("docs/RUST.md", "CONSOLE_SAVED_MAX", "", "h"), ("docs/RUST.md", "is_reset_command", "", BUS),
-    ("docs/RUST.md", "RtcState", "", "the line is up: true\n"),
-    ("docs/RUST.md", MONITOR, "hello\n", "HELLO\n"), ("docs/PORT.md", "L: Trigger", "", "all came back\n")])
-def test_rust(document, of, typed, printed, built, tmp_path):
-    run_rust(code(document, "rust", of), printed, typed, built, tmp_path)
+@pytest.mark.parametrize("document, of, printed", [
+    ("README.md", "Console", HI), ("docs/PORT.md", "Cell", "h"), ("docs/PORT.md", "from_snapshot", "h"),
+    ("docs/RUST.md", "CONSOLE_SAVED_MAX", "h"), ("docs/RUST.md", "is_reset_command", BUS),
+    ("docs/RUST.md", "RtcState", "the line is up: true\n"), ("docs/PORT.md", "L: Trigger", "all came back\n")])
+def test_rust(document, of, printed, built, tmp_path):
+    run_rust(code(document, "rust", of), printed, "", built, tmp_path)
 
 
 def rust_program_for(line):
@@ -401,36 +410,19 @@ def edited(program, edits):
     return program
 
 
-# How the program of docs/RUST.md polls its standard input and output, which do not block. That they may be ready is enough.
-FILES_IN_RUST = """
-    const O_NONBLOCK: i32 = 0o4000;
-    let input = OpenOptions::new().read(true).custom_flags(O_NONBLOCK).open("/dev/stdin").unwrap();
-    let output = OpenOptions::new().write(true).custom_flags(O_NONBLOCK).open("/dev/stdout").unwrap();
-    spawn(move || looping.poll_loop(input, output, |wants| {
-        std::thread::sleep(Duration::from_micros(if wants.turn { 50 } else { 100 }));
-        (wants.input > 0, wants.output)
-    }));
-"""
+@pytest.mark.needs("cargo", "libc")
+def test_event_loop_in_rust(built, tmp_path):
+    """The page names what its monitor takes from others. More input comes back than all queues hold, through pipes that
+    are often full, and the files are left as they were."""
+    assert f"`{LIBC.strip()}`" in Document("docs/RUST.md").text
+    run_rust(code("docs/RUST.md", "rust", MONITOR), "HELLO\n", "hello\n", built, tmp_path)
+    program = f"{built['CARGO_TARGET_DIR']}/debug/hi"
+    text = "the quick brown fox " * 10_000 + "\n"
+    check(["sh", "-c", f"{program} | (sleep 0.2; cat)"], text.upper(), input=text)
+    check_files_stay(program)
 
 
-@pytest.mark.needs("cargo")
-def test_event_loop_over_files_in_rust(built, tmp_path):
-    """More input comes back than all queues hold, through pipes that are often full."""
-    program, loop = code("docs/RUST.md", "rust", MONITOR), code("docs/RUST.md", "rust", "fn poll_loop")
-    start, end = program.index("    /// The event loop. It sends"), program.index("/// Reads input when")
-    serving = program.index("fn main()")
-    program = program[:start] + loop + program[serving:]
-    program, count = re.subn(r"    (?:let \(reads|let \(writes|let \[for_input|spawn\(move \|\| serve).*\n", "", program)
-    assert end < serving and count == 5
-    program = edited(program, [
-        ("use superio::console::{Console, Work};", "use std::fs::OpenOptions;\nuse std::os::unix::fs::OpenOptionsExt;\n"
-         "use superio::console::{Console, Wants, Work};"),
-        ("    spawn(move || looping.event_loop(woken, reads, writes));\n", FILES_IN_RUST)])
-    text = "the quick brown fox " * 5_000 + "\n"
-    run_rust(f"#![allow(unused)]\n{program}", text.upper(), text, built, tmp_path)
-
-
-@pytest.mark.needs("cargo")
+@pytest.mark.needs("cargo", "libc")
 def test_levels_in_rust(built, tmp_path):
     """A text of several refills of the FIFO comes back."""
     text = "the quick brown fox " * 100 + "\n"
@@ -441,7 +433,7 @@ def without_main(program):
     return edited(program, [("\nfn main", "\n#[allow(dead_code)]\nfn main_of_the_page")])
 
 
-@pytest.mark.needs("cargo")
+@pytest.mark.needs("cargo", "libc")
 def test_rules_of_the_whole_monitor(built, tmp_path):
     """The monitor of docs/RUST.md, with a guest and files at the worst moments in place of its `main`."""
     rules = (ROOT / "tests/documents/monitor_rules.rs").read_text("utf-8")
@@ -470,7 +462,7 @@ def test_rules_of_a_bus(built, tmp_path):
     run_rust(program + rules, "each rule is kept\n", "", built, tmp_path)
 
 
-@pytest.mark.needs("cargo")
+@pytest.mark.needs("cargo", "libc")
 @pytest.mark.parametrize("line", ["edges", "levels", "a loader that polls"])
 def test_accesses_in_rust(line, built, tmp_path):
     """As in C: each reaches the console once, and its work is carried out, whatever the line refuses."""
@@ -483,7 +475,7 @@ def test_accesses_in_rust(line, built, tmp_path):
     run_rust(program, "each access is right\n", "", built, tmp_path)
 
 
-@pytest.mark.needs("cargo")
+@pytest.mark.needs("cargo", "libc")
 def test_loader_that_polls_in_rust(built, tmp_path):
     """As in C: with the lines for a kernel that does not poll, no input goes in between its driver's probe and its being
     ready."""

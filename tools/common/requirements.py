@@ -23,6 +23,7 @@ TOOLS = {
     "cargo": {"cargo": "cargo", "rustc": "rustc", "cc": "gcc"},
     "clippy": {"cargo-clippy": "rust-clippy"},
     "rustfmt": {"cargo-fmt": "rustfmt"},
+    "libc": {"/usr/share/cargo/registry/libc-0.2.*": "librust-libc-dev"},
     "serde": {"/usr/share/cargo/registry/bincode-1.*": "librust-bincode-dev",
               "/usr/share/cargo/registry/serde_derive-1.*": "librust-serde-derive-dev",
               "/usr/share/cargo/registry/serde_json-1.*": "librust-serde-json-dev"},
