@@ -122,14 +122,16 @@ class ShellCrate(Crate):
         return super().known(type_, owner, bounds)
 
     def methods(self, trait: str) -> dict[str, tuple[list[Type], Type]]:
-        """The methods of objects: their parameters and results. All that the shell has take only `&self`."""
+        """The methods of objects: their parameters and results. All that the shell has take `&self`, and change no
+        argument."""
         if trait == "Write":
             return WRITE
         found: dict[str, tuple[list[Type], Type]] = {}
         for method in self.traits[trait].methods if trait in self.traits else ():
-            if [(name, mode) for name, _, mode in method.parameters] != [("self", None)]:
+            (name, _, mode), *others = method.parameters
+            if (name, mode) != ("self", None) or any(mode for _, _, mode in others):
                 raise Refused(f"the method {method.name} of a trait")
-            found[method.name] = [], self.known(method.result)
+            found[method.name] = [self.known(type_) for _, type_, _ in others], self.known(method.result)
         return found
 
     def instance_of(self, function: Function) -> dict[str, str]:

@@ -8,7 +8,7 @@ answers of the objects, what Coq computes has to have the calls and the result o
 HEAD = """
 use std::io::{self, Write};
 pub trait Trigger { type E: core::fmt::Debug; fn trigger(&self) -> Result<(), Self::E>; }
-pub trait SerialEvents { fn out_byte(&self); fn tx_lost_byte(&self); }
+pub trait SerialEvents { fn out_byte(&self); fn tx_lost_byte(&self); fn received(&self, first: u8, others: u32); }
 pub enum Error<E> { Trigger(E), IOError(io::Error), FullFifo }
 pub struct Pair { pub a: u32, pub b: u32 }
 pub struct Nothing;
@@ -35,6 +35,7 @@ fn moment() -> u64 { moment_of(SystemTime::now()) }"""
 RIGHT = {
     "an answer": device("match self.trigger.trigger() { Ok(()) => 1, Err(_) => 2 }"),
     "calls in order": device("self.events.out_byte(); let _sent = self.out.write_all(&[7, 8]); self.events.tx_lost_byte(); self.n"),
+    "an event with numbers": device("self.events.received(7, self.n * 2); self.n"),
     "and_then": device("match self.out.write_all(&[1]).and_then(|()| self.out.flush()) { Ok(()) => 1, Err(_) => 2 }"),
     "map_err and ?": device("match self.both() { Ok(n) => n, Err(_) => 3 }", BOTH),
     "which error": device("match self.both() { Ok(n) => n, Err(e) => self.which(e) }",
@@ -100,6 +101,8 @@ REFUSED = {
     "what is done at the end": ("the implementations of Drop", device(
         "1", items="impl<T: Trigger, EV: SerialEvents, W: Write> Drop for Device<T, EV, W> { fn drop(&mut self) { self.events.out_byte(); } }")),
     "a trait with a body": ("the trait More has a body", device("1", items="pub trait More { fn more(&self) -> u32 { 1 } }")),
+    "an event that changes its argument": ("the method lost of a trait", device("1", items="pub trait RtcEvents { fn lost(&self, n: &mut u32); }")),
+    "an event that changes its object": ("the method lost of a trait", device("1", items="pub trait RtcEvents { fn lost(&mut self); }")),
     "a trait for two": ("the implementations of More", device("1", items="""pub trait More { fn more(&self) -> u32; }
         impl More for Pair { fn more(&self) -> u32 { 1 } } impl More for Nothing { fn more(&self) -> u32 { 2 } }""")),
     "another time": ("vm_moment is another function", device("1", items="fn moment() -> u64 { 5 }")),

@@ -33,6 +33,7 @@ impl Trigger for Script {
 impl SerialEvents for Script {
     fn out_byte(&self) { self.record(2); }
     fn tx_lost_byte(&self) { self.record(3); }
+    fn received(&self, first: u8, others: u32) { self.record(u32::from(first) * 1000 + others); }
 }
 impl Write for Script {
     fn write(&mut self, _: &[u8]) -> io::Result<usize> { unreachable!() }
@@ -54,6 +55,7 @@ COQ = """
 Definition number (call : Call unit unit unit) : N :=
   match call with
   | Trigger_trigger _ => 1 | SerialEvents_out_byte _ => 2 | SerialEvents_tx_lost_byte _ => 3 | Write_flush _ => 9
+  | SerialEvents_received _ first others => first * 1000 + others
   | Write_write_all _ bytes => fold_left (fun number byte => number * 256 + byte) bytes 4 | SystemTime_now => 0
   end.
 Definition objects (script : N) (past : list (Happened (Answer := @Answer unit unit unit N N))) (call : Call unit unit unit) : Answer N N call :=
