@@ -119,9 +119,9 @@ def test_devices(monkeypatch):
     parts = facts_of_pages.devices, facts_of_pages.names_of_devices
     before = [part() for part in parts]
     monkeypatch.setattr(facts_of_pages, "DEVICES", [*facts_of_pages.DEVICES, {
-        "name": "the code port", "about": "a code port", "c": "superio_code", "rust": "Code", "python": "Codes"}])
+        "name": "the POST code port", "about": "a code port", "c": "superio_code", "rust": "Code", "python": "Codes"}])
     assert [part() for part in parts] == [[*before[0], "- a code port"], [
-        *before[1], "| [The code port](#the-code-port) | `superio_code` | `Code` | `Codes` |"]]
+        *before[1], "| [The POST code port](#the-post-code-port) | `superio_code` | `Code` | `Codes` |"]]
 
 
 def test_comments():

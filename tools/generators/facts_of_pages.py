@@ -24,7 +24,7 @@ def devices():
 
 def names_of_devices():
     """The names of each device, beside a link to its section."""
-    rows = [[f"[{title_of(device)}](#{device['name'].replace(' ', '-')})",
+    rows = [[f"[{title_of(device)}](#{device['name'].lower().replace(' ', '-')})",
              *(f"`{device[language]}`" for language in ("c", "rust", "python"))] for device in DEVICES]
     return table(["Device", "C", "Rust, Rattle", "Python, JavaScript"], rows)
 
