@@ -1,7 +1,7 @@
 # SPDX-License-Identifier: Apache-2.0 OR BSD-3-Clause
 """Each public function of the proved crates has a must-fail edit in its body, or docs/WRONG-BODIES.md lists it as one
 without. Each likely bug that the page lists has an edit of its own, which changes one function, or a test. An edit that
-changes several functions names them.
+changes several functions names them. Each text that an edit replaces stands in its file once.
 
 Laws, functions of `NoEvents`, and functions that lend an object to read have no edit either.
 """
@@ -28,6 +28,20 @@ def places(edit):
             path = edit.parents[1] / line.removeprefix("file: ")
         elif line.startswith("old: "):
             yield comment, path, path.read_text(encoding="utf-8").find(line.removeprefix("old: "))
+
+
+def counts(edit):
+    """Each text that an edit replaces, and how often it stands in its file, after the replacements above it."""
+    path, old, made = None, "", {}
+    for line in edit.read_text(encoding="utf-8").splitlines():
+        if line.startswith("file: "):
+            path = edit.parents[1] / line.removeprefix("file: ")
+        elif line.startswith("old: "):
+            old = line.removeprefix("old: ")
+        elif line.startswith("new: "):
+            text = made.get(path) or path.read_text(encoding="utf-8")
+            yield old, text.count(old)
+            made[path] = text.replace(old, line.removeprefix("new: "))
 
 
 def edited(crate):
@@ -107,6 +121,13 @@ def test_lends(old, new, is_lent):
     """Only where a body has no other object to return."""
     text = DEVICE.replace(old, new) if old else DEVICE
     assert lends(functions_of(text)[0], text) == is_lent
+
+
+@pytest.mark.parametrize("edit", at_least(40, sorted((ROOT / "crates").glob("*/must-fail/*.edit"))),
+                         ids=lambda edit: f"{edit.parts[-3]} {edit.stem}")
+def test_places(edit):
+    """Each text that an edit replaces stands there once."""
+    assert [old for old, count in counts(edit) if count != 1] == []
 
 
 @pytest.mark.parametrize("function, is_edited", FUNCTIONS)
