@@ -1,8 +1,9 @@
 # SPDX-License-Identifier: Apache-2.0 OR BSD-3-Clause
 """Whoever follows a list of CONTRIBUTING.md edits no file by hand that the list does not name. Each file of the folder
 `changes` has the edits of one change. They are made in a copy of the repository, where `tools/generate` runs.
-Then tests that such a change can break pass there, over the C library as Cargo compiles it of the edited code. The
-prover is not asked here, so nothing tells whether the edited definitions and code fit each other."""
+Then tests that such a change can break pass there, which are TESTS or those that the file names. They use the C library
+as Cargo compiles it of the edited code. The prover is not asked here, so nothing tells whether the edited definitions
+and code fit each other."""
 import os
 import re
 import sys
@@ -14,7 +15,8 @@ from common.cargo import Cargo
 from documents import CODE, Document, copy_repository
 from harness import ROOT, at_least, check
 
-CHANGES = at_least(5, sorted((ROOT / "tests/tools/changes").glob("*.toml")))
+CHANGES = {path.stem: tomllib.loads(path.read_text("utf-8"))
+           for path in at_least(6, sorted((ROOT / "tests/tools/changes").glob("*.toml")))}
 GUIDE = Document("CONTRIBUTING.md").text
 CRATES = re.findall(r"(\w+) is `(crates/\w+)`", GUIDE)
 STEPS = "facts", "rust", "lines", "interface"
@@ -32,21 +34,33 @@ SCRIPTS = ("import json; from script_tests import kept_scripts, made_scripts; "
            "print(json.dumps([*kept_scripts(), *made_scripts('changes', 200)]))")
 
 
-def is_named(file, text):
-    """Whether a step of a list has all parts of a path: in code, as a crate's short name, or as a page."""
+def is_new(edit):
+    return not {"old", "after", "raised"} & edit.keys()
+
+
+def is_named(edit, text):
+    """Whether a step of a list has all parts of a path: in code, as a crate's short name, or as a page. Of a new file
+    it has those of the folder, and says that a file there is new."""
+    path = PurePath(edit["file"])
+    said = rf"\b(?:a new file|one) of `(?:\S+/)?{path.parent.name}`" if is_new(edit) else ""
+    path = path.parent if is_new(edit) else path
     for step in re.split(r"^\d+\. ", text, flags=re.M)[1:]:
         parts = {*CODE.findall(step), *re.findall(r"[A-Z-]+\.md", step),
                  *(crate for word, crate in CRATES if re.search(rf"\b{word}\b", step))}
         part = f"(?:{'|'.join(map(re.escape, parts))})"
-        if re.fullmatch(rf"(?:docs/)?(?:{part}/)*{part}(?:{re.escape(PurePath(file).suffix)})?", file):
+        form = rf"(?:docs/)?(?:{part}/)*{part}(?:{re.escape(path.suffix)})?"
+        if re.search(said, step) and re.fullmatch(form, str(path)):
             return True
     return False
 
 
 def changed(text, edit):
-    """A text with a number that is raised by one, or with the new text in place of the old one. There is one place."""
+    """A text with a number that is raised by one, with the new text in place of the old one, or with new lines after a
+    line. There is one place."""
     if "raised" in edit:
         form, new = rf"(?<=^{edit['raised']} = )\d+$", lambda number: f"{int(number[0]) + 1}"
+    elif "after" in edit:
+        form, new = rf"(?<=^{re.escape(edit['after'])}\n)", lambda _: edit["new"].removesuffix("\n") + "\n"
     else:
         form, new = re.escape(edit["old"]), lambda _: edit["new"]
     made, count = re.subn(form, new, text, flags=re.M)
@@ -57,25 +71,28 @@ def changed(text, edit):
 def make(edits, top):
     for edit in edits:
         path = top / edit["file"]
-        path.write_text(changed(path.read_text("utf-8"), edit), "utf-8")
+        assert path.exists() != is_new(edit), edit
+        path.write_text(edit["new"] if is_new(edit) else changed(path.read_text("utf-8"), edit), "utf-8")
 
 
 @pytest.mark.needs("cargo", "cc", "node")
-@pytest.mark.parametrize("path", CHANGES, ids=lambda path: path.stem)
-def test_change(path, tmp_path):
-    change = tomllib.loads(path.read_text("utf-8"))
+@pytest.mark.parametrize("change", [
+    pytest.param(change, id=name, marks=pytest.mark.needs(*["wasm"] * ("module" in change.get("steps", []))))
+    for name, change in CHANGES.items()])
+def test_change(change, tmp_path):
     text = re.search(rf"^{re.escape(change['list'])}.*?(?=^#|^\*\*|\Z)", GUIDE, re.M | re.S)[0]
     files = {edit["file"] for edit in change["edits"]}
-    assert [file for file in files if not is_named(file, text)] == []
+    assert [edit["file"] for edit in change["edits"] if not is_named(edit, text)] == []
     assert int(re.search(r"change (?:these )?(\d+) files", text)[1]) == len(files)
     copy_repository(tmp_path)
     make(change["edits"], tmp_path)
-    check([tmp_path / "tools/generate", *STEPS], cwd=tmp_path)
+    check([tmp_path / "tools/generate", *STEPS, *change.get("steps", [])], cwd=tmp_path)
     check(BUILD, cwd=tmp_path)
-    if "rust/vm-superio/src/rtc_pl031.rs" in files:
+    if any(file.startswith("rust/vm-superio/src/") for file in files):
         Cargo(tmp_path / "rust/vm-superio").check("check")
     library = {**os.environ, "SUPERIO_LIBRARY": str(tmp_path / "out/release/libsuperio_c.so")}
-    check([sys.executable, "-m", "pytest", "-q", "--without", "kit", *TESTS], cwd=tmp_path, env=library)
-    if any("superio_script" in file for file in files):   # the page's board has the devices as they were
+    tests = change.get("tests", TESTS)
+    check([sys.executable, "-m", "pytest", "-q", "--without", "kit", *tests], cwd=tmp_path, env=library)
+    if any("superio_script" in file for file in files):   # the page's devices are as they were, but after `module`
         scripts = check([sys.executable, "-c", SCRIPTS], cwd=tmp_path, env={**os.environ, "PYTHONPATH": PATHS})
         check(["node", "bindings/js/tests/run_scripts.mjs"], cwd=tmp_path, input=scripts)
