@@ -17,6 +17,8 @@ from harness import ROOT, at_least, check
 
 CHANGES = {path.stem: tomllib.loads(path.read_text("utf-8"))
            for path in at_least(6, sorted((ROOT / "tests/tools/changes").glob("*.toml")))}
+# Those in a row are made in one copy, because what follows takes half a minute: none of them edits what another does.
+TOGETHER = "bit clock error", "line", "number", "device"
 GUIDE = Document("CONTRIBUTING.md").text
 CRATES = re.findall(r"(\w+) is `(crates/\w+)`", GUIDE)
 STEPS = "facts", "rust", "lines", "interface"
@@ -75,23 +77,42 @@ def make(edits, top):
         path.write_text(edit["new"] if is_new(edit) else changed(path.read_text("utf-8"), edit), "utf-8")
 
 
-@pytest.mark.needs("cargo", "cc", "node")
-@pytest.mark.parametrize("change", [
-    pytest.param(change, id=name, marks=pytest.mark.needs(*["wasm"] * ("module" in change.get("steps", []))))
-    for name, change in CHANGES.items()])
-def test_change(change, tmp_path):
-    text = re.search(rf"^{re.escape(change['list'])}.*?(?=^#|^\*\*|\Z)", GUIDE, re.M | re.S)[0]
-    files = {edit["file"] for edit in change["edits"]}
+def list_of(change):
+    """The list of CONTRIBUTING.md that a change follows."""
+    return re.search(rf"^{re.escape(change['list'])}.*?(?=^#|^\*\*|\Z)", GUIDE, re.M | re.S)[0]
+
+
+def files_of(change):
+    return {edit["file"] for edit in change["edits"]}
+
+
+@pytest.mark.parametrize("change", CHANGES.values(), ids=CHANGES)
+def test_list(change):
+    """A list names each file that is edited, and says how many there are."""
+    text = list_of(change)
     assert [edit["file"] for edit in change["edits"] if not is_named(edit, text)] == []
-    assert int(re.search(r"change (?:these )?(\d+) files", text)[1]) == len(files)
+    assert int(re.search(r"change (?:these )?(\d+) files", text)[1]) == len(files_of(change))
+
+
+def test_each_is_made():
+    assert sorted(CHANGES) == sorted(name for names in TOGETHER for name in names.split())
+
+
+@pytest.mark.needs("cargo", "cc", "node")
+@pytest.mark.parametrize("names", [
+    pytest.param(names, marks=pytest.mark.needs(*["wasm"] * (names == "device"))) for names in TOGETHER])
+def test_changes(names, tmp_path):
+    changes = [CHANGES[name] for name in names.split()]
+    files = {file for change in changes for file in files_of(change)}
     copy_repository(tmp_path)
-    make(change["edits"], tmp_path)
-    check([tmp_path / "tools/generate", *STEPS, *change.get("steps", [])], cwd=tmp_path)
+    for change in changes:
+        make(change["edits"], tmp_path)
+    check([tmp_path / "tools/generate", *STEPS, *changes[0].get("steps", [])], cwd=tmp_path)
     check(BUILD, cwd=tmp_path)
     if any(file.startswith("rust/vm-superio/src/") for file in files):
         Cargo(tmp_path / "rust/vm-superio").check("check")
     library = {**os.environ, "SUPERIO_LIBRARY": str(tmp_path / "out/release/libsuperio_c.so")}
-    tests = change.get("tests", TESTS)
+    tests = changes[0].get("tests", TESTS)
     check([sys.executable, "-m", "pytest", "-q", "--without", "kit", *tests], cwd=tmp_path, env=library)
     if any("superio_script" in file for file in files):   # the page's devices are as they were, but after `module`
         scripts = check([sys.executable, "-c", SCRIPTS], cwd=tmp_path, env={**os.environ, "PYTHONPATH": PATHS})
