@@ -306,36 +306,47 @@ static bool restore(struct machine *machine, const struct snapshot *saved) {
     return is_good;
 }
 
-/* In place of a virtual machine. The guest's accesses go to the machine that it is in, and whoever holds `processor`
- * keeps it from making any. A monitor for KVM gets its threads out of KVM_RUN instead. */
-static pthread_mutex_t processor = PTHREAD_MUTEX_INITIALIZER;
+/* In place of a virtual machine. The guest's accesses go to the machine that it is in. Whoever holds `door` and
+ * `processor` keeps it from making any: a monitor for KVM gets its threads out of KVM_RUN instead. (With `processor`
+ * alone, the guest's thread might always be the first to take it again.) */
+static pthread_mutex_t door = PTHREAD_MUTEX_INITIALIZER, processor = PTHREAD_MUTEX_INITIALIZER;
 static struct machine *here;
 
-static void out(uint16_t port, uint8_t value) {
+static void begin(void) {
+    pthread_mutex_lock(&door);
     pthread_mutex_lock(&processor);
-    port_write(here, port, value);
+    pthread_mutex_unlock(&door);
+}
+
+static void end(void) {
     end_access(here);
     pthread_mutex_unlock(&processor);
 }
 
+static void out(uint16_t port, uint8_t value) {
+    begin();
+    port_write(here, port, value);
+    end();
+}
+
 static uint8_t in(uint16_t port) {
-    pthread_mutex_lock(&processor);
+    begin();
     uint8_t value = port_read(here, port);
-    pthread_mutex_unlock(&processor);
+    end();
     return value;
 }
 
 static void store(uint16_t offset, uint8_t value) {
-    pthread_mutex_lock(&processor);
+    begin();
     memory_write(here, CLOCK + offset, (uint8_t[4]){value}, 4);
-    pthread_mutex_unlock(&processor);
+    end();
 }
 
 static uint8_t fetch(uint16_t offset) {
     uint8_t value;
-    pthread_mutex_lock(&processor);
+    begin();
     memory_read(here, CLOCK + offset, &value, 1);
-    pthread_mutex_unlock(&processor);
+    end();
     return value;
 }
 
@@ -343,10 +354,10 @@ static uint8_t fetch(uint16_t offset) {
 static void sleep_until_interrupted(void) {
     for (bool is_interrupted = false; !is_interrupted;) {
         poll(NULL, 0, 1); /* a millisecond */
-        pthread_mutex_lock(&processor);
+        begin();
         is_interrupted = eventfd_read(here->irq, &(eventfd_t){0}) == 0
                          || poll(&(struct pollfd){.fd = here->clock_line, .events = POLLIN}, 1, 0) > 0;
-        pthread_mutex_unlock(&processor);
+        end();
     }
 }
 
@@ -375,19 +386,20 @@ static void *guest(void *unused) {
     out(SUPERIO_I8042_COMMAND_PORT, 0xFE); /* now the guest would start again */
     print(in(COM1 + 1) == 0 ? "the port is a new one, " : "the port is the old one, ");
     print(fetch(RTCLR) == 100 ? "and the clock has gone on\n" : "and the clock is a new one\n");
-    pthread_mutex_lock(&processor);
+    begin();
     pthread_mutex_lock(&here->lock);
     here->is_off = true;
     pthread_mutex_unlock(&here->lock);
     eventfd_write(here->wake_up, 1);
-    pthread_mutex_unlock(&processor);
+    end();
     return unused;
 }
 
 /* Moves the guest from a machine to another. `loop` is the thread of the machine's event loop. */
 static void move(struct machine *from, struct machine *to, pthread_t *loop) {
     static struct snapshot saved;
-    pthread_mutex_lock(&processor); /* the last access has ended, and none begins */
+    pthread_mutex_lock(&door); /* no access begins */
+    pthread_mutex_lock(&processor); /* the last one has ended */
     pthread_mutex_lock(&from->lock);
     from->is_stopped = true;
     pthread_mutex_unlock(&from->lock);
@@ -399,6 +411,7 @@ static void move(struct machine *from, struct machine *to, pthread_t *loop) {
     pthread_create(loop, NULL, event_loop, to);
     here = to;
     pthread_mutex_unlock(&processor);
+    pthread_mutex_unlock(&door);
 }
 
 /* Lets standard input and output block, or not. At the end they block again, because the shell uses them too. */

@@ -32,9 +32,10 @@ static int64_t day, uptime;              /* the host's time of day, and what CLO
 static int files;                        /* so many were opened. Those of a machine are in the order of open_machine */
 static bool has_level, level;            /* the interrupt line is a level, and up */
 static bool is_down, is_interrupted;     /* the line takes no edges. It has taken one */
-static unsigned locks;                   /* that are taken: 1 is the processor's, 2 the machine's */
+static unsigned locks;                   /* that are taken: 1 and 4 are the guest's, 2 the machine's */
 static size_t given;                     /* bytes of input that are left */
 static bool goes_off;                    /* the timer of the alarm */
+static bool is_at_rest;                  /* the event loop has ended before a move */
 
 static bool interrupt(struct machine *machine, superio_console_work work);
 static void demo_lock(pthread_mutex_t *lock, bool is_taken);
@@ -45,6 +46,7 @@ static int demo_gettime(clockid_t which, struct timespec *time);
 static int demo_hold(const struct timespec *end);
 static int demo_create(void *(*start)(void *), const struct machine *of);
 static int demo_join(pthread_t thread);
+static void check(bool is_good, const char *what);
 static int demo_poll(struct pollfd *files, nfds_t count, int limit);
 static ssize_t demo_read(int file, uint8_t *bytes, size_t count);
 static ssize_t demo_write(int file, const uint8_t *bytes, size_t count);
@@ -69,10 +71,12 @@ static ssize_t demo_write(int file, const uint8_t *bytes, size_t count);
 #define poll demo_poll
 #define read demo_read
 #define write demo_write
+#define superio_console_save(...) (check(is_at_rest, "it is not at rest"), superio_console_save(__VA_ARGS__))
 #define superio_console_load(...) (first == 1 ? (uint32_t)second : superio_console_load(__VA_ARGS__))
 #define superio_rtc_load(...) (first == 2 ? (uint32_t)second : superio_rtc_load(__VA_ARGS__))
 #include "demo_machine.c"
 #undef main
+#undef superio_console_save
 #undef poll
 #undef read
 #undef write
@@ -94,7 +98,7 @@ static bool interrupt(struct machine *interrupted, superio_console_work work) {
 }
 
 static void demo_lock(pthread_mutex_t *lock, bool is_taken) {
-    unsigned bit = lock == &processor ? 1 : 2;
+    unsigned bit = lock == &processor ? 1 : lock == &door ? 4 : 2;
     check(!(locks & bit) == is_taken, "a lock is taken twice, or released");
     locks ^= bit;
 }
@@ -153,13 +157,14 @@ static int demo_hold(const struct timespec *end) {
 /* The event loop ends. The guest makes no access then, and nobody has the machine's lock. */
 static int demo_join(pthread_t thread) {
     (void)thread;
-    check(locks == 1 && machine.is_stopped, "the event loop does not end");
+    check(locks == 5 && machine.is_stopped, "the event loop does not end");
+    is_at_rest = true;
     return 0;
 }
 
 /* The event loop goes on in the other machine, before the guest does. */
 static int demo_create(void *(*start)(void *), const struct machine *of) {
-    check(locks == 1 && start == event_loop && !of->is_stopped, "the event loop does not begin");
+    check(locks == 5 && start == event_loop && !of->is_stopped, "the event loop does not begin");
     return 0;
 }
 
@@ -251,7 +256,7 @@ static void run_handler(void) {
 static void make_turn(size_t count, bool is_alarm) {
     given = count;
     goes_off = is_alarm;
-    machine.is_stopped = false;
+    machine.is_stopped = is_at_rest = false;
     event_loop(&machine);
     if (given > 0)
         say("%zu went in\n", count - given);

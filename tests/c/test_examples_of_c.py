@@ -1,14 +1,17 @@
 # SPDX-License-Identifier: Apache-2.0 OR BSD-3-Clause
 """The examples of examples/c compare what they receive: each says so if one byte is another, at the first place, at the
 last, or between. monitor.c serves a line that takes and gives little, and only after a poll, and breaks no rule of
-superio.h on threads, files and a time that rules.c makes."""
+superio.h on threads, files and a time that rules.c makes. machine.c moves in the middle of its input and output."""
+import fcntl
 import os
 import platform
+import subprocess
+import time
 
 import pytest
 from builds import run_rules
 from generators.libraries import PREBUILT, STATIC
-from harness import ROOT, at_least, check, run
+from harness import LIMIT, ROOT, at_least, check, run
 
 pytestmark = pytest.mark.needs("cc")
 
@@ -118,3 +121,54 @@ def test_rules_of_a_monitor(tmp_path):
     """Whichever thread goes on, and whatever is refused."""
     ran = run_rules(ROOT / "examples/c/monitor.c", tmp_path)
     assert ran.returncode == 0, ran.stdout
+
+
+SET_PIPE_SIZE = 1031   # of Linux, which Python 3.9 does not name
+# How long the guest of machine.c is held until the reader of its output takes some. Afterwards output is dropped.
+A_SECOND = "    end.tv_sec++;\n"
+SAVED = "    save(from, &saved);\n"
+LAST = "    pthread_mutex_lock(&processor); /* the last one"
+AFTERWARDS = "    if (!restore(to, &saved))\n"
+# A move that saves a machine whose guest makes an access, or makes further ones.
+TOO_EARLY = at_least(2, [
+    [(SAVED, ""), (LAST, SAVED + LAST)],
+    [(AFTERWARDS, "    from->is_stopped = false;\n    pthread_create(loop, NULL, event_loop, from);\n"
+      "    pthread_mutex_unlock(&processor);\n    pthread_mutex_unlock(&door);\n    poll(NULL, 0, 200);\n"
+      "    pthread_mutex_lock(&door);\n    pthread_mutex_lock(&processor);\n    pthread_mutex_lock(&from->lock);\n"
+      "    from->is_stopped = true;\n    pthread_mutex_unlock(&from->lock);\n    eventfd_write(from->wake_up, 1);\n"
+      f"    pthread_join(*loop, NULL);\n{AFTERWARDS}")],
+])
+
+
+def came_back(edits, typed, folder):
+    """What a machine sends whose guest is soon held: for a while nobody reads. One that loses an alarm would never end."""
+    machine = (ROOT / "examples/c/machine.c").read_text("utf-8")
+    for old, new in [(A_SECOND, f"    end.tv_sec += {LIMIT};\n"), *edits]:
+        assert machine.count(old) == 1
+        machine = machine.replace(old, new)
+    (folder / "machine.c").write_text(machine, "utf-8")
+    check(["cc", "-I", ROOT / "bindings/c", folder / "machine.c", PREBUILT / f"{platform.machine()}-linux" / STATIC,
+           "-pthread", "-o", folder / "machine"], "")
+    reader, writer = os.pipe()
+    fcntl.fcntl(writer, SET_PIPE_SIZE, 4096)
+    with subprocess.Popen(["timeout", "20", folder / "machine"], stdin=subprocess.PIPE, stdout=writer) as process:
+        os.close(writer)
+        process.stdin.write(typed)
+        process.stdin.close()
+        time.sleep(1)
+        with open(reader, "rb") as output:
+            return output.read()
+
+
+TEXT = b"".join(b"%d, " % number for number in range(5000)) + b"and so on\n"
+ALL = TEXT.upper() + (ROOT / "examples/c/expected").read_bytes().removeprefix(b"HELLO\n")
+
+
+def test_a_machine_moves(tmp_path):
+    """While its guest is held, input waits in the port, and output in the console: each byte comes back once."""
+    assert came_back([], TEXT, tmp_path) == ALL
+
+
+@pytest.mark.parametrize("edits", TOO_EARLY)
+def test_a_machine_that_moves_too_early(edits, tmp_path):
+    assert came_back(edits, TEXT, tmp_path) != ALL
