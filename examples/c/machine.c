@@ -20,7 +20,7 @@
 #include <superio.h>
 
 /* The first port of the console, the clock's first address, and registers of the clock. */
-enum { COM1 = 0x3F8, CLOCK = 0xD0000, RTCMR = 0x004, RTCLR = 0x008, RTCCR = 0x00C, RTCIMSC = 0x010, RTCMIS = 0x018,
+enum { COM1 = 0x3F8, CLOCK = 0xD1000, RTCMR = 0x004, RTCLR = 0x008, RTCCR = 0x00C, RTCIMSC = 0x010, RTCMIS = 0x018,
        RTCICR = 0x01C };
 
 struct machine {
@@ -382,7 +382,7 @@ static void *guest(void *unused) {
     while (!(fetch(RTCMIS) & 0x01))
         sleep_until_interrupted();
     store(RTCICR, 1);
-    print("the alarm has come\n");
+    print(fetch(RTCMIS) == 0 ? "the alarm has come\n" : "the alarm is not over\n");
     out(SUPERIO_I8042_COMMAND_PORT, 0xFE); /* now the guest would start again */
     print(in(COM1 + 1) == 0 ? "the port is a new one, " : "the port is the old one, ");
     print(fetch(RTCLR) == 100 ? "and the clock has gone on\n" : "and the clock is a new one\n");

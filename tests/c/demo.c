@@ -36,10 +36,11 @@ static unsigned locks;                   /* that are taken: 1 and 4 are the gues
 static size_t given;                     /* bytes of input that are left */
 static bool goes_off;                    /* the timer of the alarm */
 static bool is_at_rest;                  /* the event loop has ended before a move */
+static bool is_late;                     /* the next time for which the guest is held ends as there is room */
 
 static bool interrupt(struct machine *machine, superio_console_work work);
 static void demo_lock(pthread_mutex_t *lock, bool is_taken);
-static int demo_eventfd_write(int file);
+static int demo_eventfd_write(int file, eventfd_t value);
 static int demo_eventfd_read(int file);
 static int demo_settime(int file, int flags, const struct itimerspec *time);
 static int demo_gettime(clockid_t which, struct timespec *time);
@@ -58,7 +59,7 @@ static ssize_t demo_write(int file, const uint8_t *bytes, size_t count);
 #define errx(status, ...) (say(__VA_ARGS__), say("\n"), longjmp(ended, 1))
 #define eventfd(value, flags) ++files
 #define timerfd_create(clock, flags) ((clock) == CLOCK_BOOTTIME ? ++files : -1)
-#define eventfd_write(file, value) demo_eventfd_write(file)
+#define eventfd_write(file, value) demo_eventfd_write(file, value)
 #define eventfd_read(file, value) demo_eventfd_read(file)
 #define timerfd_settime(file, flags, time, old) demo_settime(file, flags, time)
 #define clock_gettime demo_gettime
@@ -113,7 +114,8 @@ static void tell(const char *what) {
 enum which { IRQ, LINE, WAKE_UP, TIMER, FILES };
 static enum which which_is(int file) { return (enum which)((file - 1) % FILES); }
 
-static int demo_eventfd_write(int file) {
+static int demo_eventfd_write(int file, eventfd_t value) {
+    check(value == 1, "another number is written");
     switch (which_is(file)) {
     case IRQ:
         tell(is_down ? "interrupt refused" : "interrupt");
@@ -147,11 +149,16 @@ static int demo_gettime(clockid_t which, struct timespec *time) {
     return 0;
 }
 
-/* The guest is held, and nobody takes its output for a second. */
+/* The guest is held, and nobody takes its output for a second. The wait ends without a reason, too. */
 static int demo_hold(const struct timespec *end) {
+    static bool is_over = true;
     tell("held");
     check(end->tv_sec == MONOTONIC + 1, "for another time");
-    return ETIMEDOUT;
+    superio_console_consume(&machine.console, is_late);
+    is_over = is_late || !is_over;
+    int result = is_late || is_over ? ETIMEDOUT : 0;
+    is_late = false;
+    return result;
 }
 
 /* The event loop ends. The guest makes no access then, and nobody has the machine's lock. */
@@ -229,8 +236,9 @@ static void write_memory(unsigned long long value, unsigned count) {
 
 /* The guest reads so many bytes of memory. Shows them as one number. */
 static void read_memory(unsigned count) {
-    uint8_t bytes[8] = {0};
+    uint8_t bytes[9] = {0};
     memory_read(&machine, CLOCK + first, bytes, count); /* which may tell something */
+    check(bytes[count] == 0, "more is read");
     for (unsigned i = count; i > 0; i--)
         say("%02x", bytes[i - 1]);
     say("\n");
@@ -293,6 +301,7 @@ static void obey(const char *word) {
     else if (IS("up")) is_down = false;
     else if (IS("time")) uptime += (int64_t)first - day, day = (int64_t)first;
     else if (IS("day")) day = (int64_t)first;
+    else if (IS("late")) is_late = true;
     else if (IS("alarm")) make_turn(0, true);
     else if (IS("move")) move_machine();
     else check(false, "this is no line");
