@@ -398,7 +398,7 @@ static void *guest(void *unused) {
 /* Moves the guest from a machine to another. `loop` is the thread of the machine's event loop. */
 static void move(struct machine *from, struct machine *to, pthread_t *loop) {
     static struct snapshot saved;
-    pthread_mutex_lock(&door); /* no access begins */
+    pthread_mutex_lock(&door);      /* no access begins */
     pthread_mutex_lock(&processor); /* the last one has ended */
     pthread_mutex_lock(&from->lock);
     from->is_stopped = true;
