@@ -254,6 +254,12 @@ static void *event_loop(void *argument) {
     }
 }
 
+static int must(int file) {
+    if (file < 0)
+        err(1, "opening a machine");
+    return file;
+}
+
 /* Makes a machine with new devices. */
 static void open_machine(struct machine *machine, int input, int output) {
     pthread_condattr_t attributes;
@@ -262,12 +268,10 @@ static void open_machine(struct machine *machine, int input, int output) {
     *machine = (struct machine){.input = input, .output = output};
     pthread_mutex_init(&machine->lock, NULL);
     pthread_cond_init(&machine->has_room, &attributes);
-    machine->irq = eventfd(0, EFD_NONBLOCK);
-    machine->clock_line = eventfd(0, EFD_NONBLOCK);
-    machine->wake_up = eventfd(0, EFD_NONBLOCK);
-    machine->timer = timerfd_create(CLOCK_BOOTTIME, TFD_NONBLOCK);
-    if (machine->irq < 0 || machine->clock_line < 0 || machine->wake_up < 0 || machine->timer < 0)
-        err(1, "opening a machine");
+    machine->irq = must(eventfd(0, EFD_NONBLOCK));
+    machine->clock_line = must(eventfd(0, EFD_NONBLOCK));
+    machine->wake_up = must(eventfd(0, EFD_NONBLOCK));
+    machine->timer = must(timerfd_create(CLOCK_BOOTTIME, TFD_NONBLOCK));
     superio_console_new(&machine->console, false); /* true for a guest that polls */
     machine->clock = superio_rtc_new();
     machine->ahead = seconds(CLOCK_REALTIME) - seconds(CLOCK_BOOTTIME);

@@ -25,11 +25,18 @@
 struct machine;
 enum { TIME_OF_DAY = 1000, UPTIME = 300, MONOTONIC = 77 };
 
+/* The files of a machine, in the order in which it opens them. */
+enum which { IRQ, LINE, WAKE_UP, TIMER, FILES };
+
 static jmp_buf ended;
 static char said[1 << 16];               /* what the host is told for a line */
 static unsigned long long first, second; /* the numbers of the line */
 static int64_t day, uptime;              /* the host's time of day, and what CLOCK_BOOTTIME shows */
 static int files;                        /* so many were opened. Those of a machine are in the order of open_machine */
+static unsigned parts;                   /* of a machine that were made: 1 and 2 for attributes, 4 a lock, 8 a condition */
+static bool is_woken;                    /* the event loop */
+static int failure = -1;                 /* how reads and writes fail in the next turn, if they do. 0 is the end */
+static bool falls_asleep;                /* the guest, during the next poll */
 static bool has_level, level;            /* the interrupt line is a level, and up */
 static bool is_down, is_interrupted;     /* the line takes no edges. It has taken one */
 static unsigned locks;                   /* that are taken: 1 and 4 are the guest's, 2 the machine's */
@@ -40,6 +47,8 @@ static bool is_late;                     /* the next time for which the guest is
 
 static bool interrupt(struct machine *machine, superio_console_work work);
 static void demo_lock(pthread_mutex_t *lock, bool is_taken);
+static int demo_open(bool is_right);
+static int demo_make(unsigned part, bool is_right);
 static int demo_eventfd_write(int file, eventfd_t value);
 static int demo_eventfd_read(int file);
 static int demo_settime(int file, int flags, const struct itimerspec *time);
@@ -55,10 +64,14 @@ static ssize_t demo_write(int file, const uint8_t *bytes, size_t count);
 /* These take the place of what the machine calls. The line `move` says which load gives which status. */
 #define say(...) (void)sprintf(said + strlen(said), __VA_ARGS__)
 #define main demo_main
-#define err(...) abort()
+#define err(status, ...) (say(__VA_ARGS__), say("\n"), longjmp(ended, 1))
 #define errx(status, ...) (say(__VA_ARGS__), say("\n"), longjmp(ended, 1))
-#define eventfd(value, flags) ++files
-#define timerfd_create(clock, flags) ((clock) == CLOCK_BOOTTIME ? ++files : -1)
+#define eventfd(value, flags) demo_open((value) == 0 && (flags) == EFD_NONBLOCK)
+#define timerfd_create(clock, flags) demo_open((clock) == CLOCK_BOOTTIME && (flags) == TFD_NONBLOCK)
+#define pthread_condattr_init(of) ((void)(of), demo_make(1, true))
+#define pthread_condattr_setclock(of, clock) demo_make(2, (clock) == CLOCK_MONOTONIC)
+#define pthread_mutex_init(lock, of) ((void)(lock), demo_make(4, true))
+#define pthread_cond_init(room, of) ((void)(room), (void)(of), demo_make(8, parts == 7))
 #define eventfd_write(file, value) demo_eventfd_write(file, value)
 #define eventfd_read(file, value) demo_eventfd_read(file)
 #define timerfd_settime(file, flags, time, old) demo_settime(file, flags, time)
@@ -73,8 +86,8 @@ static ssize_t demo_write(int file, const uint8_t *bytes, size_t count);
 #define read demo_read
 #define write demo_write
 #define superio_console_save(...) (check(is_at_rest, "it is not at rest"), superio_console_save(__VA_ARGS__))
-#define superio_console_load(...) (first == 1 ? (uint32_t)second : superio_console_load(__VA_ARGS__))
-#define superio_rtc_load(...) (first == 2 ? (uint32_t)second : superio_rtc_load(__VA_ARGS__))
+#define superio_console_load(...) (first == FILES + 1 ? (uint32_t)second : superio_console_load(__VA_ARGS__))
+#define superio_rtc_load(...) (first == FILES + 2 ? (uint32_t)second : superio_rtc_load(__VA_ARGS__))
 #include "demo_machine.c"
 #undef main
 #undef superio_console_save
@@ -104,15 +117,24 @@ static void demo_lock(pthread_mutex_t *lock, bool is_taken) {
     locks ^= bit;
 }
 
+/* Opens a file, but the one that the line names by its number from 1 on. */
+static int demo_open(bool is_right) {
+    check(is_right, "another file is opened");
+    return files++ % FILES + 1 == (int)first ? -1 : files - 1;
+}
+
+static int demo_make(unsigned part, bool is_right) {
+    check(is_right, "a machine is made in another way");
+    return parts |= part, 0;
+}
+
 /* Something about a device is told to the host. */
 static void tell(const char *what) {
     say("%s\n", what);
     check(locks & 2, "without its lock");
 }
 
-/* The files of a machine, in the order in which it opens them. */
-enum which { IRQ, LINE, WAKE_UP, TIMER, FILES };
-static enum which which_is(int file) { return (enum which)((file - 1) % FILES); }
+static enum which which_is(int file) { return (enum which)(file % FILES); }
 
 static int demo_eventfd_write(int file, eventfd_t value) {
     check(value == 1, "another number is written");
@@ -122,7 +144,7 @@ static int demo_eventfd_write(int file, eventfd_t value) {
         is_interrupted |= !is_down;
         return is_down ? -1 : 0;
     case LINE: return tell("line up"), 0;
-    case WAKE_UP: return say("wake\n"), 0;
+    case WAKE_UP: return is_woken = true, say("wake\n"), 0;
     default: return check(false, "another file is written"), -1;
     }
 }
@@ -132,6 +154,9 @@ static int demo_eventfd_read(int file) {
         tell("line down");
     if (which_is(file) == IRQ)
         is_interrupted = false;
+    if (which_is(file) == WAKE_UP)
+        check(is_woken, "the loop forgets what has not woken it");
+    is_woken &= which_is(file) != WAKE_UP;
     return check(which_is(file) != TIMER, "the timer is read"), 0;
 }
 
@@ -182,15 +207,26 @@ static int demo_poll(struct pollfd *polled, nfds_t count, int limit) {
     check((polled[1].fd >= 0) == (wanted.input > 0 && machine.input >= 0), "the loop polls for other input");
     check((polled[2].fd >= 0) == wanted.output, "the loop polls for other output");
     check(which_is(polled[3].fd) == TIMER && which_is(polled[0].fd) == WAKE_UP, "the loop polls other files");
-    polled[0].revents = POLLIN;
+    polled[0].revents = is_woken ? POLLIN : 0;
     polled[1].revents = polled[1].fd >= 0 && given > 0 ? POLLIN : 0;
     polled[2].revents = polled[2].fd >= 0 ? POLLOUT : 0;
     polled[3].revents = goes_off ? POLLIN : 0;
     machine.is_stopped = true;
+    if (falls_asleep)
+        superio_console_suspend(&machine.console);
+    falls_asleep = false;
     return 1;
 }
 
+/* A read or a write fails. */
+static ssize_t fail(void) {
+    errno = failure;
+    return failure == 0 ? 0 : -1;
+}
+
 static ssize_t demo_read(int file, uint8_t *bytes, size_t count) {
+    if (failure >= 0)
+        return fail();
     count = count < given ? count : given;
     check(file == STDIN_FILENO && locks == 2, "another file is read");
     memset(bytes, (int)second, count);
@@ -200,6 +236,8 @@ static ssize_t demo_read(int file, uint8_t *bytes, size_t count) {
 
 /* What could be part of an escape sequence must not reach a terminal as it is. */
 static ssize_t demo_write(int file, const uint8_t *bytes, size_t count) {
+    if (failure >= 0)
+        return fail();
     check(file == STDOUT_FILENO && locks == 2, "another file is written");
     for (size_t i = 0; i < count; i++)
         say(isprint(bytes[i]) && bytes[i] != '\\' ? "output: %c\n" : "output: \\x%02x\n", bytes[i]);
@@ -212,8 +250,10 @@ static void make_machine(bool is_level) {
     day = TIME_OF_DAY;
     uptime = UPTIME;
     has_level = is_level;
-    is_down = is_interrupted = level = false;
+    is_down = is_interrupted = is_woken = level = false;
+    files = parts = 0;
     open_machine(&machine, STDIN_FILENO, STDOUT_FILENO);
+    check(parts == 15, "a machine is not made");
 }
 
 static void read_port(uint16_t port) {
@@ -266,6 +306,8 @@ static void make_turn(size_t count, bool is_alarm) {
     goes_off = is_alarm;
     machine.is_stopped = is_at_rest = false;
     event_loop(&machine);
+    check(!is_woken, "what has woken the loop wakes it again");
+    failure = -1;
     if (given > 0)
         say("%zu went in\n", count - given);
 }
@@ -276,12 +318,15 @@ static void move_machine(void) {
     uint8_t bytes[SUPERIO_CONSOLE_SAVED_MAX];
     pthread_t loop = 0;
     say("a console of %zu bytes\n", superio_console_save(&machine.console, bytes));
+    first = first == 1 || first == 2 ? first + FILES : first; /* the load of this number fails, and no file */
+    parts = 0;
     open_machine(&other, STDIN_FILENO, STDOUT_FILENO);
-    is_down = is_interrupted = false; /* nothing of the old interrupt controller is left */
+    is_woken = is_down = is_interrupted = false; /* nothing of the old interrupt controller is left */
     uptime += UPTIME;
     move(&machine, &other, &loop);
     check(here == &other, "the guest does not go on");
     machine = other;
+    is_woken = false; /* by the other file */
 }
 
 #define IS(name) (strcmp(word, name) == 0)
@@ -302,6 +347,8 @@ static void obey(const char *word) {
     else if (IS("time")) uptime += (int64_t)first - day, day = (int64_t)first;
     else if (IS("day")) day = (int64_t)first;
     else if (IS("late")) is_late = true;
+    else if (IS("asleep")) falls_asleep = true;
+    else if (IS("fail")) failure = (int)first;
     else if (IS("alarm")) make_turn(0, true);
     else if (IS("move")) move_machine();
     else check(false, "this is no line");
