@@ -42,6 +42,12 @@ struct machine {
     int wake_up;       /* an eventfd that wakes the event loop */
 };
 
+/* Returns whether an eventfd was readable, which it is no longer. */
+static bool clear(int file) {
+    eventfd_t count;
+    return eventfd_read(file, &count) == 0;
+}
+
 /* Raises the interrupts that a call asks for. Returns whether to wake the event loop. */
 static bool interrupt(struct machine *machine, superio_console_work work) {
     for (int i = 0; i < work.interrupts; i++)
@@ -91,7 +97,7 @@ static void set_clock_line(struct machine *machine, bool is_up) {
     if (is_up)
         eventfd_write(machine->clock_line, 1);
     else
-        eventfd_read(machine->clock_line, &(eventfd_t){0});
+        clear(machine->clock_line);
 }
 
 /* After each access of the clock: sets the timer for the alarm, and the clock's line if its level has changed. */
@@ -186,7 +192,7 @@ static uint8_t port_read(struct machine *machine, uint16_t port) {
 static void end_access(struct machine *machine) {
     pthread_mutex_lock(&machine->lock);
     if (machine->is_reset) {
-        eventfd_read(machine->irq, &(eventfd_t){0}); /* in place of a reset of the interrupt controller */
+        clear(machine->irq); /* in place of a reset of the interrupt controller */
         if (interrupt(machine, superio_console_reset(&machine->console)))
             eventfd_write(machine->wake_up, 1);
         follow_clock_again(machine);
@@ -240,7 +246,7 @@ static void *event_loop(void *argument) {
         };
         poll(files, 4, wants.turn ? 5 : -1); /* milliseconds */
         if (files[0].revents)
-            eventfd_read(machine->wake_up, &(eventfd_t){0});
+            clear(machine->wake_up);
 
         pthread_mutex_lock(&machine->lock);
         if (files[1].revents)
@@ -342,7 +348,7 @@ static uint8_t in(uint16_t port) {
 
 static void store(uint16_t offset, uint8_t value) {
     begin();
-    memory_write(here, CLOCK + offset, (uint8_t[4]){value}, 4);
+    memory_write(here, CLOCK + offset, (uint8_t[]){value, 0, 0, 0}, 4);
     end();
 }
 
@@ -359,7 +365,7 @@ static void sleep_until_interrupted(void) {
     for (bool is_interrupted = false; !is_interrupted;) {
         poll(NULL, 0, 1); /* a millisecond */
         begin();
-        is_interrupted = eventfd_read(here->irq, &(eventfd_t){0}) == 0
+        is_interrupted = clear(here->irq)
                          || poll(&(struct pollfd){.fd = here->clock_line, .events = POLLIN}, 1, 0) > 0;
         end();
     }

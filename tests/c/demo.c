@@ -64,8 +64,8 @@ static ssize_t demo_write(int file, const uint8_t *bytes, size_t count);
 /* These take the place of what the machine calls. The line `move` says which load gives which status. */
 #define say(...) (void)sprintf(said + strlen(said), __VA_ARGS__)
 #define main demo_main
-#define err(status, ...) (say(__VA_ARGS__), say("\n"), longjmp(ended, 1))
-#define errx(status, ...) (say(__VA_ARGS__), say("\n"), longjmp(ended, 1))
+#define err(status, ...) (say(__VA_ARGS__), say(", status %d\n", status), longjmp(ended, 1))
+#define errx(status, ...) (say(__VA_ARGS__), say(", status %d\n", status), longjmp(ended, 1))
 #define eventfd(value, flags) demo_open((value) == 0 && (flags) == EFD_NONBLOCK)
 #define timerfd_create(clock, flags) demo_open((clock) == CLOCK_BOOTTIME && (flags) == TFD_NONBLOCK)
 #define pthread_condattr_init(of) ((void)(of), demo_make(1, true))
@@ -73,7 +73,7 @@ static ssize_t demo_write(int file, const uint8_t *bytes, size_t count);
 #define pthread_mutex_init(lock, of) ((void)(lock), demo_make(4, true))
 #define pthread_cond_init(room, of) ((void)(room), (void)(of), demo_make(8, parts == 7))
 #define eventfd_write(file, value) demo_eventfd_write(file, value)
-#define eventfd_read(file, value) demo_eventfd_read(file)
+#define eventfd_read(file, value) ((void)(value), demo_eventfd_read(file))
 #define timerfd_settime(file, flags, time, old) demo_settime(file, flags, time)
 #define clock_gettime demo_gettime
 #define pthread_mutex_lock(lock) demo_lock(lock, true)
@@ -207,6 +207,7 @@ static int demo_poll(struct pollfd *polled, nfds_t count, int limit) {
     check((polled[1].fd >= 0) == (wanted.input > 0 && machine.input >= 0), "the loop polls for other input");
     check((polled[2].fd >= 0) == wanted.output, "the loop polls for other output");
     check(which_is(polled[3].fd) == TIMER && which_is(polled[0].fd) == WAKE_UP, "the loop polls other files");
+    check(polled[1].fd >= -1 && polled[2].fd >= -1, "the loop polls a file that is none");
     polled[0].revents = is_woken ? POLLIN : 0;
     polled[1].revents = polled[1].fd >= 0 && given > 0 ? POLLIN : 0;
     polled[2].revents = polled[2].fd >= 0 ? POLLOUT : 0;
@@ -220,7 +221,7 @@ static int demo_poll(struct pollfd *polled, nfds_t count, int limit) {
 
 /* A read or a write fails. */
 static ssize_t fail(void) {
-    errno = failure;
+    errno = failure == 0 ? EAGAIN : failure; /* at the end it says nothing */
     return failure == 0 ? 0 : -1;
 }
 

@@ -5,6 +5,7 @@ superio.h on threads, files and a time that rules.c makes. machine.c moves in th
 import fcntl
 import os
 import platform
+import resource
 import subprocess
 import time
 
@@ -172,3 +173,15 @@ def test_a_machine_moves(tmp_path):
 @pytest.mark.parametrize("edits", TOO_EARLY)
 def test_a_machine_that_moves_too_early(edits, tmp_path):
     assert came_back(edits, TEXT, tmp_path) != ALL
+
+
+def test_a_machine_sleeps(tmp_path):
+    """Its guest until it is interrupted, and its event loop until there is something to do."""
+    check(["cc", "-I", ROOT / "bindings/c", ROOT / "examples/c/machine.c",
+           PREBUILT / f"{platform.machine()}-linux" / STATIC, "-pthread", "-o", tmp_path / "machine"], "")
+    before = resource.getrusage(resource.RUSAGE_CHILDREN)
+    with subprocess.Popen([tmp_path / "machine"], stdin=subprocess.PIPE, stdout=subprocess.DEVNULL) as process:
+        time.sleep(3)
+        process.stdin.write(b"hello\n")
+    after = resource.getrusage(resource.RUSAGE_CHILDREN)
+    assert process.returncode == 0 and after.ru_utime + after.ru_stime - before.ru_utime - before.ru_stime < 1
