@@ -348,7 +348,7 @@ static uint8_t in(uint16_t port) {
 
 static void store(uint16_t offset, uint8_t value) {
     begin();
-    memory_write(here, CLOCK + offset, (uint8_t[]){value, 0, 0, 0}, 4);
+    memory_write(here, CLOCK + offset, (uint8_t[4]){value}, 4);
     end();
 }
 

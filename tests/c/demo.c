@@ -219,15 +219,15 @@ static int demo_poll(struct pollfd *polled, nfds_t count, int limit) {
     return 1;
 }
 
-/* A read or a write fails. */
-static ssize_t fail(void) {
-    errno = failure == 0 ? EAGAIN : failure; /* at the end it says nothing */
+/* A read or a write fails. At the end there is no error, but one from before. */
+static ssize_t fail(int before) {
+    errno = failure == 0 ? before : failure;
     return failure == 0 ? 0 : -1;
 }
 
 static ssize_t demo_read(int file, uint8_t *bytes, size_t count) {
     if (failure >= 0)
-        return fail();
+        return fail(EAGAIN);
     count = count < given ? count : given;
     check(file == STDIN_FILENO && locks == 2, "another file is read");
     memset(bytes, (int)second, count);
@@ -238,7 +238,7 @@ static ssize_t demo_read(int file, uint8_t *bytes, size_t count) {
 /* What could be part of an escape sequence must not reach a terminal as it is. */
 static ssize_t demo_write(int file, const uint8_t *bytes, size_t count) {
     if (failure >= 0)
-        return fail();
+        return fail(EIO);
     check(file == STDOUT_FILENO && locks == 2, "another file is written");
     for (size_t i = 0; i < count; i++)
         say(isprint(bytes[i]) && bytes[i] != '\\' ? "output: %c\n" : "output: \\x%02x\n", bytes[i]);
