@@ -100,8 +100,8 @@ installcheck:
 	@place=$$(mktemp -d)
 	trap 'rm -rf "$$place"' EXIT
 	for package in superio superio-static; do
-	    $(CC) examples/c/machine.c $$(pkg-config --cflags --libs $$package) -o "$$place/machine"
-	    "$$place/machine" > "$$place/printed"
+	    $(CC) -pthread examples/c/machine.c $$(pkg-config --cflags --libs $$package) -o "$$place/machine"
+	    echo hello | "$$place/machine" > "$$place/printed"
 	    cmp "$$place/printed" examples/c/expected
 	done
 

@@ -50,7 +50,7 @@ static void write_access(uint8_t offset, uint8_t value) {
     if (interrupt(superio_console_write(&console, offset, value)))
         eventfd_write(wake_up, 1);
     while (superio_console_is_full(&console) && !is_stuck)
-        is_stuck = pthread_cond_timedwait(&has_room, &lock, &end) != 0;
+        is_stuck = pthread_cond_timedwait(&has_room, &lock, &end) != 0 && superio_console_is_full(&console);
     pthread_mutex_unlock(&lock);
 }
 
@@ -79,13 +79,13 @@ static void event_loop(int input, int output) {
             ssize_t count = read(input, bytes, wanted);
             if (count > 0)
                 interrupt(superio_console_receive(&console, bytes, (size_t)count).work);
-            else if (count == 0 || errno != EAGAIN)
+            else if (count == 0 || (errno != EAGAIN && errno != EINTR))
                 input = -1; /* its end */
         }
         if (files[2].revents) {
             size_t waiting = superio_console_output(&console, bytes, sizeof bytes);
             ssize_t count = write(output, bytes, waiting);
-            if (count < 0 && errno != EAGAIN)
+            if (count < 0 && errno != EAGAIN && errno != EINTR)
                 count = (ssize_t)waiting; /* the reader is gone, so these bytes are dropped */
             if (count > 0) {
                 superio_console_consume(&console, (size_t)count);
@@ -93,7 +93,7 @@ static void event_loop(int input, int output) {
                 pthread_cond_broadcast(&has_room);
             }
         }
-        interrupt(superio_console_turn(&console)); /* nobody has to wake the loop: it goes round again */
+        interrupt(superio_console_turn(&console)); /* the loop goes round again: nobody has to wake it */
         pthread_mutex_unlock(&lock);
     }
 }

@@ -888,8 +888,11 @@ size_t superio_console_save(
  * allowed. The console changes only if the result is SUPERIO_LOAD_OK. Then do
  * two things:
  *
- * 1. If your interrupt controller was not restored with the console, call
- *    superio_console_refuse, since an earlier interrupt may be lost.
+ * 1. If your interrupt controller takes edges, call superio_console_refuse,
+ *    since an earlier interrupt may be lost. If it is not, the guest gets one
+ *    interrupt too many for each condition. You may leave out this call if you
+ *    restored your controller from a state that has every interrupt which it
+ *    had not delivered yet.
  * 2. Always make a turn, by superio_console_turn, and carry out its work.
  *
  * The port need not be coherent: ask superio_serial_is_coherent of

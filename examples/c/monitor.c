@@ -5,6 +5,7 @@
  */
 #define _POSIX_C_SOURCE 200809L
 #include <err.h>
+#include <errno.h>
 #include <fcntl.h>
 #include <poll.h>
 #include <pthread.h>
@@ -86,7 +87,7 @@ static void *run_guest(void *argument) {
     uint8_t byte;
     for (guest_writes(machine, 1, 0x01); sent < 3000 && !machine->echoes; sent++) /* IER */
         guest_writes(machine, 0, (uint8_t)sent);
-    while (received < 3000 && read(machine->interrupts[0], &byte, 1) == 1)
+    while (received < 3000 && (read(machine->interrupts[0], &byte, 1) == 1 || errno == EINTR))
         while (!(guest_reads(machine, 2) & 0x01))    /* IIR: something is pending */
             while (guest_reads(machine, 5) & 0x01) { /* LSR: data is ready */
                 byte = guest_reads(machine, 0);

@@ -115,11 +115,11 @@ enum { ACCESSES = 1000, MOST_STEPS = 5000000 };
 enum ending { BY_FILE, BY_TIME, BY_SIGNAL }; /* of a poll */
 
 /* What the rules are about, and what happens to it. */
-enum event { REFUSED, WOKEN, WOKEN_BY_REFUSAL, FULL, ONE_WANTED, TURNS, TIMES, SIGNALS, FAILED_READS, EVENTS };
+enum event { REFUSED, WOKEN, WOKEN_BY_REFUSAL, FULL, ONE_WANTED, TURNS, TIMES, SIGNALS, FAILED_READS, SLEEPS, EVENTS };
 static const char *const EVENT_NAMES[EVENTS] = {
     "edges were refused", "calls woke the loop", "refusals alone woke the loop", "wakes found a full pipe",
     "polls asked for one byte", "polls asked for a turn", "polls ended by time", "polls ended by a signal",
-    "reads of a wake failed"};
+    "reads of a wake failed", "sleeps of a guest ended by a signal"};
 
 struct file {
     int other; /* what is written to it can be read there; -1 if nothing can be written */
@@ -464,7 +464,7 @@ static size_t take(struct file *file, void *bytes, size_t count) {
 }
 
 static ssize_t again(void) {
-    errno = EAGAIN;
+    errno = once_in(2) ? EAGAIN : EINTR;
     return -1;
 }
 
@@ -500,6 +500,12 @@ static ssize_t watched_read(int number, void *bytes, size_t count) {
     if (number == machine->wakes[0])
         return read_wake(file, bytes, count);
     check(number == machine->interrupts[0] && count == 1, "something else is read");
+    if (once_in(8)) {
+        happened[SLEEPS]++;
+        wait_in(RUNS);
+        errno = EINTR;
+        return -1;
+    }
     current->file = number;
     wait_in(READS);
     return (ssize_t)take(file, bytes, 1);

@@ -1,14 +1,18 @@
 # SPDX-License-Identifier: Apache-2.0 OR BSD-3-Clause
 """The examples of examples/c compare what they receive: each says so if one byte is another, at the first place, at the
 last, or between. monitor.c serves a line that takes and gives little, and only after a poll, and breaks no rule of
-superio.h on threads, files and a time that rules.c makes."""
+superio.h on threads, files and a time that rules.c makes. machine.c moves in the middle of its input and output."""
+import fcntl
 import os
 import platform
+import resource
+import subprocess
+import time
 
 import pytest
 from builds import run_rules
 from generators.libraries import PREBUILT, STATIC
-from harness import ROOT, at_least, check, run
+from harness import LIMIT, ROOT, at_least, check, run
 
 pytestmark = pytest.mark.needs("cc")
 
@@ -26,13 +30,14 @@ superio_{0}_read_effects __wrap_superio_{0}_read(superio_{0} *device, uint8_t of
     return done;
 }}
 """
-# Beside each program: the device whose reads are spoilt, the places, the status, and what is said. In monitor.c
-# each of 3,000 bytes is read by two guests.
+# Beside each program: the device whose reads are spoilt, the places, and what is said. In monitor.c each of 3,000 bytes is
+# read by two guests. The guest of machine.c sends what was typed back in capitals.
 PROGRAMS = {
-    "paste": ("serial", (1, 64, 65, 999, 1000), 0, "1000 bytes in 16 pieces, 999 of them in order\n"),
-    "monitor": ("console", (1, 3000, 5999, 6000), 0, "3000 bytes came back, 2999 of them in order\n"),
-    "machine": ("console", (1, 40, 41, 64, 65, 100), 1, "receiving what was sent failed\n"),
+    "paste": ("serial", (1, 64, 65, 999, 1000), "1000 bytes in 16 pieces, 999 of them in order\n"),
+    "monitor": ("console", (1, 3000, 5999, 6000), "3000 bytes came back, 2999 of them in order\n"),
+    "machine": ("console", (1, 40, 41, 64, 65, 99), None),
 }
+TYPED = "x" * 99 + "\n"
 CASES = at_least(15, [(name, place) for name, (_, places, *_) in PROGRAMS.items() for place in places])
 
 # In place of the socket of monitor.c: once a poll has told that it has room, or bytes, it takes or gives three of them.
@@ -93,9 +98,11 @@ def spoilt(tmp_path_factory):
 
 @pytest.mark.parametrize("name, place", CASES)
 def test_another_byte_is_noticed(spoilt, name, place):
-    _, _, status, said = PROGRAMS[name]
-    ran = run([spoilt / name], env={**os.environ, "PLACE": f"{place}"})
-    assert ran.returncode == status and said in ran.stdout, ran.stdout
+    *_, said = PROGRAMS[name]
+    other = chr(ord("x") ^ 1 << place % 8)
+    said = said or f"{TYPED[:place - 1]}{other}{TYPED[place:]}".upper()
+    ran = run([spoilt / name], env={**os.environ, "PLACE": f"{place}"}, input=TYPED)
+    assert ran.returncode == 0 and said in ran.stdout, ran.stdout
 
 
 def test_every_example_is_spoilt():
@@ -115,3 +122,66 @@ def test_rules_of_a_monitor(tmp_path):
     """Whichever thread goes on, and whatever is refused."""
     ran = run_rules(ROOT / "examples/c/monitor.c", tmp_path)
     assert ran.returncode == 0, ran.stdout
+
+
+SET_PIPE_SIZE = 1031   # of Linux, which Python 3.9 does not name
+# How long the guest of machine.c is held until the reader of its output takes some. Afterwards output is dropped.
+A_SECOND = "    end.tv_sec++;\n"
+SAVED = "    save(from, &saved);\n"
+LAST = "    pthread_mutex_lock(&processor); /* the last one"
+AFTERWARDS = "    if (!restore(to, &saved))\n"
+# A move that saves a machine whose guest makes an access, or makes further ones.
+TOO_EARLY = at_least(2, [
+    [(SAVED, ""), (LAST, SAVED + LAST)],
+    [(AFTERWARDS, "    from->is_stopped = false;\n    pthread_create(loop, NULL, event_loop, from);\n"
+      "    pthread_mutex_unlock(&processor);\n    pthread_mutex_unlock(&door);\n    poll(NULL, 0, 200);\n"
+      "    pthread_mutex_lock(&door);\n    pthread_mutex_lock(&processor);\n    pthread_mutex_lock(&from->lock);\n"
+      "    from->is_stopped = true;\n    pthread_mutex_unlock(&from->lock);\n    eventfd_write(from->wake_up, 1);\n"
+      f"    pthread_join(*loop, NULL);\n{AFTERWARDS}")],
+])
+
+
+def came_back(edits, typed, folder):
+    """What a machine sends whose guest is soon held: for a while nobody reads. One that loses an alarm would never end."""
+    machine = (ROOT / "examples/c/machine.c").read_text("utf-8")
+    for old, new in [(A_SECOND, f"    end.tv_sec += {LIMIT};\n"), *edits]:
+        assert machine.count(old) == 1
+        machine = machine.replace(old, new)
+    (folder / "machine.c").write_text(machine, "utf-8")
+    check(["cc", "-I", ROOT / "bindings/c", folder / "machine.c", PREBUILT / f"{platform.machine()}-linux" / STATIC,
+           "-pthread", "-o", folder / "machine"], "")
+    reader, writer = os.pipe()
+    fcntl.fcntl(writer, SET_PIPE_SIZE, 4096)
+    with subprocess.Popen(["timeout", "20", folder / "machine"], stdin=subprocess.PIPE, stdout=writer) as process:
+        os.close(writer)
+        process.stdin.write(typed)
+        process.stdin.close()
+        time.sleep(1)
+        with open(reader, "rb") as output:
+            return output.read()
+
+
+TEXT = b"".join(b"%d, " % number for number in range(5000)) + b"and so on\n"
+ALL = TEXT.upper() + (ROOT / "examples/c/expected").read_bytes().removeprefix(b"HELLO\n")
+
+
+def test_a_machine_moves(tmp_path):
+    """While its guest is held, input waits in the port, and output in the console: each byte comes back once."""
+    assert came_back([], TEXT, tmp_path) == ALL
+
+
+@pytest.mark.parametrize("edits", TOO_EARLY)
+def test_a_machine_that_moves_too_early(edits, tmp_path):
+    assert came_back(edits, TEXT, tmp_path) != ALL
+
+
+def test_a_machine_sleeps(tmp_path):
+    """Its guest until it is interrupted, and its event loop until there is something to do."""
+    check(["cc", "-I", ROOT / "bindings/c", ROOT / "examples/c/machine.c",
+           PREBUILT / f"{platform.machine()}-linux" / STATIC, "-pthread", "-o", tmp_path / "machine"], "")
+    before = resource.getrusage(resource.RUSAGE_CHILDREN)
+    with subprocess.Popen([tmp_path / "machine"], stdin=subprocess.PIPE, stdout=subprocess.DEVNULL) as process:
+        time.sleep(3)
+        process.stdin.write(b"hello\n")
+    after = resource.getrusage(resource.RUSAGE_CHILDREN)
+    assert process.returncode == 0 and after.ru_utime + after.ru_stime - before.ru_utime - before.ru_stime < 0.5

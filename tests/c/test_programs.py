@@ -156,9 +156,12 @@ def test_worlds(compiler, processor, tmp_path):
 def test_threads_of_examples_by_gcc(tmp_path):
     """No thread of an example uses what another one changes without its lock."""
     compiler = "gcc -xc -std=c99 -g -fsanitize=thread"
-    check([*compiler.split(), "-I", ROOT / "bindings/c", ROOT / "examples/c/monitor.c", "-xnone", prebuilt(HOST), "-o",
-           tmp_path / "monitor"], "")
-    check([tmp_path / "monitor"], "3000 bytes came back, 3000 of them in order\n")
+    said = {"monitor": "3000 bytes came back, 3000 of them in order\n",
+            "machine": (ROOT / "examples/c/expected").read_text("ascii")}
+    for name in said:
+        check([*compiler.split(), "-I", ROOT / "bindings/c", ROOT / f"examples/c/{name}.c", "-xnone", prebuilt(HOST), "-o",
+               tmp_path / name], "")
+        check([tmp_path / name], said[name], input="hello\n")
 
 
 @needs_cargo

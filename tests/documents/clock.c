@@ -1,7 +1,7 @@
 /* SPDX-License-Identifier: Apache-2.0 OR BSD-3-Clause */
-/* A machine with the clock of docs/CLOCK.md and the bus of docs/C.md, whose functions stand at FUNCTIONS. After each
- * step the line has to have the level that the clock gives, and the timer has to go off when the alarm is due. The first
- * step after which one of them does not is named, and ends the program with status 1. */
+/* The clock and the bus of machine.c, which stands at MACHINE. After each step the line has to have the level that the
+ * clock gives, and the timer has to go off when the alarm is due. The first step after which one of them does not is
+ * named, and ends the program with status 1. */
 #define _GNU_SOURCE
 #include <poll.h>
 #include <stdio.h>
@@ -22,42 +22,34 @@ static int clock_of_host(clockid_t which, struct timespec *now) {
 }
 #define clock_gettime clock_of_host
 
-enum { COM1 = 0x3F8, CLOCK = 0xD0000, DAY = 86400 };
-enum { RTCMR = 0x004, RTCLR = 0x008, RTCCR = 0x00C, RTCIMSC = 0x010, RTCMIS = 0x018, RTCICR = 0x01C };
+struct machine;
+static void set_clock_line(struct machine *machine, bool is_up);
 
-struct machine {
-    superio_console console;
-    superio_rtc clock;
-    uint64_t now;
-    int timer;
-    int64_t ahead;
-    bool clock_was_up;
-};
+MACHINE
 
-static bool line, is_reset; /* the line, as the interrupt controller has it */
-static int levels;          /* how often it was told one */
+enum { DAY = 86400 };
+
+static bool line;  /* as the interrupt controller has it */
+static int levels; /* how often it was told one */
 
 static void set_clock_line(struct machine *machine, bool is_up) {
-    (void)machine;
+    set_clock_line_of_the_page(machine, is_up);
     line = is_up;
     levels++;
 }
 
-static void carry_out(struct machine *machine, superio_console_work work) {
-    (void)machine;
-    (void)work;
+static void write_word(struct machine *machine, uint16_t offset, uint32_t value) {
+    uint8_t bytes[4];
+    for (int i = 0; i < 4; i++)
+        bytes[i] = (uint8_t)(value >> 8 * i);
+    memory_write(machine, CLOCK + offset, bytes, sizeof bytes);
 }
 
-static void reset(struct machine *machine) {
-    (void)machine;
-    is_reset = true;
+static uint32_t read_word(struct machine *machine, uint16_t offset) {
+    uint8_t bytes[4];
+    memory_read(machine, CLOCK + offset, bytes, sizeof bytes);
+    return (uint32_t)bytes[0] | (uint32_t)bytes[1] << 8 | (uint32_t)bytes[2] << 16 | (uint32_t)bytes[3] << 24;
 }
-
-static bool is_serial(uint16_t port) {
-    return port >= COM1 && port < COM1 + SUPERIO_SERIAL_PORTS;
-}
-
-FUNCTIONS
 
 static void expect(bool holds, const char *step) {
     if (!holds) {
@@ -87,41 +79,77 @@ static bool is_present(uint64_t moment) {
     return moment + SLEPT / 2 > (uint64_t)now.tv_sec && moment <= (uint64_t)now.tv_sec;
 }
 
+static void check_alarm(struct machine *machine) {
+    write_word(machine, RTCIMSC, 1);
+    expect(goes_off_in(machine) == -1 && levels == 0, "no alarm is set");
+    write_word(machine, RTCLR, (uint32_t)machine->now + DAY); /* the guest's time is ahead */
+    uint32_t match = (uint32_t)machine->now + 4 * DAY;
+    write_word(machine, RTCMR, match);
+    expect(goes_off_in_days(machine, 3) && levels == 0, "an alarm is set");
+    write_word(machine, RTCCR, 1);
+    expect(goes_off_in_days(machine, 3), "RTCCR is written");
+    memory_write(machine, CLOCK + RTCLR, (uint8_t[2]){0}, 2);
+    expect(read_word(machine, RTCLR) != 0, "two bytes are written");
+
+    machine->ahead += 3 * DAY; /* as if the days had gone by */
+    take_moment(machine);
+    follow_clock(machine);
+    expect(goes_off_in(machine) == 0 && levels == 0, "the alarm is due");
+    alarm_is_due(machine);
+    expect(goes_off_in(machine) == -1 && line && levels == 1, "the alarm is found");
+    expect(read_word(machine, RTCMIS) == 1 && levels == 1, "RTCMIS is read");
+
+    uint8_t bytes[2] = {0};
+    memory_read(machine, CLOCK + RTCMR + 1, bytes, 1);
+    expect(bytes[0] == (uint8_t)(match >> 8) && bytes[1] == 0, "a byte is read");
+    memory_read(machine, CLOCK + RTCMIS + 3, bytes, 2);
+    expect(bytes[0] == 0xFF && bytes[1] == 0xFF, "two words are read");
+    write_word(machine, RTCICR, 1);
+    expect(goes_off_in(machine) == -1 && !line && levels == 2, "the interrupt is cleared");
+}
+
+static void check_ports(struct machine *machine) {
+    expect(port_read(machine, COM1 + 5) == 0x60 && port_read(machine, 0x61) == 0xFF, "ports are read");
+    expect(port_read(machine, 0x64) == 0, "the controller is read");
+    port_write(machine, 0x164, 0xFE);
+    expect(!machine->is_reset, "no device is written");
+    port_write(machine, COM1 + 7, 0x5A);
+    expect(port_read(machine, COM1 + 7) == 0x5A, "the port is written");
+    port_write(machine, 0x64, 0xFE);
+    expect(machine->is_reset && port_read(machine, COM1 + 7) == 0x5A, "the machine is reset");
+    end_access(machine);
+    expect(!machine->is_reset && port_read(machine, COM1 + 7) == 0, "the access ends");
+}
+
+/* Restores a machine whose alarm is due in a day, and whose last moment is so many seconds after the time of day. Returns
+ * how many seconds the first moment is after it. */
+static int64_t restored(struct machine *machine, int64_t ahead, const char *step) {
+    static struct snapshot saved;
+    static struct machine other;
+    int64_t timer, today = seconds(CLOCK_REALTIME);
+    write_word(machine, RTCMR, read_word(machine, 0) + DAY);
+    save(machine, &saved);
+    saved.now = (uint64_t)(today + ahead);
+    open_machine(&other, STDIN_FILENO, STDOUT_FILENO);
+    levels = 0;
+    expect(restore(&other, &saved), step);
+    timer = goes_off_in(&other);
+    expect(levels == 1 && !line && timer != -1, "the clock is restored");
+    return (int64_t)other.now - today;
+}
+
+static bool is_about(int64_t number, int64_t other) {
+    return number >= other && number < other + DAY / 2;
+}
+
 int main(void) {
-    struct machine machine = {0};
-    superio_console_new(&machine.console, false);
-    open_clock(&machine);
+    static struct machine machine;
+    open_machine(&machine, STDIN_FILENO, STDOUT_FILENO);
     take_moment(&machine);
     expect(is_present(machine.now), "the clock is opened");
-
-    memory_write(&machine, CLOCK + RTCIMSC, 1);
-    expect(goes_off_in(&machine) == -1 && levels == 0, "no alarm is set");
-    memory_write(&machine, CLOCK + RTCLR, (uint32_t)machine.now + DAY); /* the guest's time is ahead */
-    uint32_t match = (uint32_t)machine.now + 4 * DAY;
-    memory_write(&machine, CLOCK + RTCMR, match);
-    expect(goes_off_in_days(&machine, 3) && levels == 0, "an alarm is set");
-    memory_write(&machine, CLOCK + RTCCR, 1);
-    expect(goes_off_in_days(&machine, 3), "RTCCR is written");
-
-    machine.ahead += 3 * DAY; /* as if the days had gone by */
-    take_moment(&machine);
-    follow_clock(&machine);
-    expect(goes_off_in(&machine) == 0 && levels == 0, "the alarm is due");
-    alarm_is_due(&machine);
-    expect(goes_off_in(&machine) == -1 && line && levels == 1, "the alarm is found");
-    expect(memory_read(&machine, CLOCK + RTCMIS, 4) == 1 && levels == 1, "RTCMIS is read");
-    memory_write(&machine, CLOCK + RTCICR, 1);
-    expect(goes_off_in(&machine) == -1 && !line && levels == 2, "the interrupt is cleared");
-
-    expect((uint8_t)memory_read(&machine, CLOCK + RTCMR + 1, 1) == (uint8_t)(match >> 8), "a byte is read");
-    expect(memory_read(&machine, CLOCK + RTCMIS + 3, 2) == UINT64_MAX, "two words are read");
-    expect(port_read(&machine, COM1 + 5) == 0x60 && port_read(&machine, 0x61) == 0xFF, "ports are read");
-    expect(port_read(&machine, 0x64) == 0, "the controller is read");
-    port_write(&machine, 0x164, 0xFE);
-    expect(!is_reset, "no device is written");
-    port_write(&machine, COM1 + 7, 0x5A);
-    expect(port_read(&machine, COM1 + 7) == 0x5A, "the port is written");
-    port_write(&machine, 0x64, 0xFE);
-    expect(is_reset, "the machine is reset");
+    check_alarm(&machine);
+    check_ports(&machine);
+    expect(is_about(restored(&machine, 2 * DAY, "a load"), 2 * DAY), "the time of day is behind");
+    expect(is_about(restored(&machine, -2 * DAY, "a load"), 0), "the time of day is ahead");
     puts("each step is right");
 }

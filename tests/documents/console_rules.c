@@ -1,8 +1,9 @@
 /* SPDX-License-Identifier: Apache-2.0 OR BSD-3-Clause */
 /* Watches the program of docs/C.md: the linker gives its calls to this file, by its option --wrap. The interrupt line
- * refuses each third edge. The reader takes nothing until the guest is held. Each second hold ends by its time: then it
- * takes nothing until output was dropped. So nothing depends on how busy the host is. The first rule of
- * superio.h that is broken ends the program with status 3, and is named. The last line says what has happened. */
+ * refuses each third edge. The reader takes nothing until the guest is held. Of three holds one ends by its time: then it
+ * takes nothing until output was dropped. Another ends by its time just as there is room. So nothing depends on how busy
+ * the host is. The first rule of superio.h that is broken ends the program with status 3, and is named. The last line says
+ * what has happened. */
 #define _GNU_SOURCE
 #include <errno.h>
 #include <poll.h>
@@ -41,7 +42,7 @@ static int irq = -1, wake_up = -1;
 static int edges_left;       /* to be raised for the last call */
 static bool is_refused;      /* the last edge, which nobody has told the console */
 static bool has_to_wake;     /* the guest, before it releases the lock */
-static bool is_full, is_held, is_stuck, has_to_tell;
+static bool is_full, is_held, is_stuck, has_to_tell, has_room_late;
 static size_t not_received, not_consumed;
 static uint64_t dropped;     /* when the guest was held in vain */
 static long edges, refusals, holds;
@@ -89,6 +90,7 @@ int __wrap_pthread_mutex_lock(pthread_mutex_t *mutex) {
 }
 
 int __wrap_pthread_mutex_unlock(pthread_mutex_t *mutex) {
+    need(is_loop || !is_full || is_stuck || !has_room_late, "a guest is not held, since its time ended as there was room");
     need(is_loop || !is_full || is_stuck, "a guest is not held");
     release();
     if (!is_loop)
@@ -112,7 +114,7 @@ int __wrap_pthread_cond_timedwait(pthread_cond_t *condition, pthread_mutex_t *mu
     need(is_monotonic, "a limit is by a clock that can be set");
     need(end && is_full && !is_stuck, "a guest is held for nothing");
     release();
-    if (++holds % 2 == 0) {
+    if (++holds % 3 == 0) {
         has_lock = is_stuck = true;
         dropped = watched->dropped;
         return ETIMEDOUT;
@@ -121,7 +123,8 @@ int __wrap_pthread_cond_timedwait(pthread_cond_t *condition, pthread_mutex_t *mu
     int result = pthread_cond_wait(condition, mutex);
     has_lock = true;
     is_held = false;
-    return result;
+    has_room_late = holds % 3 == 1;
+    return has_room_late ? ETIMEDOUT : result;
 }
 
 int __wrap_pthread_cond_broadcast(pthread_cond_t *condition) {

@@ -1,8 +1,10 @@
 /* SPDX-License-Identifier: Apache-2.0 OR BSD-3-Clause */
-/* Lets reads and writes of the program of docs/C.md fail: the linker gives its calls to this file, by its option --wrap.
+/* Lets reads and writes of a program fail, that of docs/C.md or machine.c: the linker gives its calls to this file, by its
+ * option --wrap.
  * READ_ERROR is how the input fails, or 0 for its end, and WRITE_ERROR how the output fails. A file that only is not
- * ready has to be polled again, output that nobody can take has to be dropped, and input that is over has to be polled
- * no more. The first rule that is broken ends the program with status 3, and is named. */
+ * ready has to be polled again, and so does one whose read or write a signal has ended. Output that nobody can take has
+ * to be dropped, and input that is over has to be polled no more. The first rule that is broken ends the program with
+ * status 3, and is named. */
 #include <errno.h>
 #include <poll.h>
 #include <stdbool.h>
@@ -12,11 +14,12 @@
 
 int __real_poll(struct pollfd *files, nfds_t count, int timeout);
 
-enum { INPUT = 1, OUTPUT = 2, BYTE = -1, COUNT = 5 };
+enum { INPUT = 1, OUTPUT = 2, BYTE = -1, COUNT = 7 };
 /* What the event loop finds ready, and how the read or write ends. The byte is the only one that the guest sends back. */
 static const struct {
     int file, end;
-} STEPS[COUNT] = {{INPUT, EAGAIN}, {INPUT, BYTE}, {OUTPUT, EAGAIN}, {OUTPUT, WRITE_ERROR}, {INPUT, READ_ERROR}};
+} STEPS[COUNT] = {{INPUT, EAGAIN}, {INPUT, EINTR}, {INPUT, BYTE}, {OUTPUT, EAGAIN}, {OUTPUT, EINTR}, {OUTPUT, WRITE_ERROR},
+                  {INPUT, READ_ERROR}};
 static size_t step; /* the next one */
 
 static void need(bool is_kept, const char *rule) {
@@ -30,7 +33,7 @@ static void need(bool is_kept, const char *rule) {
 /* After a step, its file is polled or not. */
 static void look(const struct pollfd *files) {
     int file = STEPS[step - 1].file, end = STEPS[step - 1].end;
-    if (end == EAGAIN)
+    if (end == EAGAIN || end == EINTR)
         need(files[file].fd >= 0, "a file is not ready, and polled no more");
     else if (file == OUTPUT)
         need(files[file].fd < 0, "output is kept that nobody can take");
@@ -45,7 +48,7 @@ static void look(const struct pollfd *files) {
 
 int __wrap_poll(struct pollfd *files, nfds_t count, int timeout) {
     static size_t looked;
-    if (count == 1) /* the guest's */
+    if (count <= 1) /* the guest's */
         return __real_poll(files, count, timeout);
     if (looked < step)
         look(files);

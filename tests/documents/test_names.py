@@ -31,11 +31,12 @@ FILE = re.compile(r"(?<![\w/.~$:*-])(?:\.{1,2}/)*(?!\.{1,2}/)([\w.-]+(?:/[\w.-]+
 WORD = re.compile(r"(?<!\S)--[\w-]+|\b[^\W\d]\w{3,}\b")
 # Code that is not read: commands of the kit, options and settings of other programs, and what is built.
 UNREAD = re.compile(r"^rt |^rattle-kit-|^-|\w=\w|\bout/")
-# What the documents name besides, and no source has: names of other programs and of device trees, and digits to fill in.
+# What the documents name besides, and no source has: names of other programs, of KVM and of device trees, and digits to
+# fill in.
 ELSEWHERE = set("""
     --add-architecture apb_pclk armhf bazel compatible CONFIG_SERIAL_8250_16550A_VARIANTS devscripts eh_frame frequency
-    IAPC_BOOT_ARCH KVM_IRQFD_FLAG_RESAMPLE libsuperioN linear NNNNNNNNNNNNNNNN --no-isolation nodejs ns16550a primecell
-    typescript xzcat""".split())
+    IAPC_BOOT_ARCH immediate_exit KVM_GET_IRQCHIP KVM_IRQFD_FLAG_RESAMPLE libsuperioN linear NNNNNNNNNNNNNNNN
+    --no-isolation nodejs ns16550a primecell typescript xzcat""".split())
 
 
 class Sources:

@@ -73,7 +73,13 @@ READY_IN_RUST = "    monitor.write_access(1, 0x01);"
 PROBE_IN_RUST = """    monitor.write_access(1, 0x0F);
     assert_eq!(monitor.console.lock().unwrap().wants().input, 0);
 """
-SET_LINE = "static void set_line(bool is_up) { if (is_up) eventfd_write(irq, 1); }\n"
+# What tells the controller a level, in the lines for one in C. And one that tells what the line got, for accesses.c.
+SET_LINE = """static void set_line(bool is_up) {
+    if (is_up)
+        eventfd_write(irq, 1);
+}
+"""
+SET_BOTH = "static void set_line(bool is_up) { eventfd_write(irq, is_up ? 2 : 1); }\n"
 
 
 def code(document, language, of=""):
@@ -98,7 +104,7 @@ def program_for(line):
     """The program of docs/C.md, with its lines for such an interrupt line, or for a loader that polls."""
     place, lines = {"edges": (WRITE, r"\g<0>"),
                     "edges that get lost": (WRITE, code("docs/C.md", "c", "bool wakes")),
-                    "levels": (INTERRUPT, SET_LINE + code("docs/C.md", "c", "set_line")),
+                    "levels": (INTERRUPT, code("docs/C.md", "c", "set_line")),
                     "a loader that polls": (WRITE, rf"\g<0>{code('docs/C.md', 'c', 'set_polled')}")}[line]
     program, count = place.subn(lines, code("docs/C.md", "c", "int main"))
     assert count == 1
@@ -168,13 +174,14 @@ WATCH = ROOT / "tests" / "documents" / "console_rules.c"
 WRAPPED = [f"-Wl,--wrap={name}" for name in sorted({*re.findall(r"__wrap_(\w+)", WATCH.read_text(encoding="utf-8"))})]
 MANY = "the quick brown fox " * 2_000 + "\n"   # several times what waits as output
 # A rule that a monitor breaks, by an edit of the program of the page.
-FORGETFUL = at_least(12, {
+FORGETFUL = at_least(13, {
     "a refusal is not told": ("return superio_console_refuse(&console).wakes || work.wakes;", "break;"),
     "an edge is not raised": ("i < work.interrupts", "i + 1 < work.interrupts"),
     "an edge is raised that nobody asks for": ("i < work.interrupts", "i < work.is_up"),
     "the loop is not woken": (".wakes || work.wakes;", ".wakes;"),
     "the loop is woken for nothing": ("if (interrupt(done.work))", "if (interrupt(done.work) || offset == 5)"),
     "a guest is not held": ("                is_stuck = false;\n", ""),
+    "a guest is not held, since its time ended as there was room": (" && superio_console_is_full(&console);", ";"),
     "a guest is held for nothing": ("(&console) && !is_stuck)", "(&console))"),
     "a guest that is held is not told of room": ("pthread_cond_broadcast(&has_room);", ""),
     "there is not one turn between two polls": ("interrupt(superio_console_turn(&console));",
@@ -216,15 +223,21 @@ def test_an_event_loop_that_breaks_a_rule(rule, edit, tmp_path):
 
 # How the input and the output fail. 0 is the end of the input.
 FAILURES = [("0", "EPIPE"), ("EIO", "ENOSPC")]
-# Rules of files, each with a failure and an edit of the program of the page that breaks it.
-FORGETFUL_OF_FILES = at_least(5, [
-    ("a file is not ready, and polled no more", FAILURES[0], "count == 0 || errno != EAGAIN", "count <= 0"),
-    ("a file is not ready, and polled no more", FAILURES[0], "count < 0 && errno != EAGAIN", "count < 0"),
+NO_INPUT, NO_OUTPUT = "count == 0 || (errno != EAGAIN && errno != EINTR)", "count < 0 && errno != EAGAIN && errno != EINTR"
+# Rules of files, each with a failure and an edit of a program that breaks it.
+FORGETFUL_OF_FILES = at_least(8, [
+    ("a file is not ready, and polled no more", FAILURES[0], NO_INPUT, "count == 0 || errno != EINTR"),
+    ("a file is not ready, and polled no more", FAILURES[0], NO_INPUT, "count == 0 || errno != EAGAIN"),
+    ("a file is not ready, and polled no more", FAILURES[0], NO_OUTPUT, "count < 0 && errno != EINTR"),
+    ("a file is not ready, and polled no more", FAILURES[0], NO_OUTPUT, "count < 0 && errno != EAGAIN"),
     ("output is kept that nobody can take", FAILURES[0], "count = (ssize_t)waiting;", "count = 0;"),
-    ("output is kept that nobody can take", FAILURES[1], "count < 0 && errno != EAGAIN", "count < 0 && errno == EPIPE"),
-    ("input is over, and polled again", FAILURES[0], "count == 0 || errno != EAGAIN", "count < 0 && errno != EAGAIN"),
-    ("input is over, and polled again", FAILURES[1], "input = -1;", "input = count < 0 ? input : -1;"),
+    ("output is kept that nobody can take", FAILURES[1], NO_OUTPUT, "count < 0 && errno == EPIPE"),
+    ("input is over, and polled again", FAILURES[0], NO_INPUT, "count < 0 && errno != EAGAIN && errno != EINTR"),
+    ("input is over, and polled again", FAILURES[1], NO_INPUT, "count == 0"),
 ])
+# The programs whose event loops meet failures.
+WITH_FILES = {"console": code("docs/C.md", "c", "int main"),
+              "machine": (ROOT / "examples/c/machine.c").read_text(encoding="utf-8")}
 
 
 def said_of_files(program, failure, folder):
@@ -238,17 +251,18 @@ def said_of_files(program, failure, folder):
 
 @pytest.mark.needs("cc")
 @pytest.mark.parametrize("failure", FAILURES)
-def test_files_that_fail(failure, tmp_path):
+@pytest.mark.parametrize("program", WITH_FILES)
+def test_files_that_fail(program, failure, tmp_path):
     """The event loop goes on without a file that has failed for good, and with one that is not ready."""
-    assert said_of_files(code("docs/C.md", "c", "int main"), failure, tmp_path) == "each rule is kept\n"
+    assert said_of_files(WITH_FILES[program], failure, tmp_path) == "each rule is kept\n"
 
 
 @pytest.mark.needs("cc")
 @pytest.mark.parametrize("rule, failure, old, new", FORGETFUL_OF_FILES)
-def test_an_event_loop_that_breaks_a_rule_of_files(rule, failure, old, new, tmp_path):
-    program = code("docs/C.md", "c", "int main")
-    assert program.count(old) == 1
-    assert said_of_files(program.replace(old, new), failure, tmp_path) == f"{rule}\n"
+@pytest.mark.parametrize("program", WITH_FILES)
+def test_an_event_loop_that_breaks_a_rule_of_files(program, rule, failure, old, new, tmp_path):
+    assert WITH_FILES[program].count(old) == 1
+    assert said_of_files(WITH_FILES[program].replace(old, new), failure, tmp_path) == f"{rule}\n"
 
 
 # Beside the programs, how accesses.c names the lines in them.
@@ -272,7 +286,8 @@ OTHER_ACCESSES = at_least(8, [
 def accesses(line, program, folder):
     """What accesses.c says of the accesses of a program."""
     program = program.replace("int main(", "int main_of_the_page(")
-    program = program.replace(SET_LINE, "static void set_line(bool is_up) { eventfd_write(irq, is_up ? 2 : 1); }\n")
+    assert (line == "levels") == (SET_LINE in program)
+    program = program.replace(SET_LINE, SET_BOTH)
     program += (ROOT / "tests/documents/accesses.c").read_text(encoding="utf-8")
     flags = [f"-D{name}={int(own == line)}" for own, name in ACCESSES.items() if name]
     compile_c(folder, "accesses", program, *flags, LIBRARY, "-pthread", "-o", "accesses")
@@ -294,47 +309,60 @@ def test_other_accesses(line, old, new, said, tmp_path):
     assert accesses(line, program.replace(old, new), tmp_path) == f"{said}\n"
 
 
-# Edits of the functions of docs/CLOCK.md and docs/C.md, and the first step of clock.c that goes wrong.
-OTHER_CLOCKS = at_least(8, [
+# Edits of machine.c, and the first step of clock.c that goes wrong.
+OTHER_CLOCKS = at_least(12, [
     ("if (due != SUPERIO_RTC_NEVER)\n", "if (due != 0)\n", "no alarm is set"),
-    ("seconds(CLOCK_REALTIME)", "seconds(CLOCK_MONOTONIC)", "the clock is opened"),
-    ("- seconds(CLOCK_BOOTTIME);", "- seconds(CLOCK_MONOTONIC);", "the clock is opened"),
+    ("seconds(CLOCK_REALTIME) - seconds(CLOCK_BOOTTIME);", "seconds(CLOCK_MONOTONIC) - seconds(CLOCK_BOOTTIME);",
+     "the clock is opened"),
+    ("seconds(CLOCK_REALTIME) - seconds(CLOCK_BOOTTIME);", "seconds(CLOCK_REALTIME) - seconds(CLOCK_MONOTONIC);",
+     "the clock is opened"),
     ("(seconds(CLOCK_BOOTTIME) + machine->ahead)", "seconds(CLOCK_BOOTTIME)", "the clock is opened"),
     ("(machine->now + due)", "due", "an alarm is set"),
     (" - machine->ahead", "", "an alarm is set"),
     ("TFD_TIMER_ABSTIME", "0", "an alarm is set"),
-    ("offset != 0x00C", "offset != 0x100", "RTCCR is written"),
+    ("address - CLOCK == RTCCR", "address - CLOCK == 0x100", "RTCCR is written"),
     ("if (is_up != machine->clock_was_up)\n", "", "no alarm is set"),
     ("machine->clock_was_up = is_up;", "(void)is_up;", "RTCMIS is read"),
-    ("return value >> 8 * within;", "return value;", "a byte is read"),
+    ("value >> 8 * (within + i)", "value >> 8 * i", "a byte is read"),
     ("within + count > 4", "within + count > 8", "two words are read"),
+    ("count != 4", "count < 2", "two bytes are written"),
     ("(uint8_t)(port - COM1), value)", "0, value)", "the port is written"),
+    ("is_reset = true;", "is_reset = false;", "the machine is reset"),
+    ("host ? moment : host)", "host ? host : moment)", "the time of day is behind"),
+    ("> host ? moment : host)", "> 0 ? moment : host)", "the time of day is ahead"),
+    ("        follow_clock_again(machine);\n    }\n    pthread", "    }\n    pthread", "the clock is restored"),
 ])
+MACHINE = WITH_FILES["machine"]
 
 
-def clock(functions, folder):
-    """What clock.c says of the functions."""
+def clock(machine, folder):
+    """What clock.c says of a file machine.c."""
     program = (ROOT / "tests/documents/clock.c").read_text(encoding="utf-8")
-    assert program.count("FUNCTIONS\n\n") == 1
-    compile_c(folder, "clock", program.replace("FUNCTIONS\n", functions), LIBRARY, "-o", "clock")
+    machine = edited(machine, [("int main(", "int main_of_the_page("),
+                               ("static void set_clock_line(", "static void set_clock_line_of_the_page(")])
+    compile_c(folder, "clock", edited(program, [("MACHINE\n\n", machine)]), LIBRARY, "-pthread", "-o", "clock")
     return run([folder / "clock"]).stdout
-
-
-def clock_functions():
-    return code("docs/CLOCK.md", "c") + code("docs/C.md", "c", "static void port_write")
 
 
 @pytest.mark.needs("cc")
 def test_clock(tmp_path):
     """The guest's accesses reach the devices, and the clock's line and timer follow."""
-    assert clock(clock_functions(), tmp_path) == "each step is right\n"
+    assert clock(MACHINE, tmp_path) == "each step is right\n"
 
 
 @pytest.mark.needs("cc")
 @pytest.mark.parametrize("old, new, said", OTHER_CLOCKS)
 def test_other_clocks(old, new, said, tmp_path):
-    assert clock_functions().count(old) == 1
-    assert clock(clock_functions().replace(old, new), tmp_path) == f"{said}\n"
+    assert clock(edited(MACHINE, [(old, new)]), tmp_path) == f"{said}\n"
+
+
+@pytest.mark.parametrize("document, of", at_least(6, [
+    ("docs/C.md", "static void port_write"), *(("docs/CLOCK.md", of) for of in ("take_moment(struct", "files[3]", "memory_read")),
+    *(("docs/SNAPSHOTS.md", of) for of in ("static void save(", "static bool restore("))]))
+def test_code_of_the_machine(document, of):
+    """The pages show machine.c as it stands: each part of a block between two empty lines is in it."""
+    for part in code(document, "c", of).strip("\n").split("\n\n"):
+        assert f"\n{part}\n" in MACHINE, part
 
 
 @pytest.mark.needs("cc")
@@ -345,8 +373,8 @@ def test_commands(tmp_path):
     assert shown == code("docs/C.md", "c", "int main")
     for name in ["bindings", "examples", "prebuilt", "rust"]:
         (tmp_path / name).symlink_to(ROOT / name)
-    [commands] = [block.commands for block in Document("docs/C.md").blocks if block.commands]
-    for command, printed in commands:
+    commands = [command for block in Document("docs/C.md").blocks for command in block.commands]
+    for command, printed in at_least(4, commands):
         check(["bash", "-c", command], printed, cwd=tmp_path)
 
 
