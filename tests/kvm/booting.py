@@ -25,9 +25,9 @@ SOURCES = ["bindings/c/superio.h", "rust/vm-superio/src", "rust/superio/src", "c
            "crates/superio_console/src", "crates/superio_core/src", "examples/kvm", "prebuilt/SHA256SUMS",
            "tests/kvm/booting.py", "tests/kvm/monitors.py", "tests/kvm/serial", "tests/kvm/test_linux.py",
            "tests/kvm/timeout.c"]
-WORDS = "console=ttyS0 reboot=k panic=1 loglevel=1 mitigations=off initcall_blacklist=i8042_init"
+WORDS = "console=ttyS0 reboot=k panic=1 loglevel=0 mitigations=off initcall_blacklist=i8042_init"
 QEMU = ["qemu-system-x86_64", "-accel", "tcg", "-cpu", "EPYC,+svm,+npt,-x2apic", "-m", "768", "-nodefaults",
-        "-nographic", "-no-reboot", "-append", "console=ttyS0 quiet mitigations=off panic=1"]
+        "-nographic", "-no-reboot", "-append", "console=ttyS0 quiet loglevel=0 mitigations=off panic=1"]
 MODULES = ["irqbypass", "kvm", "kvm-amd", "virtio_ring", "virtio", "virtio_pci_legacy_dev", "virtio_pci_modern_dev",
            "virtio_pci", "virtio_console"]
 # The host in QEMU: each line that comes in names a monitor, which then has the connection until it ends.

@@ -21,8 +21,8 @@ from generators.facts_of_tests import REFUSED, TEMPLATES, made_of, refused
 MODULE = "bindings/python/superio/_facts.py"
 # The pages with parts of their own, and those that only list the devices.
 PAGES = ["docs/DEVICES.md", "docs/DIFFERENCES.md", "docs/SAVED-STATES.md"]
-READMES = [f"{folder}/README.md" for folder in ("bindings/c/from-source", "bindings/js", "bindings/python",
-                                                "rust/superio")]
+READMES = ["README.md", *(f"{folder}/README.md" for folder in ("bindings/c/from-source", "bindings/js",
+                                                               "bindings/python", "rust/superio"))]
 MARK = re.compile(r"(?<=^<!-- Made by tools/generate from interface\.toml: )(.+)( -->\n\n)(?:.+\n)+", re.M)
 
 PRINTED = '            SavedStateError::{case}[(_)] => f.write_str("{text}"),'
