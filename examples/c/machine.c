@@ -303,9 +303,11 @@ static void save(struct machine *machine, struct snapshot *saved) {
  * not run yet. Returns false if the snapshot is refused. */
 static bool restore(struct machine *machine, const struct snapshot *saved) {
     pthread_mutex_lock(&machine->lock);
-    bool is_good = superio_console_load(&machine->console, saved->console, saved->count) == SUPERIO_LOAD_OK
-                   && superio_rtc_load(&machine->clock, saved->clock, sizeof saved->clock) == SUPERIO_LOAD_OK;
+    superio_rtc clock; /* what is refused changes nothing */
+    bool is_good = superio_rtc_load(&clock, saved->clock, sizeof saved->clock) == SUPERIO_LOAD_OK
+                   && superio_console_load(&machine->console, saved->console, saved->count) == SUPERIO_LOAD_OK;
     if (is_good) {
+        machine->clock = clock;
         interrupt(machine, superio_console_refuse(&machine->console)); /* what was raised before may be lost */
         interrupt(machine, superio_console_turn(&machine->console));
         int64_t moment = (int64_t)saved->now, host = seconds(CLOCK_REALTIME);
