@@ -1,6 +1,7 @@
 # SPDX-License-Identifier: Apache-2.0 OR BSD-3-Clause
 """What compares in tests sees what differs in the last place only: helpers, programs that replay calls, and tests of
 files that a command makes."""
+import ctypes
 import json
 import os
 import re
@@ -32,7 +33,7 @@ from every_function import calls_of_functions, encoded_call, functions_in_c
 from generators import counts
 from generators.libraries import replace_lines
 from harness import LIMIT, ROOT, at_least, check, run
-from random_calls import random_calls
+from random_calls import GUARD, Place, random_calls
 from recorded import difference, recordings
 from script_tests import Script
 from seeds import random_source, seeds
@@ -135,6 +136,24 @@ def test_replies_of_a_board():
     test_boards.assert_replies(test)
     for other in altered(test.replies):
         assert refuses(test_boards.assert_replies, test._replace(replies=other)), other
+
+
+@pytest.mark.parametrize("size", [0, 1, 50])
+def test_guards_of_a_place(size):
+    """A byte that a call writes beside what a pointer leads to is seen: the first and the last on either side."""
+    for at in (-GUARD, -1, size, size + GUARD - 1, None):
+        place = Place(random_source("a place"), bytes(size))
+        if at is not None:
+            ctypes.c_uint8.from_address(place.pointer + at).value ^= 1
+        assert place.is_guarded() == (at is None) and place.content() == place.content_before(), at
+
+
+@pytest.mark.parametrize("place", range(3))
+def test_content_of_a_place(place):
+    """And one within it: the first, another or the last."""
+    found = Place(random_source("a place"), bytes(3))
+    ctypes.c_uint8.from_address(found.pointer + place).value ^= 1
+    assert found.is_guarded() and found.content() != found.content_before()
 
 
 # Where random searches begin
