@@ -12,7 +12,9 @@ cross compilers and qemu's user mode.
   driver breaks a rule.
 - worlds.c has guests and event loops around consoles, and consoles of any bytes.
 """
+import os
 import re
+import shutil
 from pathlib import Path
 
 import pytest
@@ -22,7 +24,7 @@ from common.seed import seed
 from console import random_runs
 from every_function import calls_of_functions, functions_in_c
 from generators.libraries import STATIC
-from harness import ROOT, at_least, check
+from harness import ROOT, at_least, check, run
 from made import every_load
 from recorded import every_answer, random_recorded, recording_of, recordings
 from script import line_of, replies_of
@@ -186,3 +188,34 @@ def test_examples_from_source(compiler, processor, from_source, tmp_path):
 @pytest.mark.parametrize("compiler, processor", in_c(SOURCE))
 def test_worlds_from_source(compiler, processor, from_source, tmp_path):
     make_worlds(compiler, processor, from_source(processor), tmp_path)
+
+
+# What a program prints in place of one that tests/c/Makefile runs. The one that ENDS names ends badly after it, and the
+# one that SAYS names prints a line more.
+RAN = """#!/bin/sh
+name=$(basename "$1")
+case $name in
+paste) echo '1000 bytes in 16 pieces, 1000 of them in order' ;;
+monitor) echo '3000 bytes came back, 3000 of them in order' ;;
+machine) cat {0}/examples/c/expected ;;
+demo) cat {0}/tests/c/demo.txt ;;
+esac
+[ "$name" != "$SAYS" ] || echo more
+[ "$name" != "$ENDS" ] || exit 3
+"""
+RUN_BY_MAKE = re.findall(r"\$\(RUN\) \$\(OUT\)/(\w+)", (ROOT / "tests/c/Makefile").read_text("ascii"))
+
+
+@needs_make
+@pytest.mark.parametrize("name", [None, *at_least(8, RUN_BY_MAKE)])
+def test_a_program_that_ends_badly(name, tmp_path):
+    """So does `make`, whatever the program has printed before. A text that is compared has no line more, either."""
+    (tmp_path / "run").write_text(RAN.format(ROOT), "ascii")
+    (tmp_path / "run").chmod(0o755)
+    (tmp_path / "each").touch()
+
+    def make(**told):
+        words = [f"CC={shutil.which('true')}", f"RUN={tmp_path / 'run'}", f"OUT={tmp_path}", "test", "functions"]
+        return run(["make", "-s", "-C", ROOT / "tests/c", *words], env={**os.environ, **told}).returncode
+    assert (make(ENDS=name or "") == 0) == (name is None)
+    assert (make(SAYS=name or "") == 0) == (name not in ("machine", "demo"))

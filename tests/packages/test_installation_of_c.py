@@ -6,6 +6,7 @@ libraries that are not there are refused before anything is written. `make insta
 for CMake and Meson, find what `make install` installs. Each goal that checks fails if what it checks is wrong, at the
 last place too.
 """
+import os
 import platform
 import re
 
@@ -97,6 +98,31 @@ def test_other_libraries_are_refused(goal, names, tmp_path):
     ran = run(["make", "-s", goal, f"DESTDIR={tmp_path / 'a tree'}", where], cwd=ROOT)
     assert ran.returncode and "does not have one static and one shared library" in ran.stdout
     assert not (tmp_path / "a tree").exists()
+
+
+# In place of the make that tests a library: it says which, and ends so.
+TESTED = """#!/bin/sh
+for word; do case $word in LIBRARY=*) cd tests/c && realpath "${word#LIBRARY=}" ;; esac; done
+exit $STATUS
+"""
+
+
+@pytest.mark.parametrize("status", [0, 1])
+@pytest.mark.parametrize("named", [*sorted(TARGETS), None])
+def test_the_library_that_is_named_is_tested(named, status, tmp_path):
+    """The one of a processor, or of a folder, although `prebuilt` has one too. The goal fails if a test of it does."""
+    folder = PREBUILT / named if named else tmp_path / "other libraries"
+    if not named:
+        folder.mkdir()
+        for name in (STATIC, SHARED):
+            (folder / name).write_bytes((LIBRARIES / name).read_bytes())
+    (tmp_path / "make").write_text(TESTED, encoding="ascii")
+    (tmp_path / "make").chmod(0o755)
+    where = f"TARGET={named}" if named else f"LIBRARIES={folder}"
+    ran = run(["make", "-s", "check-library", where, f"MAKE={tmp_path / 'make'}"], cwd=ROOT,
+              env={**os.environ, "STATUS": str(status)})
+    assert ran.stdout.startswith(f"{folder / STATIC}\n") and (ran.returncode == 0) == (status == 0), ran.stdout
+    assert ("all tests passed" in ran.stdout) == (status == 0)
 
 
 def test_what_to_do_without_libraries():

@@ -6,6 +6,7 @@ One table has what each field is. Versions, licenses and the oldest Rust stand o
 """
 import configparser
 import json
+import os
 import re
 import tomllib
 
@@ -259,3 +260,29 @@ def test_rules_refuse_other_functions():
     """A build fails if the library shows a function that debian/libsuperio*.symbols lacks, or lacks one that is there."""
     assert run(["make", "-n", "-f", "debian/rules", "override_dh_makeshlibs"], cwd=ROOT).stdout.splitlines()[-1] \
         == "dh_makeshlibs -- -c4"
+
+
+# In place of a compiler: it makes a program that keeps the calls which it reads, and ends so.
+COMPILER = """#!/bin/sh -e
+while [ "$1" != -o ]; do shift; done
+printf '#!/bin/sh\\ncat > read\\nexit %s\\n' "$STATUS" > "$2"
+chmod +x "$2"
+"""
+
+
+@pytest.mark.needs("debian")
+@pytest.mark.parametrize("status", [0, 1, 3])
+def test_a_build_makes_each_call(status, tmp_path):
+    """Of each file whose calls tests/c/Makefile makes too, and it fails if one does something else."""
+    (tmp_path / "debian/build").mkdir(parents=True)
+    (tmp_path / "tests").symlink_to(ROOT / "tests")
+    (tmp_path / "cc").write_text(COMPILER, encoding="ascii")
+    (tmp_path / "cc").chmod(0o755)
+    ran = run(["make", "-C", tmp_path, "-f", ROOT / "debian/rules", "override_dh_auto_test", f"CC={tmp_path / 'cc'}"],
+              env={**{name: value for name, value in os.environ.items() if name != "DEB_BUILD_OPTIONS"},
+                   "STATUS": str(status)})
+    assert (ran.returncode == 0) == (status == 0), ran.stdout
+    [named] = re.findall(r"^CALLS = (.*?) \$", contents("tests/c/Makefile"), re.M)
+    texts = [contents(f"tests/c/{name}") for name in at_least(3, named.split())]
+    texts += [path.read_text("utf-8") for path in at_least(2, sorted((ROOT / "tests/data/calls").glob("*.txt")))]
+    assert not [text[:80] for text in texts if text not in (tmp_path / "read").read_text("utf-8")]

@@ -6,9 +6,11 @@ processors.
 import fcntl
 import random
 import re
+import shutil
 import sys
 from pathlib import Path
 
+import common.cargo
 import pytest
 from common.cargo import DROP_IN, DEVICES, Cargo, add_crate, copied_crate
 from common.comparison import ORIGINAL, Comparison
@@ -48,6 +50,31 @@ def oldest():
 def test_erased():
     """The devices are what tools/erase makes of the proved source."""
     check([sys.executable, ROOT / "tools" / "erase", "--check"])
+
+
+# What a user's own run of Cargo leaves in a crate, of which another would build something else, or nothing.
+LEFT_BY_CARGO = ["Cargo.lock", "target/release/deps/made", "target/.rustc_info.json"]
+
+
+def files_in(folder):
+    return {path.relative_to(folder).as_posix() for path in folder.rglob("*") if path.is_file()}
+
+
+@CRATES
+def test_a_copy_of_a_crate(crate, tmp_path, monkeypatch):
+    """It has each file of the crate, and of the devices beside it, and nothing that Cargo left there."""
+    source, wanted = tmp_path / "source", {}
+    for path in (DEVICES, DROP_IN):
+        shutil.copytree(path, source / path.name, ignore=shutil.ignore_patterns("target", "Cargo.lock"))
+        wanted[path] = files_in(source / path.name)
+        for name in LEFT_BY_CARGO:
+            (source / path.name / name).parent.mkdir(parents=True, exist_ok=True)
+            (source / path.name / name).write_text("a user's", encoding="ascii")
+    monkeypatch.setattr(common.cargo, "DEVICES", source / DEVICES.name)
+    copied_crate(tmp_path / "copy", crate=source / crate.name)
+    shutil.rmtree(tmp_path / "copy" / crate.name / ".cargo")   # the settings of this run
+    assert {path: files_in(tmp_path / "copy" / path.name) for path in {crate, DEVICES}} == {
+        path: wanted[path] for path in {crate, DEVICES}}
 
 
 # A crate whose tests pass with the checks that Cargo leaves out of a release.

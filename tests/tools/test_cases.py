@@ -7,15 +7,15 @@ from itertools import product
 import model
 import pytest
 import script_tests
-from board import Board
+from board import OFTEN, Board
 from common.facts import ERRORS, word_of
 from harness import at_least
-from made import broken_lines, every_load
+from made import any_call, broken_lines, every_load
 from recorded import Recorder, every_answer, random_recorded, recordings
 from script import BYTES, FURTHER_LINES, LINES, call_of, replies_of
 from script_tests import (FURTHER_TESTS, TESTS, Script, board_scripts, kept_scripts, load_scripts, made_scripts,
                           refused_scripts, scripts_of)
-from seeds import seeds
+from seeds import random_source, seeds
 
 FILES = at_least(7, sorted([*TESTS.glob("*.txt"), *TESTS.glob("*.xz"), *FURTHER_TESTS.glob("*.txt")]))
 
@@ -107,6 +107,22 @@ def test_loads_have_each_reply():
     for name, device in ("load", "serial"), ("clock_load", "clock"):
         found = {re.sub("(version) ..", r"\1", reply) for call, reply in zip(loads, replies) if call[0] == name}
         assert found == faults_of(device), name
+
+
+# Calls that are drawn as board.py says, each with what its fields often have.
+DRAWN = [(call, kinds, OFTEN[call]) for call, *kinds in LINES.values() if any(OFTEN[call])]
+
+
+@pytest.mark.parametrize("call, kinds, often", at_least(2, DRAWN), ids=str)
+def test_numbers_that_come_often(call, kinds, often):
+    """Each comes as often as the others and, if it stands twice, twice as often. So does any other number."""
+    source, draws = random_source(call), 20_000
+    fields = [*zip(*(any_call(call, kinds, source)[1:] for _ in range(draws)))]
+    for digits, numbers, found in zip(kinds, often, fields, strict=True):
+        for number in {*numbers} if digits != BYTES else ():
+            assert found.count(number) > draws * numbers.count(number) / (len(numbers) + 1) * 0.9, number
+        if digits != BYTES:
+            assert sum(number not in numbers for number in found) > draws / (len(numbers) + 1) * 0.9
 
 
 def test_random_calls_have_each_kind():

@@ -19,12 +19,16 @@ STAND_INS = {
     "cargo": "echo 'test result: ok. 3 passed; 0 failed; 0 ignored'",
     "rustc": "", "cc": "", "gcc": "", "coqc": "", "id": "echo 0", "dpkg": "echo amd64",
     # For root it installs what is named, by making the command that is missing. Without a time to wait for another
-    # apt-get it fails, since there is one. So it does if it or a package would ask its user something, or if it would
-    # install what is only recommended.
+    # apt-get it fails, since there is one, and if it would not try again, since a mirror is busy. So it does if it or a
+    # package would ask its user something, or if it would install what is only recommended.
     "apt-get": """
 case "$*" in
 *DPkg::Lock::Timeout=[1-9][0-9][0-9]*) ;;
 *) echo "E: Could not get lock" >&2; exit 100 ;;
+esac
+case "$*" in
+*Acquire::Retries=[1-9]*) ;;
+*) echo "E: Failed to fetch" >&2; exit 100 ;;
 esac
 words=" $* "
 for option in --yes --no-install-recommends; do

@@ -1,6 +1,7 @@
 # SPDX-License-Identifier: Apache-2.0 OR BSD-3-Clause
 """What compares in tests sees what differs in the last place only: helpers, programs that replay calls, and tests of
 files that a command makes."""
+import ctypes
 import json
 import os
 import re
@@ -10,6 +11,7 @@ import subprocess
 import sys
 from types import SimpleNamespace
 
+import abi
 import common.seed
 import expanded
 import monitors
@@ -31,7 +33,7 @@ from every_function import calls_of_functions, encoded_call, functions_in_c
 from generators import counts
 from generators.libraries import replace_lines
 from harness import LIMIT, ROOT, at_least, check, run
-from random_calls import random_calls
+from random_calls import GUARD, Place, random_calls
 from recorded import difference, recordings
 from script_tests import Script
 from seeds import random_source, seeds
@@ -134,6 +136,24 @@ def test_replies_of_a_board():
     test_boards.assert_replies(test)
     for other in altered(test.replies):
         assert refuses(test_boards.assert_replies, test._replace(replies=other)), other
+
+
+@pytest.mark.parametrize("size", [0, 1, 50])
+def test_guards_of_a_place(size):
+    """A byte that a call writes beside what a pointer leads to is seen: the first and the last on either side."""
+    for at in (-GUARD, -1, size, size + GUARD - 1, None):
+        place = Place(random_source("a place"), bytes(size))
+        if at is not None:
+            ctypes.c_uint8.from_address(place.pointer + at).value ^= 1
+        assert place.is_guarded() == (at is None) and place.content() == place.content_before(), at
+
+
+@pytest.mark.parametrize("place", range(3))
+def test_content_of_a_place(place):
+    """And one within it: the first, another or the last."""
+    found = Place(random_source("a place"), bytes(3))
+    ctypes.c_uint8.from_address(found.pointer + place).value ^= 1
+    assert found.is_guarded() and found.content() != found.content_before()
 
 
 # Where random searches begin
@@ -304,6 +324,50 @@ def test_guards_of_replay(tmp_path):
     """An access to a byte beside each struct, and beside the bytes of an enqueue, ends the program, on either side."""
     ends = ends_of_touching("replay.c", "".join(f"{call} = ?\n{call} = ?\n" for call in TOUCHED).encode(), tmp_path)
     assert ends.pop("nothing") == 1 and {*ends.values()} == {-signal.SIGSEGV}, ends
+
+
+# In place of a call of the library: one that returns something else, once, at the call of this number.
+ONCE_OTHER = """#include <stdatomic.h>
+#include <stdlib.h>
+#include <superio.h>
+superio_rtc_read_effects __real_superio_rtc_read(superio_rtc *clock, uint16_t offset, uint64_t now);
+superio_rtc_read_effects __wrap_superio_rtc_read(superio_rtc *clock, uint16_t offset, uint64_t now) {
+    static atomic_long calls;
+    superio_rtc_read_effects read = __real_superio_rtc_read(clock, offset, now);
+    read.value += atomic_fetch_add(&calls, 1) == atol(getenv("OTHER"));
+    return read;
+}
+"""
+
+
+@pytest.mark.needs("cc")
+def test_each_thread_is_compared(tmp_path):
+    """A call that returned something else, the first or the last of each thread alone, or one of both at once."""
+    (tmp_path / "once.c").write_text(ONCE_OTHER, "ascii")
+    check(["cc", "-std=c11", "-O2", "-I", ROOT / "bindings/c", ROOT / "tests/c/threads.c", tmp_path / "once.c",
+           "-Wl,--wrap=superio_rtc_read", prebuilt(HOST), "-pthread", "-o", tmp_path / "threads"], "")
+    [rounds] = re.findall(r"ROUNDS = (\d+)", (ROOT / "tests/c/threads.c").read_text("ascii"))
+    rounds = int(rounds)
+    for other in (-1, 0, rounds - 1, rounds, 2 * rounds - 1, 2 * rounds, 4 * rounds - 1):
+        ran = run([tmp_path / "threads"], env={**os.environ, "OTHER": str(other)})
+        assert (ran.returncode, "something else" in ran.stdout) == ((0, False) if other < 0 else (1, True)), other
+
+
+# A library with each function, in which none does anything, of another binary interface or of the same.
+@pytest.mark.needs("cc")
+@pytest.mark.parametrize("more", [-1, 0, 1])
+def test_another_binary_interface_is_refused(more, tmp_path):
+    """The structs of its table are not those of such a library. One that lacks a function is refused, too."""
+    [number] = re.findall(r"\Aabi (\d+)", abi.TABLE)
+    text = f"unsigned superio_abi(void) {{ return {int(number) + more}; }}\n"
+    text += "".join(f"void {function.name}(void) {{}}\n" for function in abi.FUNCTIONS
+                    if function.name != "superio_abi")
+    for name, code in (("all", text), ("fewer", text[:text.rstrip().rindex("\n") + 1])):
+        (tmp_path / f"{name}.c").write_text(code, "ascii")
+        check(["cc", "-shared", "-fPIC", tmp_path / f"{name}.c", "-o", tmp_path / f"{name}.so"], "")
+    assert refuses(abi.load, tmp_path / "all.so") == (more != 0)
+    with pytest.raises(AttributeError):
+        abi.load(tmp_path / "fewer.so")
 
 
 # Programs that call each function

@@ -9,13 +9,14 @@ import sys
 from contextlib import nullcontext
 from importlib.machinery import SourceFileLoader
 from importlib.util import module_from_spec, spec_from_loader
+from itertools import product
 from pathlib import Path
 from types import SimpleNamespace
 
 import pytest
 from generators import facts, lines
 from harness import ROOT, at_least, run
-from mutation import rules
+from mutation import reach, rules
 from mutation.copies import Ended
 
 
@@ -242,6 +243,34 @@ def test_lines_that_are_reached(language, tmp_path):
     found = TOOL.measured(test, copy, language, [name], None).lines[name]
     assert {line: found[line] for line in lines} == lines
     assert TOOL.measured(test._replace(command="false"), copy, language, [name], None) is None
+
+
+# A source whose third line runs in some runs.
+IN_JAVASCRIPT = "a();\nif (b) {\n  c();\n}\n"
+
+
+def tell(folder, counts):
+    """Writes what gcov and what Node tell of runs in which the third line ran so often."""
+    lines = [[{"line_number": 2, "count": 1}, {"line_number": 3, "count": count}] for count in counts]
+    (folder / "reach").mkdir()
+    (folder / "reach/gcov").write_text("".join(
+        json.dumps({"files": [{"file": "/tmp/copy/sample.c", "lines": line}]}) + "\n" for line in lines), "ascii")
+    text, url = IN_JAVASCRIPT, (folder / "sample.mjs").as_uri()
+    (folder / "sample.mjs").write_text(text, "ascii")
+    for number, count in enumerate(counts):
+        ranges = [(0, len(text), 1), (text.index("{") + 1, text.index("}"), count)]
+        told = [{"startOffset": start, "endOffset": end, "count": ran} for start, end, ran in ranges]
+        (folder / f"reach/coverage-{number}.json").write_text(json.dumps(
+            {"result": [{"url": url, "functions": [{"ranges": told}]}]}), "ascii")
+
+
+@pytest.mark.parametrize("counts", [counts for size in (1, 2, 3) for counts in product((0, 7), repeat=size)], ids=str)
+@pytest.mark.parametrize("language, name", [("gcov", "sample.c"), ("node", "sample.mjs")])
+def test_lines_of_several_runs(language, name, counts, tmp_path):
+    """A line is reached if it ran in any of them, whichever is told first: a test may run a source twice."""
+    tell(tmp_path, counts)
+    found = reach.LINES[language](tmp_path / "reach", [name])[name]
+    assert (found[2], found[3]) == (True, any(counts))
 
 
 def test_lines_of_a_script_that_a_page_made(tmp_path):

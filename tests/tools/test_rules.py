@@ -290,3 +290,13 @@ def test_a_part_that_is_not_there():
 def test_a_part_is_shown_and_counted_with_its_errors(capsys):
     assert run_part("sh", "-c", "echo one; echo two >&2; exit 3") == (3, "one\ntwo")
     assert capsys.readouterr().out.endswith("\none\ntwo\n")
+
+
+@pytest.mark.parametrize("is_at_its_end", [False, True])
+@pytest.mark.parametrize("text", [r"\377", r"a \303", r"a\000b"])
+def test_a_part_may_print_any_bytes(text, is_at_its_end, capsys):
+    """Also those that are no text, of a program that goes wrong. What comes after them counts as ever."""
+    status, printed = run_part("printf", f"{text}\n4 passed, 1 failed\n", at_its_end=is_at_its_end)
+    assert counted(status, printed) == (4, 1, 0)
+    assert capsys.readouterr().out.endswith("\n4 passed, 1 failed\n")
+    assert run(["printf", f"{text}\nend"]).stdout.endswith("\nend")

@@ -1,10 +1,12 @@
 # SPDX-License-Identifier: Apache-2.0 OR BSD-3-Clause
 """tools/run, with a stand-in for the kit: what it prints beside a script, and with which status it ends."""
 import os
+import shutil
 import sys
 
 import pytest
-from harness import ROOT, run
+from common.rattle import crates_below
+from harness import ROOT, at_least, run
 
 # A script, what the program replies to it, and what stands beside its lines.
 BESIDE = {
@@ -66,3 +68,50 @@ def test_no_script_and_no_kit(tmp_path):
     (tmp_path / "python3").symlink_to(sys.executable)
     ran = run([ROOT / "tools/run", "--unproved"], env={"PATH": str(tmp_path)})
     assert ran.returncode == 125 and "of the Rattle kit, is not there" in ran.stdout
+
+
+# A kit that proves: it notes its words and its folder, and makes the program. The crate that FAILS names is not proved.
+PROVING = """#!/bin/sh
+crate=$(basename "$PWD")
+echo "$* in $crate" >> {0}/log
+[ "$crate" != "$FAILS" ] || {{ echo "no proof of $crate"; exit 1; }}
+[ "$1" != run ] || {{ mkdir out; printf '#!/bin/sh\\ncat\\n' > out/superio; chmod +x out/superio; }}
+"""
+BELOW = at_least(2, crates_below("superio"))
+
+
+@pytest.fixture
+def prove(tmp_path):
+    """Runs a copy of the tool, which has no program yet. Returns its status, what it printed, and what the kit did."""
+    shutil.copytree(ROOT / "tools/common", tmp_path / "tools/common")
+    for name in ("tools/run", "crates.txt"):
+        shutil.copy(ROOT / name, tmp_path / name)
+    for crate in (*BELOW, "superio"):
+        (tmp_path / "crates" / crate).mkdir(parents=True)
+    (tmp_path / "rt").write_text(PROVING.format(tmp_path), "ascii")
+    (tmp_path / "rt").chmod(0o755)
+
+    def prove(**told):
+        environment = {name: value for name, value in os.environ.items() if name != "RT_JOBS"}
+        environment |= {"PATH": f"{tmp_path}:{os.environ['PATH']}", "TMPDIR": str(tmp_path), **told}
+        ran = run([tmp_path / "tools/run"], env=environment, input="sr 05\n")
+        return ran.returncode, ran.stdout, (tmp_path / "log").read_text("ascii").splitlines()
+    return prove
+
+
+@pytest.mark.parametrize("told, jobs", [({}, 2), ({"RT_JOBS": "1"}, 1), ({"RT_JOBS": "7"}, 7)], ids=str)
+def test_a_proof_takes_as_many_processors_as_told(told, jobs, prove):
+    """In each crate, the lowest first. Then the program runs."""
+    status, said, steps = prove(**told)
+    assert status == 0 and said.endswith("\nsr 05\n"), said
+    assert steps == [*(f"lib --jobs {jobs} in {crate}" for crate in BELOW), f"run --jobs {jobs} in superio"]
+
+
+@pytest.mark.parametrize("crate", [BELOW[0], BELOW[-1], "superio"])
+def test_a_proof_that_fails(crate, prove):
+    """None comes after it, no program runs, and the file that is named has what the kit printed."""
+    status, said, steps = prove(FAILS=crate)
+    assert status == 125 and steps[-1].endswith(f" in {crate}") and "sr 05" not in said, said
+    [log] = [word for word in said.split() if word.endswith(".log")]
+    with open(log, encoding="ascii") as file:
+        assert file.read().endswith(f"no proof of {crate}\n")
