@@ -70,6 +70,16 @@ def test_header(compiler, tmp_path):
         check([*words.split(), *WARNINGS, "-Werror", "-fsyntax-only", source], "")
 
 
+@pytest.mark.parametrize("known", ["", "#define __has_attribute(name) 0\n"], ids=["not asked", "none"])
+@pytest.mark.parametrize("compiler", COMPILERS.values())
+def test_a_compiler_without_attributes(compiler, known, tmp_path):
+    """It takes the header, whether it can be asked for attributes or not."""
+    source = tmp_path / "header.c"
+    source.write_text(f"{STANDARD}#undef __has_attribute\n{known}#define __attribute__ here is none\n"
+                      "#include <superio.h>\n", "ascii")
+    check([*compiler.split(), "-I", ROOT / "bindings" / "c", "-w", "-fsyntax-only", source], "")
+
+
 @pytest.mark.parametrize("compiler", COMPILERS.values())
 def test_header_changes_nothing_else(compiler, tmp_path):
     """Beside its own constants and two names it leaves no macro, and none of the standard headers' is gone or another.

@@ -164,6 +164,16 @@ def test_bars(trace, parts):
     assert re.findall(r'(?:"end">|d=")([^"<]+)(?:</text>|" fill)', drawn) == parts
 
 
+@pytest.mark.parametrize("count", [1, 3, 7, 61, 333, 799, 800])
+def test_each_bar_is_at_its_calls(count):
+    """Within a tenth, also where a call begins or ends between two whole numbers."""
+    drawn = picture(steps_of((b"sq 61\nsr 00\nsr 05\n" * count)[:6 * count]), "bars")
+    bars = re.findall(r"M([\d.]+) 80v-5h([\d.]+)v5z", drawn)
+    wide = 800 / count
+    assert [[*map(float, bar)] for bar in bars] == [
+        pytest.approx([120 + first * wide, wide], abs=0.1) for first in range(0, count, 3)]
+
+
 @pytest.mark.parametrize("form", ["table", "svg"])
 def test_written(form, tmp_path):
     steps, path = steps_of(TRACE), tmp_path / "a file"
