@@ -11,7 +11,8 @@ pytestmark = pytest.mark.needs("cc")
 
 TURN = "        carry_out(machine, superio_console_turn(&machine->console));\n"
 ASKS = "        wanted = superio_console_wants(&machine->console);\n"
-# What the checker says of a monitor that breaks a rule, and an edit that makes one of monitor.c.
+# What the checker says of a monitor that breaks a rule, and an edit that makes one of monitor.c. The world decides where
+# a signal interrupts the last monitor, so that either may be said.
 BROKEN = at_least(21, {
     "a console is called without its lock": (TURN + ASKS + "        pthread_mutex_unlock(&machine->lock);\n",
                                              "        pthread_mutex_unlock(&machine->lock);\n" + TURN + ASKS),
@@ -43,7 +44,7 @@ BROKEN = at_least(21, {
     "its poll ends at another time": ("wanted.turn ? 5 : -1", "5"),
     "what has woken it wakes it again": ("files[2].revents &&", "files[2].revents && wanted.turn &&"),
     "all wait for ever": ("guest_writes(machine, 1, 0x01)", "guest_writes(machine, 1, 0x00)"),
-    "it prints something else": (" || errno == EINTR", ""),
+    "it (?:prints something else|does not end)": (" || errno == EINTR", ""),
 }.items())
 
 
