@@ -356,6 +356,79 @@ def test_other_clocks(old, new, said, tmp_path):
     assert clock(edited(MACHINE, [(old, new)]), tmp_path) == f"{said}\n"
 
 
+CLOCK_PAGE = "docs/CLOCK.md"
+CLOCK_PARTS = ["struct machine {", "take_moment(struct", "memory_read"]
+# Edits of the code of docs/CLOCK.md that only this page has, and the step of clock_alone.c that goes wrong.
+OTHER_CLOCKS_ALONE = at_least(2, [
+    ("machine->ahead = seconds(CLOCK_REALTIME) - seconds(CLOCK_BOOTTIME);", "machine->ahead = 0;",
+     "a moment is the time of day"),
+    ("timerfd_create(CLOCK_BOOTTIME, TFD_NONBLOCK)", "timerfd_create(CLOCK_REALTIME, TFD_NONBLOCK)", "an alarm is set"),
+])
+
+
+def clock_alone(folder, *edits):
+    """What clock_alone.c says of the code of docs/CLOCK.md, of which nothing else of machine.c is there."""
+    page = "\n".join(code(CLOCK_PAGE, "c", of) for of in CLOCK_PARTS)
+    program = edited((ROOT / "tests/documents/clock_alone.c").read_text(encoding="utf-8"), [
+        ("PAGE\n\n", page), ("OPENED\n", code(CLOCK_PAGE, "c", "timerfd_create"))])
+    compile_c(folder, "clock", edited(program, edits), LIBRARY, "-pthread", "-o", "clock")
+    return run([folder / "clock"]).stdout
+
+
+@pytest.mark.needs("cc")
+def test_clock_alone(tmp_path):
+    """The struct around the clock is all that the functions of the page need. Its fields and numbers are machine.c's."""
+    assert clock_alone(tmp_path) == "each step is right\n"
+    block = code(CLOCK_PAGE, "c", CLOCK_PARTS[0])
+    fields = re.findall(r"^    (?!pthread)[^;]+;.*\n", block, re.M)
+    for part in at_least(8, [*fields, *re.findall(r"[A-Z]+ = 0x\w+", block)]):
+        assert part in MACHINE, part
+
+
+@pytest.mark.needs("cc")
+@pytest.mark.parametrize("old, new, said", OTHER_CLOCKS_ALONE)
+def test_other_clocks_alone(old, new, said, tmp_path):
+    assert clock_alone(tmp_path, (old, new)) == f"{said}\n"
+
+
+# Edits of the handler of KVM's exits, and the first step of exits.c that goes wrong.
+OTHER_EXITS = at_least(10, [
+    ("i % run->io.size", "i", "two bytes are written twice"),
+    ("i % run->io.size", "0", "two bytes are written"),
+    ("run->io.count * run->io.size", "run->io.count", "two bytes are written"),
+    ("run->io.count * run->io.size", "run->io.size", "two bytes are written twice"),
+    ("run->io.count * run->io.size", "run->io.count * run->io.size + 1", "two bytes are written"),
+    ("== KVM_EXIT_IO_OUT", "!= KVM_EXIT_IO_OUT", "two bytes are written"),
+    (" + run->io.data_offset;", ";", "two bytes are written"),
+    ("bytes[i] = port_read", "bytes[0] = port_read", "two bytes are read"),
+    ("&& run->mmio.is_write", "&& !run->mmio.is_write", "a word is written"),
+    ("    end_access(machine);\n", "", "the machine is reset"),
+    ("return true;", "return false;", "an access of ports is served"),
+    ("return false;", "return true;", "another exit is left to the caller"),
+])
+
+
+def exits(handler, folder):
+    """What exits.c says of a handler of exits."""
+    program = (ROOT / "tests/documents/exits.c").read_text(encoding="utf-8")
+    machine = edited(MACHINE, [("int main(", "int main_of_the_page(")])
+    compile_c(folder, "exits", edited(program, [("MACHINE\n\n", machine), ("HANDLER\n\n", handler)]), LIBRARY,
+              "-pthread", "-o", "exits")
+    return run([folder / "exits"]).stdout
+
+
+@pytest.mark.needs("cc")
+def test_exits(tmp_path):
+    """Each byte of an access reaches its port, and the guest gets what the devices return."""
+    assert exits(code("docs/C.md", "c", "serve_exit"), tmp_path) == "each step is right\n"
+
+
+@pytest.mark.needs("cc")
+@pytest.mark.parametrize("old, new, said", OTHER_EXITS)
+def test_other_exits(old, new, said, tmp_path):
+    assert exits(edited(code("docs/C.md", "c", "serve_exit"), [(old, new)]), tmp_path) == f"{said}\n"
+
+
 @pytest.mark.parametrize("document, of", at_least(6, [
     ("docs/C.md", "static void port_write"), *(("docs/CLOCK.md", of) for of in ("take_moment(struct", "files[3]", "memory_read")),
     *(("docs/SNAPSHOTS.md", of) for of in ("static void save(", "static bool restore("))]))
