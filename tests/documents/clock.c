@@ -84,7 +84,7 @@ static void check_alarm(struct machine *machine) {
     expect(goes_off_in(machine) == -1 && levels == 0, "no alarm is set");
     write_word(machine, RTCLR, (uint32_t)machine->now + DAY); /* the guest's time is ahead */
     uint32_t match = (uint32_t)machine->now + 4 * DAY;
-    match -= (match & 0xFF) == (match >> 8 & 0xFF) ? 2 : 0; /* two bytes that differ, for a read of one */
+    match -= (match & 0xFF) == (match >> 8 & 0xFF) ? 2 : 0; /* two bytes that differ */
     write_word(machine, RTCMR, match);
     expect(goes_off_in_days(machine, 3) && levels == 0, "an alarm is set");
     write_word(machine, RTCCR, 1);

@@ -1,6 +1,6 @@
 /* SPDX-License-Identifier: Apache-2.0 OR BSD-3-Clause */
-/* The handler of KVM's exits in docs/C.md, which stands at HANDLER, over machine.c, which stands at MACHINE. There is no
- * KVM here: each step fills in a struct kvm_run as KVM does. The first step that goes wrong is named, and ends the
+/* The handler of KVM's exits in docs/C.md, which stands at HANDLER, over machine.c, which stands at MACHINE. There is
+ * no KVM here: each step fills in a struct kvm_run as KVM does. The first step that goes wrong is named, and ends the
  * program with status 1. */
 #define _GNU_SOURCE
 #include <stdio.h>

@@ -377,7 +377,7 @@ def clock_alone(folder, *edits):
 
 @pytest.mark.needs("cc")
 def test_clock_alone(tmp_path):
-    """The struct around the clock is all that the functions of the page need. Its fields and numbers are machine.c's."""
+    """The struct around the clock is all that the functions of the page need. It is as in machine.c."""
     assert clock_alone(tmp_path) == "each step is right\n"
     block = code(CLOCK_PAGE, "c", CLOCK_PARTS[0])
     fields = re.findall(r"^    (?!pthread)[^;]+;.*\n", block, re.M)
