@@ -87,8 +87,8 @@ def topic(folder: Path, file: str) -> str:
 
 def claims_of(page: str) -> dict[int, str]:
     """The words of the claims of docs/PROOFS.md, without links: what stands below a claim's heading, above its
-    contracts. Each item of a list has a line."""
-    parts = re.findall(r"^### Claim (\d): .*\n\n((?:(?!#).*\n)*?)\*\*Contracts?:\*\*", page, re.M)
+    exact statements. Each item of a list has a line."""
+    parts = re.findall(r"^### Claim (\d): .*\n\n((?:(?!#).*\n)*?)\*\*Exactly:\*\*", page, re.M)
     return {int(number): in_lines(re.sub(r"\[([^]]*)\]\([^)]*\)", r"\1", words)) for number, words in parts}
 
 

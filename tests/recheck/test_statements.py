@@ -17,7 +17,7 @@ PAGE = """## The claims
 
 A new port [fits](THEOREM.md), always.
 
-**Contract:** `new: fits`
+**Exactly:** `new: fits`
 
 ### Claim 2: another title
 
@@ -32,7 +32,7 @@ It has room:
 
 No more.
 
-**Contracts:** `write: kept`, `write: room`
+**Exactly:** `write: kept`, `write: room`
 
 It is no part of the claim that claims have contracts.
 """
