@@ -23,7 +23,14 @@ function randomNumbers(test) {
   };
 }
 
-const anyBytes = (below, most) => Uint8Array.from({ length: below(most + 1) }, () => below(256));
+/** So many bytes. A plain loop, since some states have thousands of them. */
+function bytesOf(below, count) {
+  const bytes = new Uint8Array(count);
+  for (let place = 0; place < count; place += 1) bytes[place] = below(256);
+  return bytes;
+}
+
+const anyBytes = (below, most) => bytesOf(below, below(most + 1));
 const anyWord = (below) => below(2) ? below(2000) : below(2 ** 32);
 const anyMoment = (below) => below(2) ? below(2000) : BigInt(anyWord(below)) << 32n | BigInt(anyWord(below));
 const anyFlag = (below) => below(2) === 1;
@@ -42,8 +49,7 @@ const MOST = { inBuffer: 64, output: 4096 };
 function anyState(below, kind, sample = new kind().state) {
   const anyOf = (name, value) => {
     if (value instanceof Uint8Array) {
-      const count = [below(9), below(65), MOST[name] - below(9)][below(3)];
-      return Uint8Array.from({ length: count }, () => below(256));
+      return bytesOf(below, [below(9), below(65), MOST[name] - below(9)][below(3)]);
     }
     if (typeof value === "object") return anyState(below, Serial, value);
     if (typeof value === "boolean") return anyFlag(below);

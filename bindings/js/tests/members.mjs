@@ -15,8 +15,10 @@ const RANGES = { uint8_t: [0, 0xff], uint16_t: [0, 0xffff], uint32_t: [0, 2 ** 3
 
 /** The classes of devices. The others are errors. */
 export const DEVICES = Object.values(superio).filter((one) => !(one.prototype instanceof Error));
+const MEMBERS = new Map(DEVICES.map((kind) =>
+  [kind, Object.getOwnPropertyNames(kind.prototype).filter((name) => name !== "constructor")]));
 /** What a device has: calls, and values. */
-export const membersOf = (kind) => Object.getOwnPropertyNames(kind.prototype).filter((name) => name !== "constructor");
+export const membersOf = (kind) => MEMBERS.get(kind);
 
 /** A function of a class and a name that finds each result once. */
 function cached(find) {
