@@ -15,14 +15,19 @@ from board import Board
 from common.comparison import COMPARISON, Comparison
 from harness import ROOT, at_least
 from made import every_load, fewest
-from recorded import Recorder, difference, every_answer, random_recorded, recording_of, recordings, rows_of
+from recorded import (RECORDINGS, Recorder, difference, every_answer, random_recorded, recording_of, recordings,
+                      rows_of)
 from script import line_of, replies_of
 from seeds import seeds
 
-RECORDED = {name: rows_of(text) for name, text in recordings().items()}
-FURTHER = {name: rows_of(text) for name, text in
-           recordings(ROOT / "tests/c/shared.txt", COMPARISON / "panics.txt").items()}
+FURTHER = ROOT / "tests/c/shared.txt", COMPARISON / "panics.txt"
 RUNS = 1_025   # of 40 calls each
+
+
+@cache
+def recorded():
+    """The rows of each recording, and of the files of FURTHER."""
+    return {name: rows_of(text) for name, text in [*recordings().items(), *recordings(*FURTHER).items()]}
 
 
 @cache
@@ -39,16 +44,16 @@ def loads():
 
 
 def test_number_of_calls():
-    assert sum(map(len, RECORDED.values())) >= 211_850
-    assert sum(map(len, FURTHER.values())) >= 150
+    assert sum(len(recorded()[name]) for name in RECORDINGS) >= 211_850
+    assert sum(len(recorded()[path.name]) for path in FURTHER) >= 150
     at_least(39_552, answers())
     at_least(62_000, loads()[0])
 
 
 @pytest.mark.parametrize("devices", [oracle, model], ids=lambda module: module.__name__)
-@pytest.mark.parametrize("name", at_least(3, RECORDED))
+@pytest.mark.parametrize("name", at_least(3, RECORDINGS))
 def test_models(name, devices):
-    recorder, rows = Recorder(devices), RECORDED[name]
+    recorder, rows = Recorder(devices), recorded()[name]
     assert not difference(rows, [recorder.make(call) for call, _ in rows])
 
 
@@ -72,9 +77,9 @@ def rust(tmp_path_factory):
 
 
 @pytest.mark.needs("cargo", "cc")
-@pytest.mark.parametrize("name", [*RECORDED, *FURTHER])
+@pytest.mark.parametrize("name", [*RECORDINGS, *(path.name for path in FURTHER)])
 def test_rust(rust, name):
-    rows = {**RECORDED, **FURTHER}[name]
+    rows = recorded()[name]
     assert not difference(rows, rust([call for call, _ in rows]))
 
 

@@ -130,8 +130,9 @@ FORMS = [rf"{NAME},? at offset {DIGIT}", rf"{NAME},? at {DIGITS}", rf"{NAME} = {
 TEXTS = [*documents(), *(Document(path.relative_to(ROOT)) for path in sorted([
     ROOT / "bindings/c/superio.h", ROOT / "bindings/js/superio.d.ts", *(ROOT / "examples").rglob("*.[ch]"),
     *(ROOT / "examples").rglob("*.py"), *(ROOT / "rust").glob("*/src/*.rs")]))]
-BESIDE = [(str(text), found["name"], int(found["offset"], 0)) for text in TEXTS
-          for form in FORMS for found in re.finditer(form, re.sub(r"\s+(?:\* |//+ )?", " ", text.text))]
+WITHOUT_BREAKS = [(str(text), re.sub(r"\s+(?:\* |//+ )?", " ", text.text)) for text in TEXTS]
+BESIDE = [(name, found["name"], int(found["offset"], 0)) for name, text in WITHOUT_BREAKS
+          for form in FORMS for found in re.finditer(form, text)]
 
 
 @pytest.mark.parametrize("text, name, offset", at_least(15, BESIDE))

@@ -18,7 +18,7 @@ from harness import ROOT, at_least, check
 CHANGES = {path.stem: tomllib.loads(path.read_text("utf-8"))
            for path in at_least(6, sorted((ROOT / "tests/tools/changes").glob("*.toml")))}
 # Those in a row are made in one copy, because what follows takes half a minute: none of them edits what another does.
-TOGETHER = "bit clock error", "line", "number", "device"
+TOGETHER = "line bit clock error", "number", "device"
 GUIDE = Document("CONTRIBUTING.md").text
 CRATES = re.findall(r"(\w+) is `(crates/\w+)`", GUIDE)
 STEPS = "facts", "rust", "lines", "interface"
@@ -77,6 +77,11 @@ def make(edits, top):
         path.write_text(edit["new"] if is_new(edit) else changed(path.read_text("utf-8"), edit), "utf-8")
 
 
+def steps_of(names):
+    """The steps of `tools/generate` that changes need beside STEPS."""
+    return [step for name in names.split() for step in CHANGES[name].get("steps", [])]
+
+
 def list_of(change):
     """The list of CONTRIBUTING.md that a change follows."""
     return re.search(rf"^{re.escape(change['list'])}.*?(?=^#|^\*\*|\Z)", GUIDE, re.M | re.S)[0]
@@ -100,20 +105,20 @@ def test_each_is_made():
 
 @pytest.mark.needs("cargo", "cc", "node")
 @pytest.mark.parametrize("names", [
-    pytest.param(names, marks=pytest.mark.needs(*["wasm"] * (names == "device"))) for names in TOGETHER])
+    pytest.param(names, marks=pytest.mark.needs(*["wasm"] * ("module" in steps_of(names)))) for names in TOGETHER])
 def test_changes(names, tmp_path):
     changes = [CHANGES[name] for name in names.split()]
     files = {file for change in changes for file in files_of(change)}
     copy_repository(tmp_path)
     for change in changes:
         make(change["edits"], tmp_path)
-    check([tmp_path / "tools/generate", *STEPS, *changes[0].get("steps", [])], cwd=tmp_path)
+    check([tmp_path / "tools/generate", *STEPS, *steps_of(names)], cwd=tmp_path)
     check(BUILD, cwd=tmp_path)
     if any(file.startswith("rust/vm-superio/src/") for file in files):
         Cargo(tmp_path / "rust/vm-superio").check("check")
     library = {**os.environ, "SUPERIO_LIBRARY": str(tmp_path / "out/release/libsuperio_c.so")}
     tests = changes[0].get("tests", TESTS)
     check([sys.executable, "-m", "pytest", "-q", "--without", "kit", *tests], cwd=tmp_path, env=library)
-    if any("superio_script" in file for file in files):   # the page's devices are as they were, but after `module`
+    if any("superio_script" in file for file in files):   # over the page's devices, which the step `module` makes
         scripts = check([sys.executable, "-c", SCRIPTS], cwd=tmp_path, env={**os.environ, "PYTHONPATH": PATHS})
         check(["node", "bindings/js/tests/run_scripts.mjs"], cwd=tmp_path, input=scripts)
