@@ -1,16 +1,19 @@
 # SPDX-License-Identifier: Apache-2.0 OR BSD-3-Clause
 """Nothing passes for not having run: the rules of conftest.py, of sums.txt, of at_least and of tools/check, with tests
 that break them."""
+import json
 import os
 import re
 import shutil
+import subprocess
 import sys
+from types import SimpleNamespace
 
 import pytest
 from common import rattle
 from common.results import OF_CARGO, counted, of_gate
 from common.results import run as run_part
-from harness import ROOT, check, run
+from harness import LIMIT, ROOT, run
 
 HEAD = "import pytest\nfrom harness import at_least\n"
 RUN = HEAD + "def test():\n    "
@@ -74,38 +77,48 @@ def write_tests(folder, text):
         shutil.copytree(ROOT / name, folder / name, ignore=shutil.ignore_patterns("__pycache__"))
 
 
-def run_pytest(folder, text, *words, path="/nowhere"):
-    """Runs a test alone, without any tool."""
-    write_tests(folder, text)
-    return run([sys.executable, "-m", "pytest", "tests", *words], cwd=folder, env={"PATH": path})
-
-
-# Runs pytest in each folder, as `python3 -m pytest` does, and writes there what it prints. Each run has a process of
-# its own, which is forked after the slowest modules are there. Prints with what status each ends.
-FORKED = """import os, sys
+# Runs pytest in folders, as `python3 -m pytest` does, and writes there what it prints. Each run has a process of its
+# own, which is forked after the slowest modules are there. Tells with what status each ends.
+FORKED = f"""import json, os, signal, sys
 import hypothesis, pytest
-for folder in sys.argv[1:]:
+for line in sys.stdin:
+    folder, words, variables = json.loads(line)
     if not (child := os.fork()):
+        signal.alarm({LIMIT})
         os.chdir(folder)
+        os.environ.update(variables)
         sys.path[0] = folder
-        said = os.open("said", os.O_CREAT | os.O_WRONLY)
-        os.dup2(said, 1), os.dup2(said, 2)
-        status = pytest.main(["tests", "--without=node"])
+        said = os.open("said", os.O_CREAT | os.O_TRUNC | os.O_WRONLY)
+        os.dup2(os.open(os.devnull, os.O_RDONLY), 0), os.dup2(said, 1), os.dup2(said, 2)
+        status = pytest.main(["tests", *words])
         sys.stdout.flush(), sys.stderr.flush()
         os._exit(status)
-    print(os.waitstatus_to_exitcode(os.waitpid(child, 0)[1]))
+    print(os.waitstatus_to_exitcode(os.waitpid(child, 0)[1]), flush=True)
 """
 
 
 @pytest.fixture(scope="module")
-def ran(tmp_path_factory):
-    """With what status pytest ends at each of these tests alone, without any tool, and what it prints."""
-    folders = [tmp_path_factory.mktemp("rules") for _ in BROKEN]
-    for folder, (text, _) in zip(folders, BROKEN.values()):
+def run_pytest():
+    """Runs the tests of a folder without any tool, with these words and variables of the environment."""
+    with subprocess.Popen([sys.executable, "-c", FORKED], env={"PATH": "/nowhere"}, text=True,
+                          stdin=subprocess.PIPE, stdout=subprocess.PIPE) as process:
+        def run_pytest(folder, *words, **variables):
+            print(json.dumps([str(folder), words, variables]), file=process.stdin, flush=True)
+            status = int(process.stdout.readline())
+            return SimpleNamespace(returncode=status, stdout=(folder / "said").read_text("utf-8"))
+        yield run_pytest
+
+
+@pytest.fixture(scope="module")
+def ran(tmp_path_factory, run_pytest):
+    """With what status pytest ends at each of these tests alone, and what it prints."""
+    found = {}
+    for name, (text, _) in BROKEN.items():
+        folder = tmp_path_factory.mktemp("rules")
         write_tests(folder, text)
-    statuses = check([sys.executable, "-c", FORKED, *folders], env={"PATH": "/nowhere"}).split()
-    return {name: (int(status), (folder / "said").read_text("utf-8"))
-            for name, status, folder in zip(BROKEN, statuses, folders, strict=True)}
+        done = run_pytest(folder, "--without=node")
+        found[name] = done.returncode, done.stdout
+    return found
 
 
 @pytest.mark.parametrize("name", BROKEN)
@@ -115,11 +128,12 @@ def test_what_pytest_counts(name, ran):
     assert (status == 0) == (end in ("1 passed", "1 skipped"))
 
 
-def test_what_workers_count(tmp_path):
+def test_what_workers_count(tmp_path, run_pytest):
     """Those of xdist pass, fail and skip the same tests, here all in one run."""
     for number, (text, _) in enumerate(BROKEN.values()):
         write_test(tmp_path, text, f"test_{number}.py")
-    said = run_pytest(tmp_path, RUN + "pass", "--without=node", "-n2", "--dist=loadfile").stdout
+    write_tests(tmp_path, RUN + "pass")
+    said = run_pytest(tmp_path, "--without=node", "-n2", "--dist=loadfile").stdout
     failed = {int(number) for number in re.findall(r"^(?:FAILED|ERROR) tests/test_(\d+)\.py", said, re.M)}
     assert failed == {number for number, (_, end) in enumerate(BROKEN.values()) if "failed" in end or "error" in end}
     skipped = [text for text, end in BROKEN.values() if end == "1 skipped"]
@@ -147,21 +161,22 @@ SUMS = {
 
 
 @pytest.mark.parametrize("table, fault, workers", [(*row, 0) for row in SUMS.items()] + [(*[*SUMS.items()][3], 2)])
-def test_sums(table, fault, workers, tmp_path):
-    (tmp_path / "tests").mkdir()
+def test_sums(table, fault, workers, tmp_path, run_pytest):
+    write_tests(tmp_path, THREE)
     (tmp_path / "tests/sums.txt").write_text(f"# A comment: 1\n{table}\n", "utf-8")
-    ran = run_pytest(tmp_path, THREE, "--without=node", "--sums", f"-n{workers}")
+    ran = run_pytest(tmp_path, "--without=node", "--sums", f"-n{workers}")
     assert (ran.returncode != 0) == (fault is not None) and " 1 passed, 2 skipped in " in f" {ran.stdout}"
     assert [line for line in ran.stdout.splitlines() if "tests/sums.txt says" in line] == [fault] * (fault is not None)
 
 
-def test_sums_are_written(tmp_path):
+def test_sums_are_written(tmp_path, run_pytest):
     """Unless a file cannot be read: its tests would be missing."""
+    write_tests(tmp_path, THREE)
     write_test(tmp_path, "unknown", "test_bad.py")
-    assert run_pytest(tmp_path, THREE, "--collect-only", "--write-sums").returncode != 0
+    assert run_pytest(tmp_path, "--collect-only", "--write-sums").returncode != 0
     assert not (tmp_path / "tests/sums.txt").exists()
     (tmp_path / "tests/test_bad.py").unlink()
-    check([sys.executable, "-m", "pytest", "--collect-only", "--write-sums", "tests"], cwd=tmp_path)
+    assert run_pytest(tmp_path, "--collect-only", "--write-sums").returncode == 0
     text = (tmp_path / "tests/sums.txt").read_text("utf-8")
     assert re.sub("^#.*\n", "", text, flags=re.M) == "tests: 3\ntests, Deno: 1\n"
 
@@ -175,8 +190,11 @@ def test_what_was_not_tried_is_named(ran):
     assert "NOT TRIED: 1 tests, since --without names node\n" in ran["a tool that is left out"][1]
 
 
-def test_a_failure_names_the_seed(tmp_path):
-    said = [run_pytest(tmp_path / end, RUN + end).stdout for end in ("pass", "assert 0")]
+def test_a_failure_names_the_seed(tmp_path, run_pytest):
+    said = []
+    for end in ("pass", "assert 0"):
+        write_tests(tmp_path / end, RUN + end)
+        said.append(run_pytest(tmp_path / end).stdout)
     assert ["TEST_SEED=0, " in text for text in said] == [False, True], said
 
 
@@ -188,31 +206,32 @@ DRAWS = {"hypothesis": "from hypothesis import given, strategies\n@given(strateg
 
 
 @pytest.mark.parametrize("kind", DRAWS)
-def test_a_search_is_that_of_its_seed(kind, tmp_path):
+def test_a_search_is_that_of_its_seed(kind, tmp_path, run_pytest):
     """So a failure comes again, and another commit searches elsewhere."""
     write_tests(tmp_path, DRAWS[kind])
-    said = [run([sys.executable, "-m", "pytest", "tests", "-s", "-q"], cwd=tmp_path,
-                env={"PATH": "/nowhere", "TEST_SEED": number}).stdout.rpartition("\n1 passed")[0]
+    said = [run_pytest(tmp_path, "-s", "-q", TEST_SEED=number).stdout.rpartition("\n1 passed")[0]
             for number in ("1", "1", "2")]
     assert said[0] == said[1] != said[2] and all(said), said
 
 
-def test_a_search_has_many_examples(tmp_path):
+def test_a_search_has_many_examples(tmp_path, run_pytest):
     write_tests(tmp_path, DRAWS["hypothesis"])
-    said = run([sys.executable, "-m", "pytest", "tests", "-s", "-q"], cwd=tmp_path, env={"PATH": "/nowhere"}).stdout
+    said = run_pytest(tmp_path, "-s", "-q").stdout
     assert len(re.findall(r"^-?\d+$", said, re.M)) >= 50, said
 
 
-def test_an_unknown_tool_is_refused(tmp_path):
-    ran = run_pytest(tmp_path, RUN + "pass", "--without=nod")
+def test_an_unknown_tool_is_refused(tmp_path, run_pytest):
+    write_tests(tmp_path, RUN + "pass")
+    ran = run_pytest(tmp_path, "--without=nod")
     assert ran.returncode != 0 and "there is no tool nod" in ran.stdout
 
 
-def test_a_file_that_fails_leaves_the_others(tmp_path):
-    ran = run_pytest(tmp_path, RUN + "pass")
-    (tmp_path / "tests" / "test_bad.py").write_text("unknown\n", encoding="utf-8")
-    last = run([sys.executable, "-m", "pytest", "tests"], cwd=tmp_path).stdout.splitlines()[-1]
-    assert "1 passed" in last and "1 error" in last and ran.returncode == 0
+def test_a_file_that_fails_leaves_the_others(tmp_path, run_pytest):
+    write_tests(tmp_path, RUN + "pass")
+    assert run_pytest(tmp_path).returncode == 0
+    write_test(tmp_path, "unknown", "test_bad.py")
+    last = run_pytest(tmp_path).stdout.splitlines()[-1]
+    assert "1 passed" in last and "1 error" in last
 
 
 def test_a_program_is_that_of_its_sources(tmp_path, monkeypatch):
