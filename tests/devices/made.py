@@ -27,12 +27,12 @@ SAVED = [*ENDS, ("save",), ("clock_save",), *OTHERS_SHOWN]
 # Numbers and bytes
 
 def byte(source):
-    return source.randrange(256)
+    return source.getrandbits(8)   # which takes a fifth of what `randrange` does
 
 
 def number(source):
     """A number of 32 bits. Those at the ends are common."""
-    return source.choice([source.getrandbits(32), source.randrange(4), 2**32 - 1 - source.randrange(4)])
+    return source.choice([source.getrandbits(32), source.getrandbits(2), 2**32 - 1 - source.getrandbits(2)])
 
 
 def moment(source):
@@ -60,7 +60,7 @@ def clock_state(source):
     """Any state of a clock, by the formats of its fields."""
     offset = source.choice([number(source) - number(source), source.getrandbits(64) - 2**63,
                             2**63 - 1 - number(source)])
-    return {name: {"I": number(source), "q": offset, "b": source.randrange(2)}[kind]
+    return {name: {"I": number(source), "q": offset, "b": source.getrandbits(1)}[kind]
             for name, kind in CLOCK_FIELDS.items()}
 
 
@@ -75,7 +75,7 @@ def saved_clock(source):
 def spoilt(source):
     """A saved state, which may have a byte changed, be cut short or longer, or have random or other contents."""
     good, more = source.choice([saved_port, saved_clock])(source), source.randbytes(source.randrange(80))
-    place = source.choice([source.randrange(8), source.randrange(len(good))])
+    place = source.choice([source.getrandbits(3), source.randrange(len(good))])
     changed = good[:place] + source.randbytes(1) + good[place + 1:]
     size = source.choice([REGISTERS, CLOCK_CONTENTS.size, REGISTERS + FIFO_SIZE]) + source.randrange(-1, 2)
     return source.choice([good, changed, changed, good[:place + 1], good + more[:8], good[:8] + more,
@@ -159,7 +159,7 @@ def random_calls(source, is_for_program=False):
     clock_start = clock_used(source) if is_for_program else [("clock_load", saved_clock(source))]
     port, clock, others = SCRIPT_CALLS if is_for_program else BOARD_CALLS
     others_start = drawn(source, others, source.randrange(16))
-    full = [("serial_write", 0, byte(source)) for _ in range(255)]
+    full = [("serial_write", 0, value) for value in source.randbytes(255)]
     start, table = source.choices(
         [([], port), (port_start, port), (full, port), ([], clock), (clock_start, clock),
          ([*port_start, *clock_start, *others_start], [*port, *clock, *others, *others])], [8, 8, 1, 4, 4, 4])[0]
