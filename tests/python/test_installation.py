@@ -31,7 +31,6 @@ CLEAN = {**{name: value for name, value in ENVIRONMENT.items() if name not in ("
 LIBRARY = library.open_library()._name
 BUILD = "from setuptools import build_meta; import sys; print(getattr(build_meta, sys.argv[1])(sys.argv[2]))"
 PYTHON = "/usr/bin/python3"   # which has what a build needs, as Debian's packages have it: no test asks a network
-PIP = [PYTHON, "-m", "pip", "--quiet"]
 MACHINES = sorted(path.parent.name.partition("-")[0] for path in ROOT.glob(f"prebuilt/*-linux/{library.FILE_NAME}"))
 TAGS = "manylinux_2_17_{0}.manylinux2014_{0}.musllinux_1_1_{0}"
 
@@ -48,8 +47,8 @@ def test_python_3_8_takes(path):
 
 
 def environment(folder):
-    """The Python of a fresh virtual environment. It has no pip, which takes time: this Python's pip serves it. What a
-    build needs is that of the system."""
+    """The Python of a fresh virtual environment. It has no pip, which takes time: the system's pip serves it, and so does
+    what a build needs."""
     done = ended([PYTHON, "-m", "venv", "--without-pip", "--system-site-packages", folder], env=CLEAN)
     if done[0]:
         raise OSError(done[2])
@@ -153,7 +152,7 @@ def test_installed_by_pip(archives, what, tmp_path):
     words = {"wheel": [wheel], "sources": [archives.sources], "folder": [archives.place],
              "editable folder": ["-e", archives.place]}[what]
     python = environment(tmp_path / "environment")
-    done = ended([*PIP, "--python", python, "install", *words], env=CLEAN, cwd="/")
+    done = ended([python, "-m", "pip", "--quiet", "install", *words], env=CLEAN, cwd="/")
     assert done[0] == 0, done
     said = ended([python, "-m", "superio", "--shell"], b"read LSR\n", cwd="/", env=CLEAN)
     assert said == (0, "LSR = 0x60  THRE TEMT\n", "")

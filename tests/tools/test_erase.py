@@ -1,12 +1,17 @@
 # SPDX-License-Identifier: Apache-2.0 OR BSD-3-Clause
 """tools/erase drops no code and keeps no contract: erased.txt has sources of Rattle, each with what it leaves of them,
 or with a part of what refuses them."""
+import io
 import sys
+from contextlib import redirect_stderr, redirect_stdout
 from pathlib import Path
+from unittest import mock
 
 import pytest
-from harness import ROOT, at_least, run
+from harness import ROOT, at_least
 
+TOOL = ROOT / "tools" / "erase"
+PROGRAM = compile(TOOL.read_text(encoding="utf-8"), TOOL, "exec")
 CASES = (Path(__file__).parent / "erased.txt").read_text(encoding="utf-8").split("====\n")[1:-1]
 
 # What has no place in the code that stays, each alone; in a comment or in a string it has.
@@ -17,8 +22,14 @@ LICENSE = "// SPDX-License-Identifier: Apache-2.0 OR BSD-3-Clause\n"   # with wh
 
 
 def erase(*words):
-    ran = run([sys.executable, ROOT / "tools" / "erase", *words])
-    return ran.returncode, ran.stdout
+    """How the tool ends with these words, and all that it says. It runs in this process: most of what it takes in another
+    is Python's start."""
+    said = io.StringIO()
+    with (mock.patch.object(sys, "argv", [str(TOOL), *map(str, words)]), redirect_stdout(said), redirect_stderr(said),
+          pytest.raises(SystemExit) as end):
+        exec(PROGRAM, {"__name__": "__main__", "__file__": str(TOOL)})
+    status = end.value.code
+    return (1, f"{said.getvalue()}{status}\n") if isinstance(status, str) else (status or 0, said.getvalue())
 
 
 @pytest.mark.parametrize("source, expected", at_least(15, [case.split("->\n") for case in CASES]),
