@@ -2,6 +2,7 @@
 """The repository's documents, as one reader of Markdown shows them to all tests."""
 import re
 import shutil
+from functools import lru_cache
 from pathlib import Path
 from typing import NamedTuple
 
@@ -74,11 +75,12 @@ def table(text, heading):
     return [[cell.strip() for cell in row.split("|")[1:-1]] for row in found.splitlines()[2:]]
 
 
+@lru_cache(maxsize=None)   # several files of tests ask for them while they are collected, in each process of a run
 def documents():
     """Each document, README.md first."""
     paths = [path.relative_to(ROOT) for path in ROOT.rglob("*.md")]
     kept = [path for path in paths if not BUILT & set(path.parts) and not path.parts[0].startswith(".")]
-    return [Document(path) for path in sorted(kept, key=lambda path: (len(path.parts), path))]
+    return tuple(Document(path) for path in sorted(kept, key=lambda path: (len(path.parts), path)))
 
 
 def copy_repository(folder):
