@@ -12,7 +12,6 @@ from .library import LibraryError
 from .prompt import Leave, use_history
 from .script import reason_of
 from .session import Session
-from .view import view
 
 _EPILOG = """\
 exit status, without --shell that of the program superio:
@@ -75,6 +74,7 @@ def _run_shell(path: str) -> None:
 def _run(arguments: List[str], name: str) -> int:
     """Carries out the command line, and returns the exit status."""
     if arguments[:1] == ["view"]:
+        from .view import view   # whose imports are a tenth of what a start takes, and nothing else needs them
         options = _viewer_parser(name).parse_args(arguments[1:])
         view(options.trace, options.table, options.svg)
         return 0
