@@ -25,7 +25,8 @@ LEFT_OUT = pytest.StashKey()   # of a test that --without leaves out
 # The files that take longest. They begin first, so that no worker is left with one of them at the end.
 DEAREST = ["tests/packages/test_releases.py", "tests/rust/test_crates.py", "tests/recheck/test_proofs.py",
            "tests/documents/test_paste.py", "tests/c/test_programs.py", "tests/guests/test_clock.py",
-           "tests/guests/test_linux_driver.py", "tests/guests/test_polling.py", "tests/guests/test_verifier.py"]
+           "tests/guests/test_linux_driver.py", "tests/guests/test_polling.py", "tests/guests/test_verifier.py",
+           "tests/tools/test_changes.py", "tests/python/test_installation.py"]
 
 os.environ.setdefault("HYPOTHESIS_STORAGE_DIRECTORY", str(ROOT / "out" / "hypothesis"))
 # Each date that a program of ours tells is of UTC. So tests run where local time is another.
