@@ -285,4 +285,5 @@ def test_a_build_makes_each_call(status, tmp_path):
     [named] = re.findall(r"^CALLS = (.*?) \$", contents("tests/c/Makefile"), re.M)
     texts = [contents(f"tests/c/{name}") for name in at_least(3, named.split())]
     texts += [path.read_text("utf-8") for path in at_least(2, sorted((ROOT / "tests/data/calls").glob("*.txt")))]
-    assert not [text[:80] for text in texts if text not in (tmp_path / "read").read_text("utf-8")]
+    read = (tmp_path / "read").read_text("utf-8")
+    assert not [text[:80] for text in texts if text not in read]

@@ -110,8 +110,9 @@ def test_page(releases):
 
 
 def headed(heading):
-    """What commits and tags the tree again, with another heading of the version."""
-    return f"sed -i 's/^## {VERSION} - .*/## {heading}/' CHANGELOG.md && rm -rf .git && {COMMIT}"
+    """What commits and tags the tree with another heading of the version."""
+    return (f"sed -i 's/^## {VERSION} - .*/## {heading}/' CHANGELOG.md && "
+            f"git -c user.name=a -c user.email=a commit -q -a -m b && git tag -f v{VERSION}")
 
 
 # What is done to a tree of which a release could be made, and what refuses the release then: each condition is missing,
@@ -140,7 +141,7 @@ SPOILED = {
 def test_refused(releases, name, tmp_path):
     """A release of files that no commit has, of a commit or version without tag or date, or over another release."""
     tree, (spoil, said) = tmp_path / "tree", SPOILED[name]
-    shutil.copytree(releases / "the tree of two", tree, symlinks=True)
+    check(["cp", "-a", releases / "the tree of two", tree])
     check(["sh", "-ec", spoil], cwd=tree)
     ran = run(["sh", "-c", f"{RELEASE}=../no"], cwd=tree)
     assert ran.returncode and said in ran.stdout
@@ -170,7 +171,12 @@ def debian(releases):
     tree = releases / "debian" / f"fimolavand-{VERSION}"
     tree.parent.mkdir()
     shutil.copy(releases / "one" / f"{tree.name}.tar.gz", tree.parent)
-    check(["sh", "-ec", commands_for_debian()[0]], cwd=tree.parent, env=OF_DEBIAN)
+    quick = releases / "quick"   # an xz that compresses less, in half of the time
+    quick.mkdir()
+    (quick / "xz").write_text('#!/bin/sh\nexec /usr/bin/xz "$@" -0\n', encoding="ascii")
+    (quick / "xz").chmod(0o755)
+    check(["sh", "-ec", commands_for_debian()[0]], cwd=tree.parent,
+          env={**OF_DEBIAN, "PATH": f"{quick}:{OF_DEBIAN['PATH']}"})
     return tree
 
 
@@ -185,7 +191,8 @@ def builds(debian, before):
     """Two builds of the packages, the second in another folder, for another user, without tests. Gives what each said,
     by its folder."""
     other, folder = debian.parent / "a" / "longer" / "path", debian.parent
-    shutil.copytree(debian, other, symlinks=True)
+    other.parent.mkdir(parents=True)
+    check(["cp", "-a", debian, other])
     strange = {**OF_DEBIAN, "TZ": "Asia/Tokyo", "LC_ALL": "C", "USER": "other", "DEB_BUILD_OPTIONS": "nocheck"}
     return {folder: check(["sh", "-ec", commands_for_debian()[1]], cwd=folder, env=OF_DEBIAN),
             other.parent: check(["sh", "-c", "umask 077 && dpkg-buildpackage -us -uc -b -nc"], cwd=other, env=strange)}
