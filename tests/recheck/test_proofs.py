@@ -24,7 +24,7 @@ def test_every_claim_is_proved(checked):
 def test_code_does_what_coq_computes(checked, tmp_path):
     """Random calls of every public function, 100,000 of them: the compiled code and the translation give the same."""
     folder, turns, seed = checked[0], 80_000, 88172645463325252
-    check(["rustc", "-O", "--edition", "2021", "-o", tmp_path / "calls", ROOT / "tests/recheck/differential/main.rs"])
+    check(["rustc", "--edition", "2021", "-o", tmp_path / "calls", ROOT / "tests/recheck/differential/main.rs"])
     calls, total = map(int, check([tmp_path / "calls", turns, seed]).split())
     assert calls >= 100_000
     expected = f"Some ({calls}, {total}%uint63)"
