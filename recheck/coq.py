@@ -12,8 +12,9 @@ class Failed(Exception):
     """Something is not proved."""
 
 
-# coqc fills 256 MB with new values before it collects any. With 32 MB it takes half the memory, and less time.
-HEAP = {"OCAMLRUNPARAM": "s=4M,o=1000"}
+# coqc fills 256 MB with new values before it collects any. With 64 MB it takes less memory and less time, and less time
+# again with large pages, which the kernel clears in fewer steps.
+HEAP = {"OCAMLRUNPARAM": "s=8M,o=1000", "GLIBC_TUNABLES": "glibc.malloc.hugetlb=1"}
 # A warning is a fault, except one: the translated definitions have names that they do not need.
 WARNINGS = "+default,-unused-pattern-matching-variable"
 

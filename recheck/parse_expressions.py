@@ -10,6 +10,7 @@ from rust_tree import AnyPattern, Expr, Variable
 
 COMPARISONS = ["==", "!=", "<", ">", "<=", ">="]
 BINARY = [["||"], ["&&"], COMPARISONS, ["|"], ["^"], ["&"], ["<<", ">>"], ["+", "-"], ["*", "/", "%"]]
+LEVELS = {operator: level for level, operators in enumerate(BINARY) for operator in operators}
 ASSIGNING = {"=", "|=", "&=", "^=", "+=", "-=", "*=", "/=", "%="}
 
 
@@ -74,17 +75,16 @@ class ExpressionParser(PatternParser):
         return self.binary(0, records)
 
     def binary(self, level: int, records: bool) -> Expr:
-        if level == len(BINARY):
-            return self.cast(records)
-        line, left, count = self.line(), self.binary(level + 1, records), 0
-        while self.next in BINARY[level] and self.tokens[self.at].kind == "sign":
+        """With the operators of this level of BINARY, and of those after it, which bind closer."""
+        line, left, previous = self.line(), self.cast(records), ""
+        while LEVELS.get(self.next, -1) >= level and self.tokens[self.at].kind == "sign":
             operator = self.next
             self.at += 1
-            count += 1
-            if count > 1 and operator in COMPARISONS:
+            if previous in COMPARISONS and operator in COMPARISONS:
                 self.refuse("a comparison of a comparison")
-            right = self.binary(level + 1, records)
+            right = self.binary(LEVELS[operator] + 1, records)
             left = self.shift(line, left, right) if operator in ("<<", ">>") else Binary(line, operator, left, right)
+            previous = operator
         return left
 
     def shift(self, line: int, left: Expr, right: Expr) -> Expr:

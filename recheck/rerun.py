@@ -77,8 +77,9 @@ def translated(root: Path, around: bool = True) -> tuple[dict[str, str], list[st
     types, code = rust2coq.translate(crate, [*functions, *crate.functions])
     shell = shell2coq.ShellCrate(root / CRATES["shell"], crate, left["shell"])
     public = shell.public()
-    files = {"Types": types, "Code": code, "Definitions": antt2coq.translate(root / "crates", crate, LAWS + WORDS),
-             "ShellCode": shell2coq.translate(shell, [*public, *shell.translated()], code)}
+    files = {"Types": types, "Code": code,
+             "ShellCode": shell2coq.translate(shell, [*public, *shell.translated()], code),
+             "Definitions": antt2coq.translate(root / "crates", crate, LAWS + WORDS)}
     return files, [rust2coq.coq_name(name) for name in functions] + [shell2coq.coq_name(name) for name in public]
 
 

@@ -40,12 +40,14 @@ def tokens(text: str, file: Path | str) -> list[Token]:
     found, at, line = [], 0, 1
     while at < len(text):
         match = TOKEN.match(text, at)
-        if not match or match["block"]:
+        if not match or match.lastgroup == "block":
             raise Refused(f"{file}:{line}: {text[at:at + 20]!r}")
-        kind = "number" if match["number"] else str(match.lastgroup)
-        if kind not in ("comment", "space"):
-            found.append(Token(kind, match["number"] or match.group(), line, match["suffix"]))
-        line += match.group().count("\n")
+        kind, word = str(match.lastgroup), match.group()
+        if kind == "suffix":
+            found.append(Token("number", match["number"], line, match["suffix"]))
+        elif kind not in ("comment", "space"):
+            found.append(Token(kind, word, line))
+        line += word.count("\n")
         at = match.end()
     return found
 
@@ -81,7 +83,8 @@ class Cursor:
 
     def has(self, text: str) -> bool:
         """Whether this keyword or sign is ahead. If so, it is behind now."""
-        if self.tokens[self.at].kind in ("sign", "name") and self.next == text:
+        token = self.tokens[self.at]
+        if token.text == text and token.kind in ("sign", "name"):
             self.at += 1
             return True
         return False

@@ -24,7 +24,7 @@ def test_every_claim_is_proved(checked):
 def test_code_does_what_coq_computes(checked, tmp_path):
     """Random calls of every public function, 100,000 of them: the compiled code and the translation give the same."""
     folder, turns, seed = checked[0], 80_000, 88172645463325252
-    check(["rustc", "-O", "--edition", "2021", "-o", tmp_path / "calls", ROOT / "tests/recheck/differential/main.rs"])
+    check(["rustc", "--edition", "2021", "-o", tmp_path / "calls", ROOT / "tests/recheck/differential/main.rs"])
     calls, total = map(int, check([tmp_path / "calls", turns, seed]).split())
     assert calls >= 100_000
     expected = f"Some ({calls}, {total}%uint63)"
@@ -36,7 +36,7 @@ def test_code_does_what_coq_computes(checked, tmp_path):
 
 
 # What is done to which file, and what the run says then. The name of a function without a theorem still stands there: in
-# a comment, in the proof of a theorem, and in a lemma.
+# a comment, in the proof of a theorem, and in a lemma. No file of proofs requires these, so Coq checks few of them again.
 GAPS = {
     "a law without a theorem": (
         "ConsoleLawsDriver", r"Theorem (?=console_monitors :)", "Lemma ", r"^no theorem is MonitoredLaw$"),
@@ -53,10 +53,13 @@ GAPS = {
         "ConsoleLawsDriver", r"(?<=Theorem console_at_reset : ResetLaw\.\n).*", "Admitted.",
         r"^theorems rest on something:\n(?s:.*)^ConsoleLawsDriver\.console_at_reset : Definitions\.ResetLaw$"),
     "a function without a theorem whose name begins another one's": (
-        "Shell", r"Theorem rtc_read (?s:.*?)Qed\.\n", "(* vm_Rtc_read clock *)\n", r"^no theorem names vm_Rtc_read$"),
+        "CFunctions", r"Theorem superio_console_suspend (?s:.*?)Qed\.\n",
+        "Definition rs_superio_console_suspend_all := true.\n"
+        "Theorem suspend_all : rs_superio_console_suspend_all = true. Proof. reflexivity. Qed.\n",
+        r"^no theorem names rs_superio_console_suspend$"),
     "a function of the shell without a theorem": (
-        "Shell", r"(?<=Theorem serial_objects port : )gives \(vm_Serial_writer port\)[^\n]*\n  /\\ ", "(* vm_Serial_writer *) ",
-        r"^no theorem names vm_Serial_writer$"),
+        "Controller", r"  /\\ gives \(vm_I8042Device_reset_evt device\)[^\n]*\n", "  (* vm_I8042Device_reset_evt *)\n",
+        r"^no theorem names vm_I8042Device_reset_evt$"),
 }
 
 

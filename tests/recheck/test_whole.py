@@ -189,11 +189,13 @@ def sources(tmp_path_factory):
 
 
 def changed(sources, root, changes):
-    shutil.copytree(sources, root)
+    """The sources at `root` with these changes. A file that is not changed is that of `sources`, under another name."""
+    shutil.copytree(sources, root, copy_function=os.link)
     for file, old, new in changes:
         (root / file).parent.mkdir(exist_ok=True)
         text = "" if old is None else (root / file).read_text()
         assert old is None or old in text, f"{file} has no {old!r}"
+        (root / file).unlink(missing_ok=True)
         (root / file).write_bytes((text.replace(old, new, 1) if old else text + new).encode())
 
 
