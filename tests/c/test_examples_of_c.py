@@ -125,38 +125,69 @@ def test_rules_of_a_monitor(tmp_path):
 
 
 SET_PIPE_SIZE = 1031   # of Linux, which Python 3.9 does not name
-# How long the guest of machine.c is held until the reader of its output takes some. Afterwards output is dropped.
-A_SECOND = "    end.tv_sec++;\n"
-SAVED = "    save(from, &saved);\n"
-LAST = "    pthread_mutex_lock(&processor); /* the last one"
-AFTERWARDS = "    if (!restore(to, &saved))\n"
-# A move that saves a machine whose guest makes an access, or makes further ones.
-TOO_EARLY = at_least(2, [
-    [(SAVED, ""), (LAST, SAVED + LAST)],
-    [(AFTERWARDS, "    from->is_stopped = false;\n    pthread_create(loop, NULL, event_loop, from);\n"
-      "    pthread_mutex_unlock(&processor);\n    pthread_mutex_unlock(&door);\n    poll(NULL, 0, 200);\n"
-      "    pthread_mutex_lock(&door);\n    pthread_mutex_lock(&processor);\n    pthread_mutex_lock(&from->lock);\n"
-      "    from->is_stopped = true;\n    pthread_mutex_unlock(&from->lock);\n    eventfd_write(from->wake_up, 1);\n"
-      f"    pthread_join(*loop, NULL);\n{AFTERWARDS}")],
-])
+# How machine.c is edited so that nothing depends on who comes first. Its guest is held until the reader of its output
+# takes some, and is moved once it is held, with all that the port can hold. A line on standard error then has the
+# reader begin. `written` counts what has gone out since the machine was saved.
+PATIENT = {
+    "    end.tv_sec++;\n": f"    end.tv_sec += {LIMIT};\n",
+    "struct machine {\n": "static size_t written;\n\nstruct machine {\n",
+    "        superio_console_consume(&machine->console, (size_t)count);\n":
+        "        superio_console_consume(&machine->console, (size_t)count);\n        written += (size_t)count;\n",
+    "    save(from, &saved);\n": "    save(from, &saved);\n    written = 0;\n",
+    "    poll(NULL, 0, 500); /* half a second */\n": """    for (bool is_held = false; !is_held; poll(NULL, 0, 1)) {
+        pthread_mutex_lock(&here->lock);
+        is_held = superio_console_is_full(&here->console) && superio_console_wants(&here->console).input == 0;
+        pthread_mutex_unlock(&here->lock);
+    }
+""",
+}
+SAVED = "    save(from, &saved);\n    written = 0;\n"
+BEGIN = "    pthread_mutex_lock(&door);      /* no access begins */\n"
+TOLD = '    write(STDERR_FILENO, "held\\n", 5);\n'
+STOPPED = """    pthread_mutex_lock(&door);
+    pthread_mutex_lock(&processor);
+    pthread_mutex_lock(&from->lock);
+    from->is_stopped = true;
+    pthread_mutex_unlock(&from->lock);
+    eventfd_write(from->wake_up, 1);
+    pthread_join(*loop, NULL);
+"""
+GOES_ON = """    from->is_stopped = false;
+    pthread_create(loop, NULL, event_loop, from);
+    pthread_mutex_unlock(&processor);
+    pthread_mutex_unlock(&door);
+    for (bool is_late = false; !is_late; poll(NULL, 0, 1)) {
+        pthread_mutex_lock(&from->lock);
+        is_late = written > 0;
+        pthread_mutex_unlock(&from->lock);
+    }
+"""
+# A good move. Then moves that save a machine whose guest makes an access, or makes further ones: what goes out after
+# that goes out again.
+MOVES = {
+    "at rest": {BEGIN: BEGIN + TOLD},
+    "in an access": {SAVED: "", BEGIN: BEGIN + SAVED + TOLD},
+    "before further accesses": {BEGIN: BEGIN + TOLD, SAVED: SAVED + GOES_ON + STOPPED},
+}
 
 
 def came_back(edits, typed, folder):
-    """What a machine sends whose guest is soon held: for a while nobody reads. One that loses an alarm would never end."""
+    """What a machine sends whose guest is held before it moves."""
     machine = (ROOT / "examples/c/machine.c").read_text("utf-8")
-    for old, new in [(A_SECOND, f"    end.tv_sec += {LIMIT};\n"), *edits]:
-        assert machine.count(old) == 1
+    for old, new in [*PATIENT.items(), *edits.items()]:
+        assert machine.count(old) == 1, old
         machine = machine.replace(old, new)
     (folder / "machine.c").write_text(machine, "utf-8")
     check(["cc", "-I", ROOT / "bindings/c", folder / "machine.c", PREBUILT / f"{platform.machine()}-linux" / STATIC,
-           "-pthread", "-o", folder / "machine"], "")
+           "-pthread", "-o", folder / "machine"])
     reader, writer = os.pipe()
     fcntl.fcntl(writer, SET_PIPE_SIZE, 4096)
-    with subprocess.Popen(["timeout", "20", folder / "machine"], stdin=subprocess.PIPE, stdout=writer) as process:
+    with subprocess.Popen(["timeout", f"{LIMIT}", folder / "machine"], stdin=subprocess.PIPE, stdout=writer,
+                          stderr=subprocess.PIPE) as process:
         os.close(writer)
         process.stdin.write(typed)
         process.stdin.close()
-        time.sleep(1)
+        assert process.stderr.readline() == b"held\n"
         with open(reader, "rb") as output:
             return output.read()
 
@@ -165,14 +196,11 @@ TEXT = b"".join(b"%d, " % number for number in range(5000)) + b"and so on\n"
 ALL = TEXT.upper() + (ROOT / "examples/c/expected").read_bytes().removeprefix(b"HELLO\n")
 
 
-def test_a_machine_moves(tmp_path):
-    """While its guest is held, input waits in the port, and output in the console: each byte comes back once."""
-    assert came_back([], TEXT, tmp_path) == ALL
-
-
-@pytest.mark.parametrize("edits", TOO_EARLY)
-def test_a_machine_that_moves_too_early(edits, tmp_path):
-    assert came_back(edits, TEXT, tmp_path) != ALL
+@pytest.mark.parametrize("saved", MOVES)
+def test_a_machine_moves(saved, tmp_path):
+    """While its guest is held, input waits in the port, and output in the console: each byte comes back once, if the
+    machine is saved at rest."""
+    assert (came_back(MOVES[saved], TEXT, tmp_path) == ALL) == (saved == "at rest")
 
 
 def test_a_machine_sleeps(tmp_path):
