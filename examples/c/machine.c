@@ -113,7 +113,8 @@ static void follow_clock(struct machine *machine) {
     machine->clock_was_up = is_up;
 }
 
-/* The timer has gone off: a read in the guest's place finds the alarm. The timer is set again, so it need not be read. */
+/* The timer has gone off. A read of RTCMIS in the guest's place makes the clock notice the alarm. follow_clock sets the
+ * timer again, so you need not read() its file. */
 static void alarm_is_due(struct machine *machine) {
     take_moment(machine);
     superio_rtc_read(&machine->clock, RTCMIS, machine->now);
@@ -122,9 +123,9 @@ static void alarm_is_due(struct machine *machine) {
 
 /* After a reset or a restore: the interrupt controller may have another level than the one that was set last. */
 static void follow_clock_again(struct machine *machine) {
+    machine->clock_was_up = !superio_rtc_interrupt_line(&machine->clock); /* so that the level is set in any case */
     take_moment(machine);
     follow_clock(machine);
-    set_clock_line(machine, machine->clock_was_up);
 }
 
 static bool is_clock(uint64_t address) {
@@ -187,11 +188,11 @@ static uint8_t port_read(struct machine *machine, uint16_t port) {
     return is_serial(port) ? read_access(machine, (uint8_t)(port - COM1)) : 0xFF;
 }
 
-/* An access has ended. If it asked for a reset, the machine is reset. A monitor with more processors stops the others
- * first. The clock goes on. */
+/* An access has been served. If it asked for a reset, the machine is reset. The clock goes on. */
 static void end_access(struct machine *machine) {
     pthread_mutex_lock(&machine->lock);
     if (machine->is_reset) {
+        /* A monitor releases the lock here to stop its processors, which may wait for the lock, and takes it again. */
         clear(machine->irq); /* in place of a reset of the interrupt controller */
         if (interrupt(machine, superio_console_reset(&machine->console)))
             eventfd_write(machine->wake_up, 1);

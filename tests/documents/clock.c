@@ -122,6 +122,16 @@ static void check_ports(struct machine *machine) {
     expect(!machine->is_reset && port_read(machine, COM1 + 7) == 0, "the access ends");
 }
 
+/* After a reset the controller may have either level. It is told the clock's level once. */
+static void check_line_again(struct machine *machine) {
+    for (int was_up = 0; was_up < 2; was_up++) {
+        machine->clock_was_up = was_up;
+        levels = 0;
+        follow_clock_again(machine);
+        expect(levels == 1 && !line, "the line is set again");
+    }
+}
+
 /* Restores a machine whose alarm is due in a day, and whose last moment is so many seconds after the time of day. Returns
  * how many seconds the first moment is after it. */
 static int64_t restored(struct machine *machine, int64_t ahead, const char *step) {
@@ -150,6 +160,7 @@ int main(void) {
     expect(is_present(machine.now), "the clock is opened");
     check_alarm(&machine);
     check_ports(&machine);
+    check_line_again(&machine);
     expect(is_about(restored(&machine, 2 * DAY, "a load"), 2 * DAY), "the time of day is behind");
     expect(is_about(restored(&machine, -2 * DAY, "a load"), 0), "the time of day is ahead");
     puts("each step is right");

@@ -1,5 +1,6 @@
 /* SPDX-License-Identifier: Apache-2.0 OR BSD-3-Clause */
-/* The handler of KVM's exits in docs/C.md, which stands at HANDLER, over machine.c, which stands at MACHINE. There is
+/* The handler of KVM's exits in docs/C.md, which stands at HANDLER, with the page's lines for a serial port in memory,
+ * over machine.c, which stands at MACHINE. There is
  * no KVM here: each step fills in a struct kvm_run as KVM does. The first step that goes wrong is named, and ends the
  * program with status 1. */
 #define _GNU_SOURCE
@@ -7,6 +8,8 @@
 #include <stdlib.h>
 
 MACHINE
+
+enum { SERIAL = 0x9000000, STRIDE = 4 };
 
 HANDLER
 
@@ -83,11 +86,29 @@ static void check_memory(void) {
     expect(machine.clock.mr == 0x04030201, "half a word is not written");
 }
 
+/* Each register is four bytes after the one before. An access of any width means one register. */
+static void check_port_in_memory(void) {
+    memcpy(shared.run.mmio.data, (uint8_t[]){0x1B, 0xFF, 0xFF, 0xFF}, 4);
+    access_memory(true, SERIAL + 3 * STRIDE, 4);
+    expect(machine.console.port.line_control == 0x1B && machine.console.port.modem_control == 0x08,
+           "a register is written");
+    memset(shared.run.mmio.data, UNTOUCHED, sizeof shared.run.mmio.data);
+    access_memory(false, SERIAL + 3 * STRIDE, 4);
+    expect(memcmp(shared.run.mmio.data, (uint8_t[]){0x1B, 0, 0, 0}, 4) == 0, "a register is read");
+    access_memory(false, SERIAL, 1);
+    expect(shared.run.mmio.data[0] == 0, "the first register is read");
+    for (int i = 0; i < 2; i++) {
+        access_memory(false, i == 0 ? SERIAL - 1 : SERIAL + 8 * STRIDE, 1);
+        expect(shared.run.mmio.data[0] == 0xFF, "no register is read");
+    }
+}
+
 int main(void) {
     open_machine(&machine, STDIN_FILENO, STDOUT_FILENO);
     check_ports();
     check_strings();
     check_memory();
+    check_port_in_memory();
     data[0] = 0xFE;
     access_ports(KVM_EXIT_IO_OUT, SUPERIO_I8042_COMMAND_PORT, 1, 1);
     expect(machine.console.port.interrupt_enable == 0, "the machine is reset");

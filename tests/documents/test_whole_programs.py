@@ -310,7 +310,7 @@ def test_other_accesses(line, old, new, said, tmp_path):
 
 
 # Edits of machine.c, and the first step of clock.c that goes wrong.
-OTHER_CLOCKS = at_least(12, [
+OTHER_CLOCKS = at_least(14, [
     ("if (due != SUPERIO_RTC_NEVER)\n", "if (due != 0)\n", "no alarm is set"),
     ("seconds(CLOCK_REALTIME) - seconds(CLOCK_BOOTTIME);", "seconds(CLOCK_MONOTONIC) - seconds(CLOCK_BOOTTIME);",
      "the clock is opened"),
@@ -331,6 +331,10 @@ OTHER_CLOCKS = at_least(12, [
     ("host ? moment : host)", "host ? host : moment)", "the time of day is behind"),
     ("> host ? moment : host)", "> 0 ? moment : host)", "the time of day is ahead"),
     ("        follow_clock_again(machine);\n    }\n    pthread", "    }\n    pthread", "the clock is restored"),
+    ("= !superio_rtc_interrupt_line", "= superio_rtc_interrupt_line", "the line is set again"),
+    ("    follow_clock(machine);\n}\n\nstatic bool is_clock",
+     "    follow_clock(machine);\n    set_clock_line(machine, machine->clock_was_up);\n}\n\nstatic bool is_clock",
+     "the line is set again"),
 ])
 MACHINE = WITH_FILES["machine"]
 
@@ -391,8 +395,11 @@ def test_other_clocks_alone(old, new, said, tmp_path):
     assert clock_alone(tmp_path, (old, new)) == f"{said}\n"
 
 
-# Edits of the handler of KVM's exits, and the first step of exits.c that goes wrong.
-OTHER_EXITS = at_least(10, [
+# The handler of KVM's exits, with the lines for a serial port in memory.
+FIRST_OF_MEMORY = "    } else if (run->exit_reason == KVM_EXIT_MMIO && run->mmio.is_write) {\n"
+HANDLER = code("docs/C.md", "c", "serve_exit").replace(FIRST_OF_MEMORY, code("docs/C.md", "c", "STRIDE") + FIRST_OF_MEMORY)
+# Edits of this handler, and the first step of exits.c that goes wrong.
+OTHER_EXITS = at_least(18, [
     ("i % run->io.size", "i", "two bytes are written twice"),
     ("i % run->io.size", "0", "two bytes are written"),
     ("run->io.count * run->io.size", "run->io.count", "two bytes are written"),
@@ -402,6 +409,17 @@ OTHER_EXITS = at_least(10, [
     (" + run->io.data_offset;", ";", "two bytes are written"),
     ("bytes[i] = port_read", "bytes[0] = port_read", "two bytes are read"),
     ("&& run->mmio.is_write", "&& !run->mmio.is_write", "a word is written"),
+    ("if (run->mmio.is_write)", "if (!run->mmio.is_write)", "a register is written"),
+    ("- SERIAL) / STRIDE);", "- SERIAL));", "a register is written"),
+    ("- SERIAL) / STRIDE);", "- SERIAL) / STRIDE + 1);", "a register is written"),
+    ("write_access(machine, offset, run->mmio.data[0]);",
+     "for (uint8_t i = 0; i < run->mmio.len; i++) write_access(machine, (uint8_t)(offset + i), run->mmio.data[i]);",
+     "a register is written"),
+    ("(uint8_t[8]){read_access(machine, offset)}, 8);", "(uint8_t[8]){read_access(machine, offset)}, 1);",
+     "a register is read"),
+    (" < SUPERIO_SERIAL_PORTS * STRIDE", " - 1 < SUPERIO_SERIAL_PORTS * STRIDE - 1", "the first register is read"),
+    (" < SUPERIO_SERIAL_PORTS * STRIDE", " + 1 < SUPERIO_SERIAL_PORTS * STRIDE + 1", "no register is read"),
+    (" < SUPERIO_SERIAL_PORTS * STRIDE", " <= SUPERIO_SERIAL_PORTS * STRIDE", "no register is read"),
     ("    end_access(machine);\n", "", "the machine is reset"),
     ("return true;", "return false;", "an access of ports is served"),
     ("return false;", "return true;", "another exit is left to the caller"),
@@ -418,15 +436,18 @@ def exits(handler, folder):
 
 
 @pytest.mark.needs("cc")
-def test_exits(tmp_path):
-    """Each byte of an access reaches its port, and the guest gets what the devices return."""
-    assert exits(code("docs/C.md", "c", "serve_exit"), tmp_path) == "each step is right\n"
+@pytest.mark.parametrize("handler, said", [(code("docs/C.md", "c", "serve_exit"), "a register is written"),
+                                           (HANDLER, "each step is right")], ids=["ports", "memory"])
+def test_exits(handler, said, tmp_path):
+    """Each byte of an access reaches its port, and the guest gets what the devices return. Without the lines for a serial
+    port in memory, only this port is not there."""
+    assert exits(handler, tmp_path) == f"{said}\n"
 
 
 @pytest.mark.needs("cc")
 @pytest.mark.parametrize("old, new, said", OTHER_EXITS)
 def test_other_exits(old, new, said, tmp_path):
-    assert exits(edited(code("docs/C.md", "c", "serve_exit"), [(old, new)]), tmp_path) == f"{said}\n"
+    assert exits(edited(HANDLER, [(old, new)]), tmp_path) == f"{said}\n"
 
 
 @pytest.mark.parametrize("document, of", at_least(6, [
