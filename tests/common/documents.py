@@ -3,7 +3,7 @@
 import os
 import re
 import shutil
-from functools import lru_cache
+from functools import cached_property, lru_cache
 from pathlib import Path
 from typing import NamedTuple
 
@@ -43,7 +43,7 @@ class Document:
     def __str__(self):
         return str(self.path)
 
-    @property
+    @cached_property
     def blocks(self):
         found, end = [], 0
         for block in BLOCK.finditer(self.text):
@@ -53,18 +53,18 @@ class Document:
             end = block.end()
         return found
 
-    @property
+    @cached_property
     def prose(self):
         """The text without its fenced blocks, whose lines are left empty."""
         return BLOCK.sub(lambda block: "\n" * block[0].count("\n"), self.text)
 
-    @property
+    @cached_property
     def anchors(self):
         """The anchors of the headings, as hosting sites make them."""
         shown = [re.sub(r"\]\([^)]*\)", "", heading) for heading in HEADING.findall(self.prose)]
         return [re.sub(r"[^\w\- ]", "", heading.lower()).replace(" ", "-") for heading in shown]
 
-    @property
+    @cached_property
     def links(self):
         """The targets of the links outside code."""
         return ["".join(targets) for targets in LINK.findall(CODE.sub("", self.prose))]
