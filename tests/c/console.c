@@ -96,7 +96,7 @@ static unsigned draw(struct console *it, unsigned bound) {
     it->random ^= it->random << 13;
     it->random ^= it->random >> 17;
     it->random ^= it->random << 5;
-    return it->random % bound;
+    return (unsigned)((uint64_t)it->random * bound >> 32); /* faster than by a division */
 }
 
 /* The size of a piece. Most are small. */

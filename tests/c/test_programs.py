@@ -15,6 +15,7 @@ cross compilers and qemu's user mode.
 import os
 import re
 import shutil
+from functools import cache
 from pathlib import Path
 
 import pytest
@@ -75,6 +76,7 @@ def from_source(tmp_path_factory):
     """Gives the library that Cargo makes of bindings/c/from-source for a processor."""
     folder = tmp_path_factory.mktemp("from-source")
 
+    @cache
     def build(processor):
         target = PROCESSORS[processor][0]
         toolchain = toolchain_for(target)

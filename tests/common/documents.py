@@ -1,8 +1,9 @@
 # SPDX-License-Identifier: Apache-2.0 OR BSD-3-Clause
 """The repository's documents, as one reader of Markdown shows them to all tests."""
+import os
 import re
 import shutil
-from functools import lru_cache
+from functools import cached_property, lru_cache
 from pathlib import Path
 from typing import NamedTuple
 
@@ -42,7 +43,7 @@ class Document:
     def __str__(self):
         return str(self.path)
 
-    @property
+    @cached_property
     def blocks(self):
         found, end = [], 0
         for block in BLOCK.finditer(self.text):
@@ -52,18 +53,18 @@ class Document:
             end = block.end()
         return found
 
-    @property
+    @cached_property
     def prose(self):
         """The text without its fenced blocks, whose lines are left empty."""
         return BLOCK.sub(lambda block: "\n" * block[0].count("\n"), self.text)
 
-    @property
+    @cached_property
     def anchors(self):
         """The anchors of the headings, as hosting sites make them."""
         shown = [re.sub(r"\]\([^)]*\)", "", heading) for heading in HEADING.findall(self.prose)]
         return [re.sub(r"[^\w\- ]", "", heading.lower()).replace(" ", "-") for heading in shown]
 
-    @property
+    @cached_property
     def links(self):
         """The targets of the links outside code."""
         return ["".join(targets) for targets in LINK.findall(CODE.sub("", self.prose))]
@@ -75,11 +76,18 @@ def table(text, heading):
     return [[cell.strip() for cell in row.split("|")[1:-1]] for row in found.splitlines()[2:]]
 
 
+def files():
+    """The path of each file from the top of the repository, without what builds and git write. Their folders, which may
+    have many files, are not even read."""
+    for folder, folders, names in os.walk(ROOT):
+        folders[:] = {*folders} - {".git", *BUILT}
+        yield from (Path(folder, name).relative_to(ROOT) for name in names)
+
+
 @lru_cache(maxsize=None)   # several files of tests ask for them while they are collected, in each process of a run
 def documents():
     """Each document, README.md first."""
-    paths = [path.relative_to(ROOT) for path in ROOT.rglob("*.md")]
-    kept = [path for path in paths if not BUILT & set(path.parts) and not path.parts[0].startswith(".")]
+    kept = [path for path in files() if path.suffix == ".md" and not path.parts[0].startswith(".")]
     return tuple(Document(path) for path in sorted(kept, key=lambda path: (len(path.parts), path)))
 
 

@@ -6,6 +6,7 @@ copies lead to these. A fenced block is an excerpt if the line before it ends wi
 has its lines, in their order, and may have others between them.
 """
 import re
+from functools import cache
 
 import documents as reader
 import pytest
@@ -18,10 +19,12 @@ COPIED = [ROOT / "crates" / name for name in ("superio_core", "superio_laws", "v
 SOURCE = re.compile(r".*\]\(([^)#]+\.(?:antt|c|h|mjs|py|rs|rt))\)[^\n]*:\s*\Z")   # before an excerpt
 LINKS = at_least(300, [(document, link) for document in DOCUMENTS for link in document.links
                        if not re.match(r"\w+:", link)])
+ANCHORS = {ROOT / document.path: document.anchors for document in DOCUMENTS}
 EXCERPTS = at_least(4, [(document, block, SOURCE.search(block.before)[1]) for document in DOCUMENTS
                         for block in document.blocks if SOURCE.search(block.before)])
 
 
+@cache
 def target(document, link):
     """The path and the anchor that a link leads to."""
     name, _, anchor = link.partition("#")
@@ -84,7 +87,7 @@ def test_link(document, link):
     own = (ROOT / document.path).parents
     assert path.exists(), "leads nowhere"
     assert any(map(path.is_relative_to, COPIED if {*COPIED} & {*own} else [ROOT])), "leads out of what is copied"
-    assert not anchor or anchor in Document(path.relative_to(ROOT)).anchors, "there is no such heading"
+    assert not anchor or anchor in ANCHORS[path], "there is no such heading"
 
 
 @pytest.mark.parametrize("document, block, source", EXCERPTS,

@@ -17,7 +17,7 @@ from functools import cached_property
 
 import pytest
 from contracts import functions_of, without_generics
-from documents import BUILT, CODE, Document, documents
+from documents import CODE, Document, documents, files
 from harness import ROOT, at_least, check
 
 CLAIMS = ["docs/CONTRACTS.md", "docs/SCRIPT.md", "crates/superio_examples/README.md"]
@@ -44,15 +44,15 @@ class Sources:
     them."""
 
     def __init__(self):
-        paths = [path for path in ROOT.rglob("*")
-                 if path.is_file() and not {".git", *BUILT} & set(path.relative_to(ROOT).parts)]
+        paths = [*files()]
         drivers = re.findall(r"(?<=  ).+", "".join(path.read_text() for path in (ROOT / "tests/guests").glob("*.sha256")))
-        self.files = "".join(f"/{name}\n" for name in [*(path.relative_to(ROOT) for path in paths), *drivers])
-        self.texts = {path: path.read_text(encoding="utf-8", errors="ignore") for path in paths if path.suffix != ".md"}
+        self.files = "".join(f"/{name}\n" for name in [*paths, *drivers])
+        self.texts = {path: (ROOT / path).read_text(encoding="utf-8", errors="ignore") for path in paths
+                      if path.suffix != ".md"}
         self.functions = []
         for path, text in sorted(self.texts.items()):
             if path.suffix in (".rs", ".rt"):
-                modules = [part for part in path.relative_to(ROOT).with_suffix("").parts
+                modules = [part for part in path.with_suffix("").parts
                            if part not in ("crates", "src", "lib", "main")]
                 self.functions += [replace(function, path=(*modules, *function.path))
                                    for function in functions_of(text)]

@@ -487,8 +487,10 @@ def test_bare_port(line, tmp_path):
 
 @pytest.fixture(scope="module")
 def built(tmp_path_factory):
-    """An environment in which Cargo compiles the crates once for all programs."""
-    return {**os.environ, "CARGO_TARGET_DIR": str(tmp_path_factory.mktemp("target"))}
+    """An environment in which Cargo compiles the crates once for all programs, and writes nothing for a debugger or for
+    another build of the same program."""
+    return {**os.environ, "CARGO_TARGET_DIR": str(tmp_path_factory.mktemp("target")), "CARGO_PROFILE_DEV_DEBUG": "0",
+            "CARGO_INCREMENTAL": "0"}
 
 
 def run_rust(program, printed, typed, built, folder):
