@@ -132,12 +132,20 @@ impl Trial {
         bytes.split_off(bytes.len() - count)
     }
 
-    /// Nothing polls a file again and again.
+    /// Nothing polls a file again and again: soon nothing happens for a while, three times in a row.
     fn sleeps(&self, when: &str) {
-        sleep(SHORT);
-        let before = (self.source.uses(), self.reader.uses());
-        sleep(SHORT);
-        assert_eq!((self.source.uses(), self.reader.uses()), before, "the loop does not sleep {when}");
+        let uses = || (self.source.uses(), self.reader.uses());
+        let (mut before, mut quiet) = (uses(), 0);
+        for _ in 0..60 {
+            sleep(SHORT);
+            let now = uses();
+            quiet = if now == before { quiet + 1 } else { 0 };
+            if quiet == 3 {
+                return;
+            }
+            before = now;
+        }
+        panic!("the loop does not sleep {when}");
     }
 
     /// The loop ends with the guest.
