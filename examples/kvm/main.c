@@ -22,6 +22,7 @@ static const char *end_reason; /* why the monitor is to end, if it is, */
 static int end_status;         /* and with which status */
 static pthread_cond_t has_room = PTHREAD_COND_INITIALIZER; /* the output */
 static bool is_stuck;          /* its reader has taken nothing for long */
+static uint64_t taken;         /* bytes of output, by this reader */
 static uint64_t refused;       /* bytes of output, by a pipe that is closed or a disk that is full */
 static bool restarts;          /* the machine, when the guest resets it */
 static const char *image, *initramfs, *kernel_words = "console=ttyS0 reboot=k panic=1";
@@ -96,8 +97,9 @@ bool monitor_hold(void) {
     struct timespec end;
     clock_gettime(CLOCK_MONOTONIC, &end);
     end.tv_sec++;
+    uint64_t before = taken; /* the reader may take some just as the time ends */
     if (!is_stuck && !end_reason)
-        is_stuck = pthread_cond_clockwait(&has_room, &lock, CLOCK_MONOTONIC, &end) != 0;
+        is_stuck = pthread_cond_clockwait(&has_room, &lock, CLOCK_MONOTONIC, &end) != 0 && taken == before;
     return !is_stuck && !end_reason;
 }
 
@@ -118,6 +120,7 @@ static bool write_output(int patience) {
         return ready != 0;
     pthread_mutex_lock(&lock);
     serial_consume(1);
+    taken++;
     refused += !is_written;
     is_stuck = false;
     pthread_cond_signal(&has_room);

@@ -14,11 +14,11 @@ HERE = ROOT / "examples" / "kvm"
 # What takes the place of each program, as long as FAILS does not name it. Of a package, dpkg unpacks the files. A guest
 # has no library, so that only the busybox of busybox-static runs there.
 PROGRAMS = {
-    "apt-cache": 'echo "  Depends: linux-image-6"',
+    "apt-cache": 'echo "  Depends: linux-image-$VERSION"',
     "apt-get": 'shift; for package; do echo "$package" > "$package.deb"; done',
     "dpkg": """mkdir -p boot bin
 case $2 in
-linux-image-6.deb) echo kernel > boot/vmlinuz-6 ;;
+linux-image-*.deb) echo "kernel $VERSION" > "boot/vmlinuz-$VERSION" ;;
 busybox-static.deb) cp "$(command -v busybox)" bin ;;
 esac""",
     "busybox": 'cat; echo "$*"',
@@ -39,18 +39,18 @@ def fetch(tmp_path):
         (programs / name).chmod(0o755)
 
     def call(fails="", **more):
-        environment = {**os.environ, "PATH": f"{programs}:/usr/bin:/bin", "FAILS": fails, **more}
+        environment = {**os.environ, "PATH": f"{programs}:/usr/bin:/bin", "FAILS": fails, "VERSION": "6", **more}
         ran = run([HERE / "fetch", folder], env=environment)
         return ran.returncode, ran.stdout, folder
     return call
 
 
 def test_fetch(fetch):
-    """Twice, as the second time the folder is there already."""
-    for _ in range(2):
-        status, said, folder = fetch()
+    """Three times: then the folder is there already, and then there is another version, too."""
+    for version in ("6", "6", "7"):
+        status, said, folder = fetch(VERSION=version)
         assert (status, said) == (0, ""), said
-        assert (folder / "kernel").read_text("ascii") == "kernel\n"
+        assert (folder / "kernel").read_text("ascii") == f"kernel {version}\n"
         *names, words = (folder / "initramfs").read_text("ascii").splitlines()
         assert {"./init", "./bin/busybox", "./dev", "./proc"} <= {*names} and words == "cpio -o -H newc"
         assert os.access(folder / "root" / "init", os.X_OK)

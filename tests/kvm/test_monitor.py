@@ -218,10 +218,18 @@ def test_resets_leave_nothing(over_host):
     assert ran.returncode == 0 and ran.stdout.count("edges of irq 4  at 7c00") == 17, ran.stdout[-300:]
 
 
-# Over main.c alone: whether a guest is held, by whether its reader is stuck and the monitor is to end.
+# Over main.c alone: whether a guest is held, by whether its reader is stuck and the monitor is to end, or takes some just
+# as the time ends.
 HOLDS = """#define main main_of_the_monitor
 #include "main.c"
 #undef main
+static bool takes;
+int __real_pthread_cond_clockwait(pthread_cond_t *, pthread_mutex_t *, clockid_t, const struct timespec *);
+int __wrap_pthread_cond_clockwait(pthread_cond_t *room, pthread_mutex_t *mutex, clockid_t clock,
+                                  const struct timespec *end) {
+    taken += takes;
+    return takes ? ETIMEDOUT : __real_pthread_cond_clockwait(room, mutex, clock, end);
+}
 int main(void) {
     for (int number = 1; number < 4; number++) {
         is_stuck = number & 1;
@@ -234,7 +242,11 @@ int main(void) {
     pthread_condattr_t attributes;
     pthread_condattr_init(&attributes);
     pthread_cond_init(&has_room, &attributes);
-    return !monitor_hold() && is_stuck ? 0 : 4; /* nobody takes anything for a second */
+    takes = true;
+    if (!monitor_hold() || is_stuck)
+        return 4;
+    takes = false;
+    return !monitor_hold() && is_stuck ? 0 : 5; /* nobody takes anything for a second */
 }
 """
 
@@ -245,8 +257,8 @@ def test_who_is_held(tmp_path):
     (tmp_path / "holds.c").write_text(HOLDS, "ascii")
     others = [path for path in tmp_path.glob("*.c") if path.name not in ("main.c", "holds.c")]
     library = ROOT / "prebuilt" / "x86_64-linux" / "libsuperio_c.a"
-    check(["cc", "-std=c11", "-D_GNU_SOURCE", "-I", ROOT / "bindings/c", "holds.c", *others, library, "-pthread", "-o",
-           "holds"], "", cwd=tmp_path)
+    check(["cc", "-std=c11", "-D_GNU_SOURCE", "-I", ROOT / "bindings/c", "holds.c", *others, library, "-pthread",
+           "-Wl,--wrap=pthread_cond_clockwait", "-o", "holds"], "", cwd=tmp_path)
     check([tmp_path / "holds"], "")
 
 
