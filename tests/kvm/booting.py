@@ -30,12 +30,15 @@ QEMU = ["qemu-system-x86_64", "-accel", "tcg", "-cpu", "EPYC,+svm,+npt,-x2apic",
         "-nographic", "-no-reboot", "-append", "console=ttyS0 quiet loglevel=0 mitigations=off panic=1"]
 MODULES = ["irqbypass", "kvm", "kvm-amd", "virtio_ring", "virtio", "virtio_pci_legacy_dev", "virtio_pci_modern_dev",
            "virtio_pci", "virtio_console"]
-# The host in QEMU: each line that comes in names a monitor, which then has the connection until it ends.
+# The host in QEMU: each line that comes in names a monitor, which then has the connection until it ends. The port can be
+# opened once it has its name, which is later than its file is there.
 INIT = f"""#!/bin/busybox sh
 /bin/busybox --install -s /bin
 mount -t proc proc /proc
 mount -t devtmpfs dev /dev
+mount -t sysfs sys /sys
 for module in {' '.join(MODULES)}; do insmod /$module.ko; done
+until [ -e /sys/class/virtio-ports/vport0p1/name ]; do sleep 0.01; done
 exec <>/dev/vport0p1 >&0 2>&1
 while read monitor; do
     /$monitor /kernel /initramfs "{WORDS}"
@@ -144,7 +147,7 @@ class HostInQemu:
         self.logs = [folder / "qemu.log", folder / "host.log"]
         words = [*QEMU, "-kernel", IMAGES / "kernel", "-initrd", make_initramfs(folder, monitors),
                  "-serial", f"file:{self.logs[1]}", "-chardev", f"socket,id=port,fd={theirs.fileno()}",
-                 "-device", "virtio-serial", "-device", "virtserialport,chardev=port"]
+                 "-device", "virtio-serial", "-device", "virtserialport,chardev=port,name=monitors"]
         with open(self.logs[0], "wb") as log:
             self.process = subprocess.Popen(words, stdin=subprocess.DEVNULL, stdout=log, stderr=log,
                                             pass_fds=[theirs.fileno()])
@@ -168,7 +171,7 @@ def own_processor_runs_guests():
 def make_initramfs(folder, monitors):
     """The files of the host in QEMU."""
     root = folder / "root"
-    for name in ("bin", "dev", "proc"):
+    for name in ("bin", "dev", "proc", "sys"):
         (root / name).mkdir(parents=True)
     shutil.copy(IMAGES / "bin" / "busybox", root / "bin")
     for module in MODULES:
