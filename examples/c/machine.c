@@ -28,7 +28,7 @@ struct machine {
     pthread_cond_t has_room; /* for output */
     superio_console console;
     superio_rtc clock;
-    int64_t ahead;     /* moments are so many seconds ahead of CLOCK_BOOTTIME */
+    int64_t ahead;     /* how many seconds moments are ahead of CLOCK_BOOTTIME */
     uint64_t now;      /* the moment of the last access of the clock */
     bool clock_was_up; /* the level of the clock's line that was set last */
     bool is_stuck;     /* the reader of the output has taken nothing for a second */
@@ -304,10 +304,13 @@ static void save(struct machine *machine, struct snapshot *saved) {
  * not run yet. Returns false if the snapshot is refused. */
 static bool restore(struct machine *machine, const struct snapshot *saved) {
     pthread_mutex_lock(&machine->lock);
-    superio_rtc clock; /* what is refused changes nothing */
+    superio_console console; /* what is refused changes nothing */
+    superio_rtc clock;
     bool is_good = superio_rtc_load(&clock, saved->clock, sizeof saved->clock) == SUPERIO_LOAD_OK
-                   && superio_console_load(&machine->console, saved->console, saved->count) == SUPERIO_LOAD_OK;
+                   && superio_console_load(&console, saved->console, saved->count) == SUPERIO_LOAD_OK
+                   && superio_serial_is_coherent(&console.port);
     if (is_good) {
+        machine->console = console;
         machine->clock = clock;
         interrupt(machine, superio_console_refuse(&machine->console)); /* what was raised before may be lost */
         interrupt(machine, superio_console_turn(&machine->console));

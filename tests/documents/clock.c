@@ -139,14 +139,40 @@ static int64_t restored(struct machine *machine, int64_t ahead, const char *step
     static struct machine other;
     int64_t timer, today = seconds(CLOCK_REALTIME);
     write_word(machine, RTCMR, read_word(machine, 0) + DAY);
+    write_access(machine, 7, 0x5A);
     save(machine, &saved);
     saved.now = (uint64_t)(today + ahead);
     open_machine(&other, STDIN_FILENO, STDOUT_FILENO);
     levels = 0;
     expect(restore(&other, &saved), step);
+    expect(read_access(&other, 7) == 0x5A, "the console is restored");
     timer = goes_off_in(&other);
     expect(levels == 1 && !line && timer != -1, "the clock is restored");
     return (int64_t)other.now - today;
+}
+
+/* A snapshot that is refused, since its console's port is not coherent or is cut off, or since it has no clock, changes
+ * no device. */
+static void check_refusals(struct machine *machine) {
+    static struct snapshot good, bad[3], before, after;
+    static struct machine other, forged;
+    save(machine, &good);
+    open_machine(&forged, STDIN_FILENO, STDOUT_FILENO);
+    forged.console.port.interrupt_identification = 0x04; /* RDA is pending, and no byte is held */
+    save(&forged, &bad[0]);
+    bad[1] = bad[2] = good;
+    bad[1].count--;
+    bad[2].clock[0] ^= 1;
+    for (int i = 0; i < 3; i++) {
+        open_machine(&other, STDIN_FILENO, STDOUT_FILENO);
+        other.console.port.scratch = 0xA5;
+        other.clock.mr = 1;
+        save(&other, &before);
+        expect(!restore(&other, &bad[i]), "a snapshot is refused");
+        save(&other, &after);
+        expect(memcmp(before.console, after.console, before.count) == 0
+               && memcmp(before.clock, after.clock, sizeof before.clock) == 0, "what is refused changes nothing");
+    }
 }
 
 static bool is_about(int64_t number, int64_t other) {
@@ -163,5 +189,6 @@ int main(void) {
     check_line_again(&machine);
     expect(is_about(restored(&machine, 2 * DAY, "a load"), 2 * DAY), "the time of day is behind");
     expect(is_about(restored(&machine, -2 * DAY, "a load"), 0), "the time of day is ahead");
+    check_refusals(&machine);
     puts("each step is right");
 }
