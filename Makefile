@@ -21,8 +21,8 @@ to = $(DESTDIR)$(PREFIX)
 lib = $(to)/$(LIBDIR)
 licenses = $(to)/share/licenses/superio
 docs = $(to)/$(DOCDIR)
-# The pages and the program that the header names, and the other pages of docs, to which these pages link.
-named = $(sort $(wildcard docs/*.md) $(shell grep -oE '[A-Za-z/-]+\.(md|c)\b' bindings/c/superio.h))
+# The pages and the program that the header names, the other pages of docs, and the programs to which docs/C.md links.
+named = $(sort README.md $(wildcard docs/*.md) $(shell grep -ohE 'examples/[a-z/]+\.c\b' bindings/c/superio.h docs/C.md))
 version = $(shell cat VERSION)
 soname = libsuperio.so.$(shell sed -n 's/^.define SUPERIO_ABI //p' bindings/c/superio.h)
 # From the folder of the files for pkg-config to PREFIX, so that the tree may be moved.

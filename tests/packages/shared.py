@@ -16,9 +16,12 @@ HAS_FROM_SOURCE = ["GNU_EH_FRAME", r"\(NEEDED\).*\[libc\.so\.6\]"]
 LACKS = ["GNU_STACK.*RWE", "feature:.*(?:IBT|SHSTK|BTI|PAC)", r"\(NEEDED\).*\[(?!libc\.so\.6)"]
 
 
-# What the header names of the repository, for its reader, and the pages to which those that it names link.
-NAMED = at_least(20, sorted({*re.findall(r"[\w/.-]+\.(?:md|c)\b", HEADER.read_text(encoding="ascii")),
-                             *(f"docs/{path.name}" for path in (ROOT / "docs").glob("*.md"))}))
+# What the header names of the repository, for its reader, the pages to which those that it names link, and the programs
+# in C to which these pages link.
+PAGES = [f"docs/{path.name}" for path in (ROOT / "docs").glob("*.md")]
+PROGRAMS = at_least(3, {name for page in PAGES for name in re.findall(
+    r"\]\(\.\./(examples/[\w/.-]+\.c)\)", (ROOT / page).read_text(encoding="utf-8"))})
+NAMED = at_least(20, sorted({*re.findall(r"[\w/.-]+\.(?:md|c)\b", HEADER.read_text(encoding="ascii")), *PAGES, *PROGRAMS}))
 # The fields of a file for pkg-config, by the folder of libraries below the prefix.
 DESCRIPTION = "Emulated legacy devices with proofs, such as a 16550 serial port and a PL031 clock"
 FLAGS = {"superio": "-lsuperio", "superio-static": "-l:libsuperio.a"}
