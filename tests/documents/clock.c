@@ -151,8 +151,8 @@ static int64_t restored(struct machine *machine, int64_t ahead, const char *step
     return (int64_t)other.now - today;
 }
 
-/* A snapshot that is refused, since its console's port is not coherent or is cut off, or since it has no clock, changes
- * no device. */
+/* A snapshot is refused if its port is not coherent, if its console is cut off, or if its clock is another device. Then no
+ * device has changed. */
 static void check_refusals(struct machine *machine) {
     static struct snapshot good, bad[3], before, after;
     static struct machine other, forged;

@@ -21,7 +21,7 @@ AUTHORS = "the Fimolavand authors"
 RUST = "1.63"       # the oldest, which Debian 12 has
 REPLACED = "0.8.2"  # the version of vm-superio in whose place the crate of that name is
 # Where users read which Rust they need.
-PAGES = ["README.md", "docs/RUST.md",
+PAGES = ["README.md", "docs/C.md", "docs/RUST.md",
          *(f"{crate}/README.md" for crate in ("rust/superio", "rust/vm-superio", "bindings/c/from-source"))]
 
 OF_ALL = {"edition": "2021", "rust-version": RUST}
