@@ -98,7 +98,7 @@ static void event_loop(int input, int output) {
     }
 }
 
-/* In place of a virtual machine: a driver that is ready for input, and a program that sends a line back in capitals. */
+/* Stands in for a virtual machine: a driver ready for input, and a program that sends a line back in capitals. */
 static void *guest(void *unused) {
     write_access(1, 0x01); /* IER: the interrupt for received data */
     for (uint8_t byte = 0; byte != '\n';) {

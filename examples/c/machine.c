@@ -121,7 +121,7 @@ static void alarm_is_due(struct machine *machine) {
     follow_clock(machine);
 }
 
-/* After a reset or a restore: the interrupt controller may have another level than the one that was set last. */
+/* After a reset or a restore: the interrupt controller may no longer have the level that was set last. */
 static void follow_clock_again(struct machine *machine) {
     machine->clock_was_up = !superio_rtc_interrupt_line(&machine->clock); /* so that the level is set in any case */
     take_moment(machine);
