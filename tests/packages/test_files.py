@@ -3,7 +3,7 @@
 import re
 
 import pytest
-from documents import BUILT
+from documents import BUILT, files
 from generators import facts
 from generators.header import read_header
 from generators.interface import ABI, SYMBOLS, VERSION, debian_symbols, interface, kept, lost
@@ -56,6 +56,16 @@ def test_copy(copy):
 
 def test_each_source_names_its_licenses():
     assert not list(unlicensed()), f"no line '{LICENSE}' near the start"
+
+
+def test_modes():
+    """What a shell can run says by what, or is a shared library, which installations have so. Each that says it can be
+    run."""
+    def is_program(path):
+        with (ROOT / path).open("rb") as file:
+            return file.read(2) == b"#!" or ".so." in path.name
+    found = [path for path in files() if not (ROOT / path).is_symlink()]
+    assert not [str(path) for path in found if ((ROOT / path).stat().st_mode & 0o100 > 0) != is_program(path)]
 
 
 def test_interface():
