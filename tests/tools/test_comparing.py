@@ -1,6 +1,7 @@
 # SPDX-License-Identifier: Apache-2.0 OR BSD-3-Clause
 """What compares in tests sees what differs in the last place only: helpers, programs that replay calls, and tests of
 files that a command makes."""
+import base64
 import ctypes
 import json
 import os
@@ -10,6 +11,7 @@ import signal
 import stat
 import subprocess
 import sys
+import zlib
 from types import SimpleNamespace
 
 import abi
@@ -34,7 +36,7 @@ from common.seed import VARIABLE, seed
 from contracts import functions_of
 from documents import BUILT
 from every_function import calls_of_functions, encoded_call, functions_in_c
-from generators import counts
+from generators import counts, page
 from generators.header import read_header
 from generators.libraries import replace_lines
 from harness import LIMIT, ROOT, at_least, check, run
@@ -542,6 +544,19 @@ def test_lines_of_sums_are_replaced(tmp_path):
     replace_lines(tmp_path / "SUMS", ["5  a/kept", "6  tests/data"])
     assert (tmp_path / "SUMS").read_text("ascii").splitlines() == [
         "5  a/kept", "4  the sources in docs and tests/tools", "6  tests/data"]
+
+
+def test_parts_of_the_page_are_replaced():
+    """What differs in the last place is packed anew. Another part stays as it is, also if this machine would pack it in
+    another way."""
+    parts = {"one": b"the first", "two": b"the second"}
+    packed = {name: base64.b64encode(zlib.compress(part, 0)).decode() for name, part in parts.items()}
+    before = "".join(f'<script type="text/plain" id="{name}">{text}</script>\n' for name, text in packed.items())
+    assert page.with_parts(before, parts) == before
+    for other in altered(parts["two"]):
+        after = page.with_parts(before, {**parts, "two": other})
+        assert page.unpacked(after) == {**parts, "two": other}
+        assert after.splitlines()[0] == before.splitlines()[0]
 
 
 # Changes of an installation: of a file, of a link to it, and of a folder. Each bit of a mode counts, beside the one
