@@ -59,13 +59,12 @@ def test_each_source_names_its_licenses():
 
 
 def test_modes():
-    """What a shell can run says by what, or is a shared library, which installations have so. Each that says it can be
-    run."""
-    def is_program(path):
+    """What can be run says by what, or is for the processor, as what a compiler made. All that says it can be run."""
+    for path in (path for path in files() if not (ROOT / path).is_symlink()):
         with (ROOT / path).open("rb") as file:
-            return file.read(2) == b"#!" or ".so." in path.name
-    found = [path for path in files() if not (ROOT / path).is_symlink()]
-    assert not [str(path) for path in found if ((ROOT / path).stat().st_mode & 0o100 > 0) != is_program(path)]
+            head = file.read(4)
+        can_be_run = (ROOT / path).stat().st_mode & 0o100 > 0
+        assert can_be_run == (head[:2] == b"#!") or head == b"\x7fELF", path
 
 
 def test_interface():

@@ -559,9 +559,9 @@ def test_parts_of_the_page_are_replaced():
         assert after.splitlines()[0] == before.splitlines()[0]
 
 
-# Changes of an installation: of a file, of a link to it, and of a folder. Each bit of a mode counts, beside the one
-# without which nothing could be read.
-BITS = [1 << place for place in range(12) if 1 << place != stat.S_IRUSR]
+# Changes of an installation: of a file, of a link to it, and of a folder. Each bit of a mode counts; without these two
+# nothing could be read.
+BITS = [1 << place for place in range(12) if 1 << place not in (stat.S_IRUSR, stat.S_IXUSR)]
 INSTALLED = {
     "another byte": lambda top: (top / "lib/one").write_bytes(b"onf"),
     "a byte less": lambda top: (top / "lib/one").write_bytes(b"on"),
