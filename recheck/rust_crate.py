@@ -54,7 +54,7 @@ class Crate:
         named = {Path("lib.rs")} | {Path(MORE)} & files
         for parser in parsers:
             for name in parser.modules:
-                if name in OUTSIDE:
+                if name in OUTSIDE | BUILTIN or not name.islower():   # a type has a capital
                     raise Refused(f"{parser.file}: a module {name}")
                 below = Path(*module_of(parser.file), name)
                 named.add(below / "mod.rs" if below / "mod.rs" in files else below.with_suffix(".rs"))

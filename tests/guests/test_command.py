@@ -3,17 +3,20 @@
 keeps."""
 import hashlib
 import io
+import os
 import random
 import subprocess
 import sys
 import tarfile
+import time
+from concurrent.futures import ThreadPoolExecutor
 
 import cbmc
 import judge
 import proofs
 import pytest
 import sources
-from debian import replace_links
+from debian import make_whole, replace_links
 
 
 def test_sums(monkeypatch, capsys):
@@ -42,6 +45,49 @@ def test_status(failing, tmp_path, monkeypatch, capsys):
         monkeypatch.setattr(module, name, value)
     assert judge.main() == (failing != "nothing")
     assert ("NOT TRIED: xen, " in capsys.readouterr().out) == bool(lacking)
+
+
+# Seconds since Debian's archive did not give what was needed, if it ever did not, and whether it is asked again.
+ASKED_AGAIN = {None: True, 0: False, 3500: False, 3700: True, 100_000: True}
+
+
+@pytest.mark.parametrize("age", ASKED_AGAIN)
+@pytest.mark.parametrize("gives", [True, False], ids=["given", "not given"])
+def test_what_is_asked_for_again(gives, age, tmp_path):
+    """A folder is there whole or not at all, and once. Without it, the archive is asked again after an hour."""
+    folder, mark, asked = tmp_path / "kept" / "it", tmp_path / "kept" / "unreachable", []
+
+    def make(new):
+        asked.append(new)
+        (new / "file").touch()
+        if not gives:
+            raise subprocess.CalledProcessError(100, "apt-get")
+    if age is not None:
+        mark.parent.mkdir()
+        mark.touch()
+        os.utime(mark, (time.time() - age,) * 2)
+    for _ in range(2):
+        make_whole(folder, make)
+    assert len(asked) == ASKED_AGAIN[age] and (folder / "file").exists() == (gives and ASKED_AGAIN[age])
+    assert sorted(path.name for path in folder.parent.iterdir()) == sorted(
+        ["lock", *["it"] * folder.exists(), *["unreachable"] * mark.exists()])
+    assert gives or time.time() - mark.stat().st_mtime < 3600
+
+
+def test_a_folder_is_made_once(tmp_path):
+    """The others wait for the one that makes it."""
+    asked, folder = [], tmp_path / "kept" / "it"
+
+    def make(new):
+        asked.append(new)
+        time.sleep(0.1)
+        (new / "file").touch()
+
+    def use(_):
+        make_whole(folder, make)
+        return (folder / "file").exists()
+    with ThreadPoolExecutor(4) as pool:
+        assert [*pool.map(use, range(4))] == [True] * 4 and len(asked) == 1
 
 
 def test_links(tmp_path):

@@ -11,8 +11,8 @@ import re
 import linux_driver
 import pytest
 from common.seed import seed
-from guest import WRONG, Monitor
-from harness import ROOT, check, run
+from guest import HERE, WRONG, Monitor
+from harness import ROOT, at_least, check, run
 
 pytestmark = [pytest.mark.needs("cc", "linux-source"),
               pytest.mark.where("version of Linux's source with sums in tests/guests")]
@@ -51,6 +51,39 @@ def test_no_byte_waits(driver, way, line):
 @pytest.mark.parametrize("line", [EDGES, LEVELS])
 def test_no_byte_waits_in_another_version(other_driver, line):
     assert stalls(other_driver, Monitor(line)) == stalls(other_driver, Monitor(line, (), True)) == 0
+
+
+# In place of the guest's writes: some that end the program if the monitor's line is what LINE names.
+LINE_IS = """#include <stdlib.h>
+#include <string.h>
+#include "monitor.h"
+static void end_if(bool is_so, const char *name) {
+    if (is_so && strcmp(getenv("LINE"), name) == 0)
+        exit(9);
+}
+void __real_write_access(uint8_t offset, uint8_t value);
+void __wrap_write_access(uint8_t offset, uint8_t value) {
+    end_if(mon.line == SINGLE && !mon.can_refuse, "one that takes each edge");
+    end_if(mon.line == SINGLE && mon.can_refuse, "one that takes edges one by one, or refuses them");
+    end_if(mon.line == SINGLE && mon.edges > 1, "one that has several edges");
+    end_if(mon.line == MERGED && !mon.can_refuse, "one that merges edges");
+    end_if(mon.line == MERGED && mon.can_refuse, "one that merges edges, or refuses them");
+    end_if(mon.line == MERGED && mon.edges > 1, "one that merges edges, and has several");
+    __real_write_access(offset, value);
+}
+"""
+
+
+@pytest.mark.parametrize("has_console", [True, False])
+def test_each_kind_of_line(driver, has_console, tmp_path):
+    """Exchanges are made on lines that take edges one by one and on lines that merge them, and both may refuse them."""
+    (tmp_path / "line.c").write_text(LINE_IS, "ascii")
+    check(["gcc", f"-I{HERE}/monitor", f"-I{ROOT}/bindings/c", "-c", tmp_path / "line.c", "-o", tmp_path / "line.o"])
+    (tmp_path / "words").write_text(f"-Wl,--wrap=write_access {tmp_path}/line.o {LIBRARY}\n", "ascii")
+    program = driver.compiled("run.c", f"@{tmp_path}/words", Monitor(EDGES, (), has_console))
+    for name in ("none", *at_least(6, re.findall(r', "(.*)"\);', LINE_IS))):
+        ran = run([program, 1000, seed()], env={**os.environ, "LINE": name})
+        assert ran.returncode == (0 if name in ("none", "one that merges edges, and has several") else 9), name
 
 
 # At levels nothing is refused.

@@ -3,7 +3,7 @@
 import re
 
 import pytest
-from documents import BUILT
+from documents import BUILT, files
 from generators import facts
 from generators.header import read_header
 from generators.interface import ABI, SYMBOLS, VERSION, debian_symbols, interface, kept, lost
@@ -56,6 +56,15 @@ def test_copy(copy):
 
 def test_each_source_names_its_licenses():
     assert not list(unlicensed()), f"no line '{LICENSE}' near the start"
+
+
+def test_modes():
+    """What can be run says by what, or is for the processor, as what a compiler made. All that says it can be run."""
+    for path in (path for path in files() if not (ROOT / path).is_symlink()):
+        with (ROOT / path).open("rb") as file:
+            head = file.read(4)
+        can_be_run = (ROOT / path).stat().st_mode & 0o100 > 0
+        assert can_be_run == (head[:2] == b"#!") or head == b"\x7fELF", path
 
 
 def test_interface():

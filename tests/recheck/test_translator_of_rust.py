@@ -4,6 +4,9 @@ import re
 import subprocess
 
 import pytest
+from contracts import code_of
+from harness import ROOT, at_least
+from rerun import CRATES as CRATES_READ
 from rust_cases import REFUSED, RIGHT
 
 import rust2coq
@@ -73,6 +76,27 @@ CRATES = {
     "equal types in two files": ("two items are named Simple", {
         "lib.rs": "mod more; pub struct Simple { pub a: u32 }", "more.rs": "pub struct Simple { pub a: u8 }"}),
 }
+
+
+def names_before_items():
+    """What stands before `::` in the code of the crates that are read, apart from their modules: crates, and types. And
+    Rust's own crates, also if nothing is taken of one."""
+    found, modules = {"std", "core", "alloc"}, {"crate", "self", "super", "Self"}
+    for file in [file for folder in CRATES_READ.values() for file in (ROOT / folder).rglob("*.rs")]:
+        code = re.sub(r"#!?\[[^]]*\]", "", code_of(file.read_text("utf-8")))
+        found.update(re.findall(r"(?<![\w:])([A-Za-z]\w*)::", code))
+        modules.update(re.findall(r"\bmod (\w+)", code))
+    return sorted(found - modules)
+
+
+@pytest.mark.parametrize("name", at_least(30, names_before_items()))
+def test_a_module_that_hides_a_name(name, tmp_path):
+    """Below such a module, rustc would find the module's functions where the name stands."""
+    (tmp_path / "lib.rs").write_text(f"mod more; mod {name};")
+    (tmp_path / "more.rs").write_text("pub struct Pair { pub a: u32 }")
+    (tmp_path / f"{name}.rs").write_text("pub fn from(_: bool) -> u32 { 7 }")
+    with pytest.raises(rust2coq.Refused, match=rf"^lib\.rs: a module {name}$"):
+        rust2coq.Crate(tmp_path)
 
 
 @pytest.mark.parametrize("name", CRATES)

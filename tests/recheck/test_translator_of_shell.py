@@ -3,8 +3,9 @@
 import re
 
 import pytest
-from harness import check
+from harness import at_least, check
 from shell_cases import REFUSED, RIGHT
+from shell_crate import STD
 
 import rust2coq
 import shell2coq
@@ -81,6 +82,18 @@ def shell_of(folder, source):
 
 def translated(folder, source):
     return shell2coq.translate(shell_of(folder, source), ["VmDevice::case"], "")
+
+
+@pytest.mark.parametrize("path", at_least(6, STD))
+def test_name_of_the_library(path, tmp_path):
+    """What is brought in of std has the one name by which it is known. By another's it would be taken for that."""
+    for name in {*STD.values(), path.rpartition("::")[2]}:
+        source = f"use {path} as {name};"
+        if name == STD[path]:
+            shell_of(tmp_path, source)
+        else:
+            with pytest.raises(rust2coq.Refused, match=f": a use of {path}$"):
+                shell_of(tmp_path, source)
 
 
 @pytest.mark.parametrize("name", REFUSED)

@@ -11,7 +11,7 @@ from board import OFTEN, Board
 from common.facts import ERRORS, word_of
 from harness import at_least
 from made import any_call, broken_lines, every_load
-from recorded import Recorder, every_answer, random_recorded, recordings
+from recorded import Recorder, every_answer, random_recorded, recordings, rows_of
 from script import BYTES, FURTHER_LINES, LINES, call_of, replies_of
 from script_tests import (FURTHER_TESTS, TESTS, Script, board_scripts, kept_scripts, load_scripts, made_scripts,
                           refused_scripts, scripts_of)
@@ -125,18 +125,26 @@ def test_numbers_that_come_often(call, kinds, often):
             assert sum(number not in numbers for number in found) > draws / (len(numbers) + 1) * 0.9
 
 
+def kind_of(call, reply):
+    """The name of a recorded call, and whether it succeeded or why not, if its reply begins with that."""
+    return call[:2], *({reply.split(" ")[0]} & {"ok", "trigger", "io", "full"})
+
+
 def test_random_calls_have_each_kind():
-    """Each call of a recording, each behaviour of the objects, and each call of them."""
+    """Each call of a recording, with each way in which it ends there, each behaviour of the objects, and each call of
+    them."""
     calls = [call for run in random_recorded(seeds("cases", 400)) for call in run]
     assert {call[:2] for call in calls} == {row[:2] for text in recordings().values() for row in text.splitlines()
                                             if " = " in row}
     words = {word for call in calls if call[0] != "c" for word in call.split() if len(word) == 1}
     assert words - {"-"} == {*"12nfui"} == {call[-1] for call in calls if re.fullmatch(r"sw 00 \w\w \w", call)}
-    recorder, did = Recorder(model), set()
+    recorder, did, said = Recorder(model), set(), set()
     for call in calls:
         reply = recorder.make(call)
+        said.add(kind_of(call, reply))
         did |= {reply[-1]} & {*"ij"} if call[0] == "c" else {word[0] for word in recorder.did}
     assert did == {*"TRWFboleij"}
+    assert said == {kind_of(*row) for text in recordings().values() for row in rows_of(text)}
 
 
 def test_every_answer():

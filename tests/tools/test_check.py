@@ -216,6 +216,17 @@ def test_words(tool, machine):
     assert (status, called) == (0, []) and "--no-install" in said
 
 
+def test_workers(machine):
+    """One more than the processors that it may use: a container may have fewer than the machine."""
+    usable = os.sched_getaffinity(0)
+    try:
+        for number in {1, len(usable)}:
+            os.sched_setaffinity(0, [*usable][:number])
+            assert f" -n {number + 1} " in " ".join(machine.run("tools/check")[2])
+    finally:
+        os.sched_setaffinity(0, usable)
+
+
 def test_pytest_is_missing(machine):
     (machine.stubs / "xdist.py").write_text("raise ImportError\n", "utf-8")
     status, said, called = machine.run("tools/check", "--no-install")

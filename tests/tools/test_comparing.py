@@ -1,23 +1,28 @@
 # SPDX-License-Identifier: Apache-2.0 OR BSD-3-Clause
 """What compares in tests sees what differs in the last place only: helpers, programs that replay calls, and tests of
 files that a command makes."""
+import base64
 import ctypes
 import json
 import os
 import re
 import shutil
 import signal
+import stat
 import subprocess
 import sys
+import zlib
 from types import SimpleNamespace
 
 import abi
 import common.seed
+import documents
 import expanded
 import monitors
 import pytest
 import rerun
 import rust2coq
+import shared
 import sides
 import test_consoles
 import test_counts
@@ -25,15 +30,18 @@ import test_files
 import test_header
 import test_mistakes
 from builds import HOST, make_words, prebuilt
+from common import cargo
 from common.comparison import Comparison
 from common.seed import VARIABLE, seed
 from contracts import functions_of
 from documents import BUILT
 from every_function import calls_of_functions, encoded_call, functions_in_c
-from generators import counts
+from generators import counts, page
+from generators.header import read_header
 from generators.libraries import replace_lines
 from harness import LIMIT, ROOT, at_least, check, run
-from random_calls import GUARD, Place, random_calls
+from mutation.copies import Copy
+from random_calls import GUARD, Place, arguments_of, call as called, random_calls
 from recorded import difference, recordings
 from script_tests import Script
 from seeds import random_source, seeds
@@ -403,6 +411,48 @@ def test_each_function_is_compared(prebuilt_library, tmp_path):
         assert (ran.returncode == 0, ran.stdout.decode().endswith(said)) == (same > 0, True), ran.stdout
 
 
+# In place of a function that takes bytes and their count: one that ends the program at bytes that are as SHAPE says.
+OF_BYTES = """{returned} __real_{name}({parameters});
+{returned} __wrap_{name}({parameters}) {{
+    end_if({count} > 0, "{name}: some");
+    end_if({count} == 0 && {bytes}, "{name}: none");
+    end_if(!{bytes}, "{name}: NULL");
+    return __real_{name}({arguments});
+}}
+"""
+
+
+def of_bytes():
+    """Those functions by their names."""
+    for name, function in read_header().functions.items():
+        for place, other in zip(function.parameters, function.parameters[1:]):
+            if place.kind.endswith("uint8_t *") and other.kind == "size_t":
+                yield name, OF_BYTES.format(
+                    name=name, returned=function.returned, bytes=place.name, count=other.name,
+                    parameters=", ".join(f"{kind} {word}" for kind, word, _ in function.parameters),
+                    arguments=", ".join(word for _, word, _ in function.parameters))
+
+
+@pytest.mark.needs("cc")
+def test_bytes_of_each_function(prebuilt_library, tmp_path):
+    """A function that takes bytes gets some, none, and NULL in their place, so a library that touches NULL is found."""
+    functions, source = dict(of_bytes()), random_source("bytes")
+    (tmp_path / "functions.h").write_text(functions_in_c(), "ascii")
+    (tmp_path / "bytes.c").write_text("\n".join([SHAPES.partition("uint8_t __real")[0], *functions.values()]), "ascii")
+    check(["cc", "-I", ROOT / "bindings/c", "-I", tmp_path, ROOT / "tests/c/every_function.c", tmp_path / "bytes.c",
+           *(f"-Wl,--wrap={name}" for name in functions), prebuilt(HOST), "-o", tmp_path / "functions"], "")
+    calls = b""
+    for function in [function for function in abi.FUNCTIONS if function.name in functions] * 100:
+        arguments = arguments_of(source, function, [b""])
+        did = called(prebuilt_library, function, arguments)
+        calls += b"".join(encoded_call(source.getrandbits(8), function, arguments, *did))
+    shapes = [f"{name}: {shape}" for name in at_least(5, functions) for shape in ("some", "none", "NULL")]
+    for shape in ("nothing", *shapes):
+        ran = subprocess.run([tmp_path / "functions"], input=calls, stdout=subprocess.DEVNULL,
+                             env={**os.environ, "SHAPE": shape})
+        assert ran.returncode == (0 if shape == "nothing" else 9), shape
+
+
 # Others end the program if a struct has what SHAPE names: the header allows it, and no library of ours leaves it there.
 SHAPES = """#include <superio.h>
 #include <stdlib.h>
@@ -494,6 +544,69 @@ def test_lines_of_sums_are_replaced(tmp_path):
     replace_lines(tmp_path / "SUMS", ["5  a/kept", "6  tests/data"])
     assert (tmp_path / "SUMS").read_text("ascii").splitlines() == [
         "5  a/kept", "4  the sources in docs and tests/tools", "6  tests/data"]
+
+
+def test_parts_of_the_page_are_replaced():
+    """What differs in the last place is packed anew. Another part stays as it is, also if this machine would pack it in
+    another way."""
+    parts = {"one": b"the first", "two": b"the second"}
+    packed = {name: base64.b64encode(zlib.compress(part, 0)).decode() for name, part in parts.items()}
+    before = "".join(f'<script type="text/plain" id="{name}">{text}</script>\n' for name, text in packed.items())
+    assert page.with_parts(before, parts) == before
+    for other in altered(parts["two"]):
+        after = page.with_parts(before, {**parts, "two": other})
+        assert page.unpacked(after) == {**parts, "two": other}
+        assert after.splitlines()[0] == before.splitlines()[0]
+
+
+# Changes of an installation: of a file, of a link to it, and of a folder. Each bit of a mode counts; without these two
+# nothing could be read.
+BITS = [1 << place for place in range(12) if 1 << place not in (stat.S_IRUSR, stat.S_IXUSR)]
+INSTALLED = {
+    "another byte": lambda top: (top / "lib/one").write_bytes(b"onf"),
+    "a byte less": lambda top: (top / "lib/one").write_bytes(b"on"),
+    "a byte more": lambda top: (top / "lib/one").write_bytes(b"one1"),
+    "no file": lambda top: (top / "lib/one").unlink(),
+    "one more": lambda top: (top / "lib/.one").touch(),
+    "no link": lambda top: (top / "lib/link").unlink(),
+    "a link elsewhere": lambda top: (top / "lib/link").unlink() or (top / "lib/link").symlink_to("./one"),
+    "a file for a link": lambda top: (top / "lib/link").unlink() or shutil.copy(top / "lib/one", top / "lib/link"),
+    "a folder for a link": lambda top: (top / "lib/link").unlink() or (top / "lib/link").mkdir(),
+    **{f"bit {bit:o} of a file": lambda top, bit=bit: (top / "lib/one").chmod(0o644 ^ bit) for bit in BITS},
+    **{f"bit {bit:o} of a folder": lambda top, bit=bit: (top / "lib").chmod(0o755 ^ bit) for bit in BITS},
+}
+
+
+@pytest.mark.parametrize("change", INSTALLED)
+def test_what_is_installed(change, tmp_path):
+    for top in (wanted := tmp_path / "wanted", found := tmp_path / "found"):
+        (top / "lib").mkdir(parents=True)
+        (top / "lib").chmod(0o755)
+        (top / "lib/one").write_bytes(b"one")
+        (top / "lib/one").chmod(0o644)
+        (top / "lib/link").symlink_to("one")
+
+    def compare():
+        shared.assert_same(shared.found_in(found), shared.found_in(wanted))
+    compare()
+    INSTALLED[change](found)
+    assert refuses(compare)
+
+
+def test_a_copy_has_nothing_that_was_built(tmp_path, monkeypatch):
+    """A crate in it is built of its sources, and not by versions of other crates that Cargo once chose."""
+    crate = tmp_path / "top" / "crate"
+    for name in ("Cargo.toml", "src/lib.rs", "Cargo.lock", "target/debug/one"):
+        (crate / name).parent.mkdir(parents=True, exist_ok=True)
+        (crate / name).touch()
+    monkeypatch.setattr(cargo, "DEVICES", crate)
+    monkeypatch.setattr(documents, "ROOT", crate.parent)
+    documents.copy_repository(tmp_path / "copy")
+    copies = [cargo.copied_crate(tmp_path / "crates", crate=crate).folder, tmp_path / "copy" / "crate",
+              Copy(crate.parent, tmp_path / "mutants").folder / "crate"]
+    for copy in copies:
+        names = {path.relative_to(copy).as_posix() for path in copy.rglob("*") if path.is_file()}
+        assert {name for name in names if not name.startswith(".cargo/")} == {"Cargo.toml", "src/lib.rs"}, copy
 
 
 # Functions of each kind, and what is read of them: the path, whether it is public, the clauses, and the main one.

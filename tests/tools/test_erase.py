@@ -53,8 +53,13 @@ def test_erase(source, expected, tmp_path):
     made.unlink()
     assert erase("--check", *folders)[0] == 1
     made.write_text(text, encoding="utf-8")
-    made.with_name("other.rs").write_text(text, encoding="utf-8")
-    assert erase("--check", *folders)[0] == 1
+    for name in "other.rs", "below/other.rs", "other", "other.txt", ".other.rs.swp":   # whatever it is
+        other = folders[1] / name
+        other.parent.mkdir(exist_ok=True)
+        other.write_text(text, encoding="utf-8")
+        assert erase("--check", *folders) == (1, f"{other} is not what tools/erase makes of its source\n")
+        other.unlink()
+    assert erase("--check", *folders) == (0, "")
 
 
 @pytest.mark.parametrize("word", REFUSED)

@@ -10,6 +10,7 @@ import pytest
 import rerun
 from common.cargo import DROP_IN, DEVICES
 from common.comparison import COMPARISON
+from common.requirements import TOOLS
 from generators import counts, facts, interface, libraries, lines, module
 from generators.facts import MODULE
 from generators.page import MODULES, PAGE, REQUIRED
@@ -169,6 +170,20 @@ def test_a_step_comes_after_what_it_reads(own):
     assert {("facts", "rust"), ("facts", "lines"), ("facts", "interface"), ("rust", "module"), ("lines", "page"),
             ("module", "page"), ("page", "pictures"), ("rust", "statements"), ("libraries", "counts")} <= {*needs}
     assert [(name, other) for name, other in needs if order.index(name) > order.index(other)] == []
+
+
+# The code of each step that has a tool, which its tests or its commands need.
+CODE = {"libraries": "tools/generators/libraries.py", "module": "tools/generators/module.py", "counts": counts.__file__,
+        "pictures": "tests/page/test_page.py", "statements": "recheck/coq.py", "linux": "tests/kvm/test_linux.py"}
+
+
+def test_tools(own):
+    """Each step names a tool without which it fails. Without it the step says what to install."""
+    assert {name for name, step in own.STEPS.items() if step.tool != "pytest"} == {*CODE}
+    for name, path in CODE.items():
+        tool, text = own.STEPS[name].tool, (ROOT / path).read_text("utf-8")
+        marked = ", ".join(re.findall(r"needs\((.*?)\)", text))
+        assert any(f'"{word}"' in text for word in TOOLS[tool]) if "tests/" not in path else f'"{tool}"' in marked, name
 
 
 def test_patterns(own):

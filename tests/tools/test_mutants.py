@@ -15,7 +15,7 @@ from types import SimpleNamespace
 
 import pytest
 from generators import facts, lines
-from harness import ROOT, at_least, run
+from harness import ROOT, at_least, check, run
 from mutation import reach, rules
 from mutation.copies import Ended
 
@@ -172,6 +172,22 @@ def test_each_part_counts(counts, monkeypatch):
         assert TOOL.main() == (f"{total} survivors are not in tests/tools/survivors.txt" if total else 0)
 
 
+def test_jobs(monkeypatch):
+    """As many as are asked for, or two more than the processors that the tool may use."""
+    usable, asked = os.sched_getaffinity(0), []
+    monkeypatch.setattr(TOOL, "PARTS", {"one": None})
+    monkeypatch.setattr(TOOL, "Copies", lambda root, folder, count: asked.append(count) or nullcontext())
+    monkeypatch.setattr(TOOL, "tried", lambda name, every, copies: iter([0]))
+    try:
+        for number, *words in ([len(usable)], [1], [1, "--jobs", "7"]):
+            os.sched_setaffinity(0, [*usable][:number])
+            monkeypatch.setattr(sys, "argv", ["mutants", *words])
+            assert TOOL.main() == 0
+    finally:
+        os.sched_setaffinity(0, usable)
+    assert asked == [len(usable) + 2, 3, 7]
+
+
 def test_all_parts_are_in_one_queue(monkeypatch, capsys):
     """Each step of all is asked for before the next one of any, so that none waits for the end of another."""
     asked = []
@@ -325,13 +341,16 @@ def test_a_command_can_do_no_harm(copy, tmp_path):
 
 # Commands that have no end, and the seconds that they get, of time and of a processor: each is late for another reason.
 ENDLESS = {"sleep 1000 & while :; do sleep 0.1; done": (1, 1000), "while :; do :; done": (1000, 1),
-           "for place in 1 2 3; do while :; do :; done & done; wait": (1000, 1), "read < <(sleep 1000)": (1000, 1000)}
+           "for place in 1 2 3; do while :; do :; done & done; wait": (1000, 1), "read < <(sleep 1000)": (1000, 1000),
+           "while :; do timeout 0.1 bash -c 'while :; do :; done'; done": (60, 1)}
 
 
 @pytest.mark.needs("mutants")
 @pytest.mark.parametrize("command", ENDLESS)
 def test_a_command_has_an_end(copy, command):
-    assert copy.run(command, None, *ENDLESS[command]).how == "late"
+    seconds, processor = ENDLESS[command]
+    ended = copy.run(command, None, seconds, processor)
+    assert ended.how == "late" and ended.processor < processor + 9
 
 
 @pytest.mark.needs("mutants", "pytest")
@@ -346,6 +365,18 @@ def test_words_of_pytest(copy, monkeypatch):
             how, ["test_one.py::test_it"] if how == "failed" else [])
     found = copy.run(f"{TOOL.PYTEST} test_one.py --collect-only")
     assert found.tests == ["test_one.py::test_it"] and 0.01 < found.processor < 60
+
+
+@pytest.mark.parametrize("part", [part for part in TOOL.PARTS.values() if part.language == "python"],
+                         ids=lambda part: part.files)
+def test_a_mutant_of_the_same_second(part, tmp_path):
+    """What is imported is the text as it is, also if it has the length and the time of the one before."""
+    for number in (1, 2, 1):
+        (tmp_path / "code_of.py").write_text(f"NUMBER = {number}\n", "ascii")
+        os.utime(tmp_path / "code_of.py", (1000, 1000))
+        for command in part.compiles:
+            check(["bash", "-c", command.format(file="code_of.py")], "", cwd=tmp_path)
+        check(["/usr/bin/python3", "-c", "import code_of; print(code_of.NUMBER)"], f"{number}\n", cwd=tmp_path)
 
 
 @pytest.mark.needs("mutants", "cc")

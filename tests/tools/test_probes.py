@@ -148,6 +148,26 @@ def test_target(name, monkeypatch):
     assert not holds(name)
 
 
+@pytest.mark.parametrize("of_path, debians, chosen", [
+    (True, True, "path"), (True, False, "path"), (False, True, "debian"), (False, False, None)])
+def test_toolchain_for(of_path, debians, chosen, tmp_path, monkeypatch):
+    """That of PATH if it can build for the target, or else Debian's, each with the Cargo beside its compiler."""
+    for name, has_target in (("path", of_path), ("debian", debians)):
+        folder = tmp_path / name
+        (folder / "one" if has_target else folder).mkdir(parents=True)
+        stand_in(folder, "cargo", "")
+        stand_in(folder, "rustc", f"""case "$*" in
+--version) echo "rustc {name} (0123abcd 2026-01-01)" ;;
+"--print target-libdir --target one") echo {folder}/one ;;
+*) exit 1 ;;
+esac""")
+    monkeypatch.setenv("PATH", str(tmp_path / "path"), prepend=os.pathsep)
+    monkeypatch.setattr(toolchains, "DEBIAN_RUSTC", tmp_path / "debian" / "rustc")
+    words = chosen and (f"{tmp_path}/{chosen}/rustc", f"{tmp_path}/{chosen}/cargo", chosen)
+    assert toolchains.toolchain_for("one") == words
+    assert toolchains.toolchain_for("other") is None
+
+
 def interpreter(command):
     """What runs a command of this machine that is a script, if it is one."""
     with open(shutil.which(command), "rb") as file:

@@ -7,6 +7,9 @@ import re
 import shutil
 import subprocess
 import sys
+import time
+from concurrent.futures import ThreadPoolExecutor
+from contextlib import suppress
 from types import SimpleNamespace
 
 import pytest
@@ -169,6 +172,25 @@ def test_sums(table, fault, workers, tmp_path, run_pytest):
     assert [line for line in ran.stdout.splitlines() if "tests/sums.txt says" in line] == [fault] * (fault is not None)
 
 
+# Tests that were tried, however they end.
+TRIED = {
+    "passes": RUN + "pass", "fails": RUN + "assert 0",
+    "fails at its begin": HEAD + "@pytest.fixture\ndef one(): assert 0\ndef test(one): pass",
+    "fails at its end": HEAD + "@pytest.fixture\ndef one():\n    yield\n    assert 0\ndef test(one): pass",
+    "lacks a tool": HEAD + "@pytest.mark.needs('chromium')\ndef test(): pass",
+    "skips itself": RUN + "pytest.skip('for no reason')",
+    "is left out": HEAD + "@pytest.mark.needs('node')\ndef test(): pass",
+}
+
+
+@pytest.mark.parametrize("end", TRIED)
+def test_each_end_counts(end, tmp_path, run_pytest):
+    """Nobody is told that a test is missing which only failed."""
+    write_tests(tmp_path, TRIED[end])
+    (tmp_path / "tests/sums.txt").write_text("tests: 1\n", "utf-8")
+    assert "tests/sums.txt says" not in run_pytest(tmp_path, "--without=node", "--sums").stdout
+
+
 def test_sums_are_written(tmp_path, run_pytest):
     """Unless a file cannot be read: its tests would be missing."""
     write_tests(tmp_path, THREE)
@@ -234,6 +256,22 @@ def test_a_file_that_fails_leaves_the_others(tmp_path, run_pytest):
     assert "1 passed" in last and "1 error" in last
 
 
+# A test that takes the program, in several folders.
+GIVEN = HEAD + """pytestmark = pytest.mark.needs("kit")
+@pytest.mark.parametrize("folder", [".", "tests", "/"])
+def test(program, folder, monkeypatch):
+    monkeypatch.chdir(folder)
+    assert program.read_text("ascii") == "a program\\n\""""
+
+
+def test_a_program_that_is_given(tmp_path, run_pytest):
+    """It is found from wherever a test runs it, and needs no kit."""
+    write_tests(tmp_path, GIVEN)
+    (tmp_path / "given").write_text("a program\n", "ascii")
+    assert " 3 passed in " in f" {run_pytest(tmp_path, '--program=given').stdout}"
+    assert " 3 errors in " in f" {run_pytest(tmp_path).stdout}"
+
+
 def test_a_program_is_that_of_its_sources(tmp_path, monkeypatch):
     """One that is older than a single source of its crate, or of one below it, is no longer it."""
     monkeypatch.setattr(rattle, "ROOT", tmp_path)
@@ -251,6 +289,24 @@ def test_a_program_is_that_of_its_sources(tmp_path, monkeypatch):
         assert rattle.is_current("high") == (newer is None), newer
     rattle.path_of("high").unlink()
     assert not rattle.is_current("high")
+
+
+def test_one_builds_at_a_time(tmp_path, monkeypatch):
+    """Also after one that failed."""
+    monkeypatch.setattr(rattle, "CRATES", tmp_path)
+    building = []
+
+    def build(number):
+        with suppress(rattle.NotBuilt), rattle.alone():
+            building.append(number)
+            time.sleep(0.02)
+            found = [*building]
+            building.remove(number)
+            if number % 2:
+                raise rattle.NotBuilt("an odd one")
+        return found
+    with ThreadPoolExecutor(4) as pool:
+        assert [*pool.map(build, range(8))] == [[number] for number in range(8)]
 
 
 # tools/check

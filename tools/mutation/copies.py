@@ -13,7 +13,7 @@ from typing import NamedTuple
 
 from common.cargo import Cargo
 
-IGNORED = shutil.ignore_patterns(".git", "out", "target", "node_modules", "__pycache__")
+IGNORED = shutil.ignore_patterns(".git", "out", "target", "Cargo.lock", "node_modules", "__pycache__")
 # No command writes outside its copy: /dev and /tmp are its own. It has no network, and what it starts ends with it.
 SANDBOX = ["bwrap", "--ro-bind", "/", "/", "--dev", "/dev", "--dev-bind-try", "/dev/kvm", "/dev/kvm", "--proc", "/proc",
            "--tmpfs", "/tmp", "--unshare-pid", "--unshare-net", "--die-with-parent", "--new-session"]
