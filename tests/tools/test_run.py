@@ -30,14 +30,15 @@ exit {1}
 def call(tmp_path):
     """Runs a script through a program that writes what it reads into a file, replies this, and ends so."""
     def call(script, replies, *words, status=0, is_file=True):
-        (tmp_path / "script").write_text(script, "ascii")
+        (tmp_path / "script").write_text(script, "latin-1")
         (tmp_path / "replies").write_text(replies, "ascii")
         (tmp_path / "rt").write_text(KIT.format(tmp_path, status), "ascii")
         (tmp_path / "rt").chmod(0o755)
         path = f"{tmp_path}:{os.environ['PATH']}"
         given = {} if is_file else {"input": script}
-        ran = run([ROOT / "tools/run", "--unproved", *words], env={**os.environ, "PATH": path}, **given)
-        return ran.returncode, ran.stdout, (tmp_path / "read").read_text("ascii")
+        environment = {**os.environ, "PATH": path, "PYTHONIOENCODING": "ascii"}   # of a terminal that has no more
+        ran = run([ROOT / "tools/run", "--unproved", *words], env=environment, **given)
+        return ran.returncode, ran.stdout, (tmp_path / "read").read_text("latin-1")
     return call
 
 
@@ -49,6 +50,16 @@ def test_beside(name, call, tmp_path):
     assert (status, first, read) == (3, f"try in {ROOT}/crates/superio", script)
     assert [" ".join(line.split()) for line in shown] == lines
     assert {line.index("60") for line in shown if line.endswith(" 60")} <= {37}, "one below the other"
+
+
+def test_a_script_has_any_bytes(call, tmp_path):
+    """A line ends at LF alone, as the program takes it. Only CR is left out, since `run` makes LF of it."""
+    bad = "".join(chr(byte) for byte in range(256) if byte not in b"\n\r")
+    script = f"sr 05\n{bad}\nsr 05\n"
+    status, said, read = call(script, "60\n", "--beside", tmp_path / "script", status=1)
+    _, first, shown, last, end = said.split("\n")
+    assert (status, first, last, end, read) == (1, f"{'sr 05':35}  60", "sr 05", "", script)
+    assert shown == bad.encode("latin-1").decode("ascii", "backslashreplace")
 
 
 def test_without_lines_beside_it(call, tmp_path):
