@@ -23,6 +23,16 @@ REPLAY, SCRIPTS, CONSOLES = (PACKAGE / "tests" / f"{name}.mjs"
 RANDOM_SCRIPTS, RANDOM_CONSOLES = 2_000, 300
 # The first program of the package's page, as a module that `require` serves has it.
 IMPORT = re.compile(r'^import (\{.*\}) from ("superio");', re.M)
+# What JavaScript and pages got after Node 18.0 or after June 2023, and what someone may use without a thought: calls,
+# calls of an array that an iterator did not have, other names, and what HTML and CSS have. Node 20 has some of it.
+NEWER = re.compile(r"""\.(?:toReversed|toSorted|toSpliced|with|isWellFormed|toWellFormed|union|intersection|difference|
+                          symmetricDifference|isSubsetOf|isSupersetOf|isDisjointFrom|transfer|resize|bytes|toHex|fromHex|
+                          toBase64|fromBase64|getFloat16|setFloat16|canParse|groupBy|fromAsync|withResolvers|
+                          startViewTransition|showPopover)\(|
+                       \.(?:entries|keys|values)\(\)\.\w|\.matchAll\([^()]*\)\.\w|
+                       \bPromise\.try\b|\bRegExp\.escape\b|\bimport\.meta\.\w|\bFloat16Array\b|\bglobalThis\.crypto\b|
+                       \bpopover\b|\blight-dark\(|:has\(|<details\ name=""", re.X)
+SOURCES = at_least(9, [*PACKAGE.glob("*.[cm]js"), *ROOT.glob("web/*.mjs"), ROOT / "docs" / "try.html"])
 # What TypeScript takes for each kind of module, and lines of which it refuses each.
 TYPED = """import { Console, I8042, Rtc, SavedStateError, Serial, type ClockOffset, type ReadOffset } from "superio";
 import { type ConsoleState, type RtcState, type SerialState, type Wants, type Work, type WriteOffset } from "superio";
@@ -113,6 +123,12 @@ def test_calls(recorded, name, command):
     """The package makes each recorded call as it was."""
     number = recorded[name].count(" = ")
     check([*command, REPLAY], f"{number} calls did the same, 0 did not\n", input=recorded[name])
+
+
+@pytest.mark.parametrize("path", SOURCES, ids=lambda path: path.name)
+def test_old_programs_take(path):
+    """A source has nothing that Node 18 or a browser of June 2023 lacks."""
+    assert [line[:200] for line in path.read_text("utf-8").splitlines() if NEWER.search(line)] == []
 
 
 @pytest.mark.needs("node")
