@@ -10,10 +10,11 @@ import re
 from collections import defaultdict
 
 import pytest
-from common.facts import FIFO_SIZE, OUTPUT_SIZE
+from common.facts import (BYTES, CLOCK_CONTENTS, CLOCK_SAVED, CONSOLE_SAVED, FIFO_SIZE, HEADER_SIZE, OUTPUT_SIZE,
+                          PORT_SAVED)
 from documents import documents
 from harness import ROOT, at_least
-from superio import board
+from superio import board, program
 
 NUMBER = re.compile(r"\b(?:0x[0-9A-Fa-f]+|\d[\d,_]*)\b")
 BLOCKS = [[tuple(line.split(": ", 1)) for line in block.splitlines()]
@@ -60,3 +61,22 @@ STATED = [(file, found[0], int(found[1].replace(",", "")), sizes) for file in SE
 @pytest.mark.parametrize("file, text, number, sizes", at_least(15, STATED))
 def test_size(file, text, number, sizes):
     assert number in sizes, f"{file} says {text!r}"
+
+
+# How many bytes what a caller passes or gets can have. A line of a script has up to 128, and one of them if it is typed.
+LINE = 128
+RANGES = {PORT_SAVED, CONSOLE_SAVED, (0, LINE), (1, LINE)}
+COUNTS = {*PORT_SAVED, CLOCK_SAVED, *CONSOLE_SAVED, HEADER_SIZE, CLOCK_CONTENTS, BYTES["u32"], FIFO_SIZE, OUTPUT_SIZE,
+          board.OUTPUT_SIZE, LINE, program.LONGEST}
+# The sources whose comments and texts tell a caller what a call does.
+INTERFACES = [path.relative_to(ROOT).as_posix() for pattern in (
+    "rust/*/src/**/*.rs", "bindings/c/superio.h", "bindings/c/from-source/src/*.rs", "bindings/python/superio/*.py",
+    "bindings/js/*.d.ts", "bindings/js/[rs]*.mjs", "web/board.mjs") for path in sorted(ROOT.glob(pattern))]
+TOLD = [(file, found[0], [int(number.replace(",", "")) for number in found.groups() if number])
+        for file in at_least(40, INTERFACES) for found in re.finditer(
+            r"\b(?:(\d[\d,]*) to )?(\d(?:[\d,]*\d)?)(?: (?:received|held))? bytes\b", contents(file))]
+
+
+@pytest.mark.parametrize("file, text, numbers", at_least(50, TOLD))
+def test_count_of_bytes(file, text, numbers):
+    assert tuple(numbers) in RANGES or len(numbers) == 1 and numbers[0] in COUNTS, f"{file} says {text!r}"

@@ -110,6 +110,12 @@ def test_each_place_is_looked_for_in_both_directions():
     assert {*_PLACES} <= {line.partition(" ")[2] for line, _ in PLACES if line.startswith("back ")}
 
 
+def test_help_lists_each_place():
+    """And nothing else, in the words that `next` takes."""
+    [about] = [entry.about for entry in Viewer.groups["Commands"] if entry.name == "next"]
+    assert sorted(re.search("next WHAT: (.*), or an access", about)[1].split(", ")) == sorted(_PLACES)
+
+
 def test_places():
     viewer = Viewer(steps_of(TRACE), "trace", None)
     for line, place in PLACES:
