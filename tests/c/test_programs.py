@@ -155,16 +155,36 @@ def test_worlds(compiler, processor, tmp_path):
     make_worlds(compiler, processor, prebuilt(processor), tmp_path)
 
 
+# Threads that meet often: a loop that waits goes round all the time, and who wakes it does so late. An eventfd orders
+# what comes before it, so that otherwise nothing shows that a lock is missing there.
+EAGER = """#include <poll.h>
+#include <stdint.h>
+int __real_poll(struct pollfd *files, nfds_t count, int timeout);
+int __wrap_poll(struct pollfd *files, nfds_t count, int timeout);
+int __real_eventfd_write(int file, uint64_t count);
+int __wrap_eventfd_write(int file, uint64_t count);
+int __wrap_poll(struct pollfd *files, nfds_t count, int timeout) {
+    return __real_poll(files, count, timeout < 0 ? 1 : timeout); /* milliseconds */
+}
+int __wrap_eventfd_write(int file, uint64_t count) {
+    __real_poll(0, 0, 3);
+    return __real_eventfd_write(file, count);
+}
+"""
+
+
 @needs_make
 @pytest.mark.needs("cc")
 def test_threads_of_examples_by_gcc(tmp_path):
     """No thread of an example uses what another one changes without its lock."""
-    compiler = "gcc -xc -std=c99 -g -fsanitize=thread"
+    compiler = "gcc -xc -std=c99 -g -fsanitize=thread -Wl,--wrap=poll,--wrap=eventfd_write"
     said = {"monitor": "3000 bytes came back, 3000 of them in order\n",
             "machine": (ROOT / "examples/c/expected").read_text("ascii")}
+    (tmp_path / "eager.c").write_text(EAGER, "ascii")
     for name in said:
-        check([*compiler.split(), "-I", ROOT / "bindings/c", ROOT / f"examples/c/{name}.c", "-xnone", prebuilt(HOST), "-o",
-               tmp_path / name], "")
+        sources = ROOT / f"examples/c/{name}.c", tmp_path / "eager.c"
+        words = ["-I", ROOT / "bindings/c", *sources, "-xnone", prebuilt(HOST), "-o", tmp_path / name]
+        check([*compiler.split(), *words], "")
         check([tmp_path / name], said[name], input="hello\n")
 
 
