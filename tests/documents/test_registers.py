@@ -126,15 +126,21 @@ OFFSETS.update((f"RTC{name}", register.offset) for name, register in CLOCK.items
 NAME = rf"\b(?P<name>{'|'.join(OFFSETS)})\b"
 DIGIT, DIGITS = r"(?P<offset>0x[0-9A-F]{2,4}|\d)\b", r"(?P<offset>0x[0-9A-F]{3})\b"
 FORMS = [rf"{NAME},? at offset {DIGIT}", rf"{NAME},? at {DIGITS}", rf"{NAME} = {DIGITS}", rf"{NAME} \(offset {DIGIT}",
-         rf"\boffset {DIGIT},? \(?{NAME}", rf"(?<!offset )\b{DIGITS},? \(?{NAME}(?! =)"]
+         rf"\boffset {DIGIT},? \(?{NAME}", rf"(?<!offset )\b{DIGITS},? \(?{NAME}(?! =)", rf"{NAME} \({DIGITS}\)",
+         rf"\bat {DIGIT}, {NAME},", rf"\boffset {DIGIT} (?:that )?leaves {NAME}"]
+# Offsets and then their names, as `at 2 and 5 (IIR and LSR)`.
+LISTS = re.compile(rf"\bat ((?:\d, )*\d and \d) \(((?:{'|'.join(OFFSETS)}|, | and )+)\)", re.I)
 TEXTS = [*documents(), *(Document(path.relative_to(ROOT)) for path in sorted([
     ROOT / "bindings/c/superio.h", ROOT / "bindings/js/superio.d.ts", *(ROOT / "examples").rglob("*.[ch]"),
-    *(ROOT / "examples").rglob("*.py"), *(ROOT / "rust").glob("*/src/*.rs")]))]
-WITHOUT_BREAKS = [(str(text), re.sub(r"\s+(?:\* |//+ )?", " ", text.text)) for text in TEXTS]
+    *(ROOT / "examples").rglob("*.py"), *(ROOT / "rust").glob("*/src/**/*.rs"),
+    *(ROOT / "bindings/c/from-source/src").glob("*.rs"), *(ROOT / "bindings/python/superio").glob("*.py")]))]
+WITHOUT_BREAKS = [(str(text), re.sub(r"\s+(?:\* |//[/!]* )?", " ", text.text)) for text in TEXTS]
 BESIDE = [(name, found["name"], int(found["offset"], 0)) for name, text in WITHOUT_BREAKS
           for form in FORMS for found in re.finditer(form, text)]
+BESIDE += [(name, register, int(offset)) for name, text in WITHOUT_BREAKS for offsets, names in LISTS.findall(text)
+           for offset, register in zip(re.findall(r"\d", offsets), re.findall(r"[A-Z]+", names), strict=True)]
 
 
-@pytest.mark.parametrize("text, name, offset", at_least(15, BESIDE))
+@pytest.mark.parametrize("text, name, offset", at_least(25, BESIDE))
 def test_offset_beside_a_name(text, name, offset):
     assert offset == OFFSETS[name]
