@@ -82,8 +82,12 @@ def test_each_piece_begins_on_a_fresh_board():
     assert [(step.piece, step.call.reply) for step in steps] == [(1, "ok"), (2, "00"), (2, "00"), (3, None)]
 
 
-def test_short_forms():
-    steps = steps_of(b'sent "Hi"\npolled "!"\nso "Hi!"\nsq "ab"  02\nreceived "ab"\n2 sr 05  60\n')
+@pytest.mark.parametrize("spaces", [1, 2, 20])
+def test_short_forms(spaces):
+    """A text, and a reply that was recorded, may stand below others."""
+    trace = 'sent "Hi"\npolled "!"\nso "Hi!"\nsq "ab"  02\nreceived "ab"\n2 sr 05  60\n'
+    trace = trace.replace("  ", " " * (spaces + 1)).replace(' "', " " * spaces + '"')
+    steps = steps_of(trace.encode())
     lines = "sw 00 48,sw 00 69,sr 05,sw 00 21,so,sq 6162,sr 05,sr 00,sr 05,sr 00,sr 05,sr 05"
     assert ",".join(line_of(step.call.command) for step in steps) == lines
     assert not any(step.differs for step in steps)
