@@ -2,14 +2,18 @@
 """Single values of the Python package: any state goes there and back, in every form, and any argument of a wrong type
 or out of range is refused and changes nothing."""
 import copy
+import importlib
 import json
 import pickle
 from dataclasses import replace
+from pkgutil import iter_modules
 
 import pytest
 from harness import at_least
 from hypothesis import given, strategies as st
 from support import DEVICES
+
+import superio
 from superio import Console, ConsoleState, Rtc, RtcState, SavedStateError, Serial, SerialState
 
 BYTE, WORD = st.integers(0, 255), st.integers(0, 2**32 - 1)
@@ -81,3 +85,21 @@ def test_other_types(make, state, value):
     with pytest.raises(TypeError):
         port.write(0, value)
     assert port.state == before
+
+
+def caches():
+    """The functions of the package that keep their results, each with how many at most."""
+    for module in iter_modules(superio.__path__, "superio."):
+        names = vars(importlib.import_module(module.name)) if module.name != "superio.__main__" else {}
+        classes = [one for one in names.values() if isinstance(one, type)]
+        for name, one in [*names.items(), *(item for each in classes for item in vars(each).items())]:
+            one = getattr(one, "__func__", one)
+            if hasattr(one, "cache_parameters"):
+                yield name, one.cache_parameters()["maxsize"]
+
+
+def test_a_cache_has_an_end():
+    """Unless the package itself has all that it may be asked for: the library, and a class of states."""
+    found = {*at_least(5, caches())}
+    assert {name for name, most in found if most is None} == {"load", "kinds"}
+    assert max(most for _, most in found if most) <= 4096

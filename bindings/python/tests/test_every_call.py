@@ -91,6 +91,10 @@ SPECIAL = {
 }
 
 
+# Numbers in whose place may be the name of a register.
+NAMED = {(kind, "offset"): typing.Union[int, str] for kind in (Console, Serial, Rtc)}
+
+
 def drawn_call(source, kind, only=None):
     """A member of a device, which may be given, and arguments for it."""
     name = only or source.choice(members(kind))
@@ -140,6 +144,24 @@ class EveryCall(unittest.TestCase):
                 for count in range(9):
                     self.assertRaises(SavedStateError, kind.from_bytes, bytes(count))
         self.assertEqual({*library.PROTOTYPES} - {"superio_abi"}, watched.called)
+
+    def test_annotations(self):
+        """They say what each call takes, and what it gives: each kind of value comes, and no other does."""
+        source = Drawn("annotations")
+        for kind, name in ((kind, name) for kind in DEVICES for name in members(kind)):
+            member = getattr(kind, name)
+            hints = typing.get_type_hints(member.fget if isinstance(member, property) else member)
+            said = hints.pop("return")
+            taken = {one.name: {"bytes": bytes, "bool": bool}.get(one.kind) or NAMED.get((kind, one.name), int)
+                     for one in parameters(kind, name)}
+            given = [made(source.device(kind), *drawn_call(source, kind, name)) for _ in range(100)]
+            with self.subTest(kind, member=name):
+                self.assertEqual(taken, hints)
+                self.assertEqual({*typing.get_args(said)} or {said}, {*map(type, given)})
+                for one in given:
+                    fields = one._asdict() if isinstance(one, tuple) else {}
+                    self.assertEqual({field: type(value) for field, value in fields.items()},
+                                     typing.get_type_hints(type(one)) if fields else {})
 
     def test_what_a_call_gives_and_takes_is_the_same_after_all_later_calls(self):
         source, kept = Drawn("kept"), []
