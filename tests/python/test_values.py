@@ -7,6 +7,7 @@ import json
 import pickle
 from dataclasses import replace
 from pkgutil import iter_modules
+from types import ModuleType
 
 import pytest
 from harness import at_least
@@ -87,10 +88,22 @@ def test_other_types(make, state, value):
     assert port.state == before
 
 
+MODULES = at_least(14, [importlib.import_module(module.name) for module in iter_modules(superio.__path__, "superio.")])
+
+
+def test_names_that_are_for_callers():
+    """Those that the package takes from its modules, and the functions and classes of a module that lists its names."""
+    taken = {name for name, value in vars(superio).items() if name[0] != "_" and not isinstance(value, ModuleType)}
+    assert sorted(superio.__all__) == sorted(taken | {"__version__"})
+    for module in at_least(2, [module for module in MODULES if hasattr(module, "__all__")]):
+        own = {name for name, value in vars(module).items()
+               if name[0] != "_" and getattr(value, "__module__", "") == module.__name__}
+        assert own <= {*module.__all__} <= {*vars(module)}, module
+
+
 def caches():
     """The functions of the package that keep their results, each with how many at most."""
-    for module in iter_modules(superio.__path__, "superio."):
-        names = vars(importlib.import_module(module.name)) if module.name != "superio.__main__" else {}
+    for names in map(vars, MODULES):
         classes = [one for one in names.values() if isinstance(one, type)]
         for name, one in [*names.items(), *(item for each in classes for item in vars(each).items())]:
             one = getattr(one, "__func__", one)
