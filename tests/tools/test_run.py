@@ -6,7 +6,7 @@ import sys
 
 import pytest
 from common.rattle import crates_below
-from harness import ROOT, at_least, run
+from harness import ROOT, at_least, check, run
 
 # A script, what the program replies to it, and what stands beside its lines.
 BESIDE = {
@@ -73,12 +73,18 @@ def test_a_script_from_standard_input(words, shown, call):
         4, f"try in {ROOT}/crates/superio\n{shown}\n", "sr 05\n")
 
 
+def told():
+    """What the tool says of itself."""
+    return " ".join(check([ROOT / "tools/run", "--help"]).split())
+
+
 def test_no_script_and_no_kit(tmp_path):
     ran = run([ROOT / "tools/run", "--unproved", tmp_path / "script"])
     assert ran.returncode == 2 and f"{tmp_path}/script" in ran.stdout
     (tmp_path / "python3").symlink_to(sys.executable)
     ran = run([ROOT / "tools/run", "--unproved"], env={"PATH": str(tmp_path)})
     assert ran.returncode == 125 and "of the Rattle kit, is not there" in ran.stdout
+    assert "also 2 if SCRIPT cannot be read, and 125 if there is no program" in told()
 
 
 # A kit that proves: it notes its words and its folder, and makes the program. The crate that FAILS names is not proved.
@@ -110,10 +116,11 @@ def prove(tmp_path):
     return prove
 
 
-@pytest.mark.parametrize("told, jobs", [({}, 2), ({"RT_JOBS": "1"}, 1), ({"RT_JOBS": "7"}, 7)], ids=str)
-def test_a_proof_takes_as_many_processors_as_told(told, jobs, prove):
+@pytest.mark.parametrize("variables, jobs", [({}, 2), ({"RT_JOBS": "1"}, 1), ({"RT_JOBS": "7"}, 7)], ids=str)
+def test_a_proof_takes_as_many_processors_as_told(variables, jobs, prove):
     """In each crate, the lowest first. Then the program runs."""
-    status, said, steps = prove(**told)
+    status, said, steps = prove(**variables)
+    assert variables or "RT_JOBS is how many processors the proof takes, two if it is not set" in told()
     assert status == 0 and said.endswith("\nsr 05\n"), said
     assert steps == [*(f"lib --jobs {jobs} in {crate}" for crate in BELOW), f"run --jobs {jobs} in superio"]
 
