@@ -14,6 +14,8 @@ from harness import ROOT, at_least, check, run
 from recorded import EVERY_ANSWER, RECORDINGS, every_answer, recording_of, recordings
 from script_tests import board_scripts
 from seeds import seeds
+from support import parameters
+from superio import Console, I8042, Rtc, Serial
 
 PACKAGE = ROOT / "bindings" / "js"
 LICENSES = "LICENSE", "LICENSES"
@@ -26,9 +28,9 @@ IMPORT = re.compile(r'^import (\{.*\}) from ("superio");', re.M)
 # What JavaScript and pages got after Node 18.0 or after June 2023, and what someone may use without a thought: calls,
 # calls of an array that an iterator did not have, other names, and what HTML and CSS have. Node 20 has some of it.
 NEWER = re.compile(r"""\.(?:toReversed|toSorted|toSpliced|with|isWellFormed|toWellFormed|union|intersection|difference|
-                          symmetricDifference|isSubsetOf|isSupersetOf|isDisjointFrom|transfer|resize|bytes|toHex|fromHex|
-                          toBase64|fromBase64|getFloat16|setFloat16|canParse|groupBy|fromAsync|withResolvers|
-                          startViewTransition|showPopover)\(|
+                          symmetricDifference|isSubsetOf|isSupersetOf|isDisjointFrom|transfer|resize|bytes|
+                          toHex|fromHex|toBase64|fromBase64|getFloat16|setFloat16|canParse|groupBy|fromAsync|
+                          withResolvers|startViewTransition|showPopover)\(|
                        \.(?:entries|keys|values)\(\)\.\w|\.matchAll\([^()]*\)\.\w|
                        \bPromise\.try\b|\bRegExp\.escape\b|\bimport\.meta\.\w|\bFloat16Array\b|\bglobalThis\.crypto\b|
                        \bpopover\b|\blight-dark\(|:has\(|<details\ name=""", re.X)
@@ -254,6 +256,30 @@ def test_program_over_the_package(user, form):
 def test_the_manifest_can_be_required(user):
     program = 'console.log(require("superio/package.json").version)'
     check(["node", "--input-type=commonjs", "--eval", program], f"{VERSION}\n", cwd=user)
+
+
+DECLARED = (PACKAGE / "superio.d.ts").read_text("utf-8")
+OFFSETS = {"ReadOffset": (Serial, "read"), "WriteOffset": (Serial, "write"), "ClockOffset": (Rtc, "read")}
+
+
+def ranges():
+    """The comments of types of offsets, and of calls with numbers, each with the call in Python."""
+    comment = r"/\*\*((?:(?!\*/).)*)\*/\s+"
+    for name, call in OFFSETS.items():
+        yield pytest.param(name, *re.findall(rf"{comment}export type {name}\b", DECLARED, re.S), *call, id=name)
+    for kind in (Console, Serial, Rtc, I8042):
+        [body] = re.findall(rf"^export class {kind.__name__} {{(.*?)^}}", DECLARED, re.S | re.M)
+        for call in ("read", "write"):
+            name = f"{kind.__name__}.{call}"
+            yield pytest.param(name, *re.findall(rf"{comment}{call}\(", body, re.S), kind, call, id=name)
+
+
+@pytest.mark.parametrize("name, comment, kind, call", at_least(11, ranges()))
+def test_ranges_of_numbers(name, comment, kind, call):
+    """superio.d.ts says them as the functions in C take them."""
+    said = {number: int(most, 0) for number, most in re.findall(r"\ban? (\w+), 0 to (\w+)", comment)}
+    assert said.items() <= {one.name: (1 << one.kind) - 1 for one in parameters(kind, call)}.items()
+    assert said or name not in OFFSETS
 
 
 @pytest.mark.needs("npm", "tsc")

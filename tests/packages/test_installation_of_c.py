@@ -136,6 +136,13 @@ def test_what_to_do_without_libraries():
         check(["make", "-n", goal, "DESTDIR=/nowhere"], cwd=ROOT)
 
 
+@pytest.mark.parametrize("words", [[], ["PREFIX=/opt/x"]])
+def test_what_is_said_of_the_folder_in_which_install_writes(words):
+    """It is the one, if no other is given."""
+    [said] = re.findall(r"which writes below (\S+) if you give no ", check(["make", "-s", *words], cwd=ROOT))
+    assert f'superio.h "{said}/include"\n' in check(["make", "-n", "install", *words], cwd=ROOT)
+
+
 @pytest.mark.parametrize("target", sorted(TARGETS))
 @pytest.mark.parametrize("mask, words, where", [
     ("022", "PREFIX=/usr", ["lib"]), ("077", "PREFIX=/opt/x LIBDIR=lib64", ["lib64"]),
