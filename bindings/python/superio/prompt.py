@@ -10,7 +10,6 @@ import shutil
 import sys
 import tempfile
 from contextlib import suppress
-from pathlib import Path
 from typing import IO, Dict, List, NamedTuple, Tuple
 
 from .registers import CLOCK, SERIAL
@@ -181,7 +180,7 @@ def use_history() -> None:
     except ImportError:  # a Python without it reads lines all the same
         return
     readline.set_completer_delims(" \t\n")
-    path = os.environ.get(HISTORY_VARIABLE, str(Path.home() / ".superio_history"))
+    path = os.environ.get(HISTORY_VARIABLE, os.path.expanduser("~/.superio_history"))
     if not path:
         return
     with suppress(OSError):

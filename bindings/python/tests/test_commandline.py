@@ -355,6 +355,16 @@ class Terminal(FolderTest):
         self.assertEqual("00\n", self.answer("kr 04"))
         self.leave()
 
+    def test_a_user_without_a_home(self):
+        """As in a container, where a user may have neither HOME nor an entry: the shell is there, without a history."""
+        (self.folder / "sitecustomize.py").write_text("import pwd\npwd.getpwuid = {}.__getitem__\n")
+        with mock.patch.dict(ENVIRONMENT):
+            for name in ("HOME", "SUPERIO_HISTORY"):
+                ENVIRONMENT.pop(name, None)
+            self.start(PYTHONPATH=f"{self.folder}:{ENVIRONMENT['PYTHONPATH']}")
+        self.assertEqual("00\n", self.answer("kr 04"))
+        self.leave()
+
     def test_stepping_in_the_viewer(self):
         self.path.write_text("sw 01 02  ok\nsr 02  c2\n2 kr 04  00\n")
         self.assertRegex(self.start("view", self.path, prompt="view> "), "4 calls in 1 piece(?s:.*)\ncall 1 of 4")
