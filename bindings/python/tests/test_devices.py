@@ -125,14 +125,14 @@ class Arguments(unittest.TestCase):
                 self.assertEqual((said, before), (str(caught.exception), contents(device)))
 
     def test_what_is_written_of_numbers(self):
-        """The range of an offset, and of a value, is that of its type in C."""
+        """The range of an offset, and of a value, is that of its type in C, where a call says it."""
+        told = []
         for kind, member, parameter, _ in each_argument():
-            if parameter.name in ("offset", "value"):
-                text = " ".join(getattr(kind, member).__doc__.split())
-                found = re.findall(rf"\ban? {parameter.name}(?: of (\d+) bits|, 0 to (\w+))", text)
-                with self.subTest(kind, member=member):
-                    self.assertEqual([(1 << parameter.kind) - 1],
-                                     [(1 << int(bits)) - 1 if bits else int(most, 0) for bits, most in found])
+            text = " ".join((getattr(kind, member).__doc__ or "").split())
+            for bits, most in re.findall(rf"\ban? {parameter.name}(?: of (\d+) bits|, 0 to (\w+))", text):
+                told.append((1 << int(bits)) - 1 if bits else int(most, 0))
+                self.assertEqual((1 << parameter.kind) - 1, told[-1], (kind, member))
+        self.assertGreaterEqual(len(told), 12)
 
     def test_a_long_value_is_cut(self):
         """A message about it is a line. (A name of a register has a message of its own.)"""
