@@ -192,7 +192,8 @@ static uint8_t port_read(struct machine *machine, uint16_t port) {
 static void end_access(struct machine *machine) {
     pthread_mutex_lock(&machine->lock);
     if (machine->is_reset) {
-        /* A monitor releases the lock here to stop its processors, which may wait for the lock, and takes it again. */
+        /* Stop other processors first. They may wait for the lock, so release it meanwhile. Ignore the resets that they
+         * ask for until they have stopped. */
         clear(machine->irq); /* in place of a reset of the interrupt controller */
         if (interrupt(machine, superio_console_reset(&machine->console)))
             eventfd_write(machine->wake_up, 1);
