@@ -160,7 +160,7 @@ fn first_wrong<W: io::Write>(done: &[Done<Line, Counts, W>], rows: &[Row]) -> Op
     None
 }
 
-/// Whether each record shows what it has to, there is no other, and the trigger was called so often.
+/// Whether each record shows what it has to, there are no other records, and the trigger was called `calls` times.
 fn is_right<W: io::Write>(
     done: &[Done<Line, Counts, W>],
     rows: &[Row],
@@ -172,8 +172,8 @@ fn is_right<W: io::Write>(
         && port.interrupt_evt().calls() == calls
 }
 
-/// Runs the calls of these rows, and asserts that each record shows what it has to, that there is no other, and how
-/// often the trigger was called by then.
+/// Runs the calls of these rows. Asserts that each record shows what it has to, that there are no other records, and
+/// how often the trigger was called.
 fn recorded<W: io::Write + Drop>(
     rt: &impl Abort,
     alloc: Global,

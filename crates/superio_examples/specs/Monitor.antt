@@ -242,9 +242,9 @@ abbrev pub accepted : (events : List MachineEvent) (replies : List MachineReply)
 accepted (event ∷ events) (reply ∷ replies) = accepted_by event reply.answer ++ accepted events replies
 accepted _ _ = []
 
--- the FIFO keeps the order of its bytes. They are the bytes that were held at first, then the input that was accepted
--- and the bytes that the guest looped back, each in order. What left the FIFO, by reads or by resets, comes first among
--- them, and what is held follows
+-- bytes pass through the FIFO in order. First come the bytes that were held at first, and behind them the accepted
+-- input and the bytes that the guest looped back, each of the two in order. What left the FIFO, by reads or by resets,
+-- followed by what is held, is this list
 abbrev pub InputInOrder : (events : List MachineEvent) (replies : List MachineReply) (old new : Machine) → Type 0
 InputInOrder events replies old new =
     KeepsInput (in_each left_at (calls_of events) old.console) (accepted events replies)

@@ -32,7 +32,7 @@ pub enum MachineEvent {
     MemoryRead(u64),
     /// The guest writes this number, in four bytes, at this address.
     MemoryWrite(u64, u32),
-    /// A byte is typed for the guest. It is accepted if the console wants input, and answered `Full` otherwise.
+    /// A byte is typed for the guest. If the console wants input, it accepts the byte. Otherwise the answer is `Full`.
     Typed(u8),
     /// The sink took so many bytes of the output, the oldest ones.
     Drained(usize),

@@ -5,8 +5,8 @@ pub mod Writer
 use Rattle.std.specs.Prelude.{◌≡◌, ◌⊎◌, ℕ, List, [], ◌∷◌, Option, Result, Ok, Err, option_map, option_to_list}
 use Rattle.vm_superio.specs.Serial.{Error as Failure, Trigger, Memory, Asked, Condition}
 
--- the relation that the type of a trigger or of an events object declares. It relates three things: the object's value
--- before some calls; the calls, in order, by their answers for a trigger and by their events for an events object; and
+-- the relation that the type of a trigger or of an events object declares. It relates the object's value before some
+-- calls, the answers to these calls (of a trigger) or the events that they report (to an events object), in order, and
 -- the object's value after the calls
 abbrev pub Link : (Object Call : Type 0) → Type 1
 Link Object Call = Object → List Call → Object → Type 0
