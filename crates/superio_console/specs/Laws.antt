@@ -97,7 +97,8 @@ RetryLaw = (c : ConsoleState) → IsTrue c.is_refused
 abbrev pub asks_again : (call : Call) (c : ConsoleState) → Bool
 asks_again call c = retries call && not (length (conditions_due (after call c).port) == 0)
 
--- a refusal is forgotten only at such a call, at a read of IIR, after which nothing is pending, and at a reset
+-- a refusal is forgotten only at a call that asks again (`asks_again`), at a read of IIR, after which nothing is
+-- pending, and at a reset
 abbrev pub KeptLaw : Type 0
 KeptLaw = (calls : List Call) (c : ConsoleState) → IsTrue c.is_refused → in_one is_reset calls c ≡ false
     → in_one reads_iir calls c ≡ false → in_one asks_again calls c ≡ false → IsTrue (after_calls calls c).is_refused

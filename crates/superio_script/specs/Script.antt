@@ -84,8 +84,9 @@ pub record PrintsLines (mask : ℕ) (lines : List (List ℕ)) (before after : Op
 abbrev pub script_limit : ℕ
 script_limit = 65536
 
--- a run read the whole script, which is within the limit, found that `bad` is the number of the first bad line, and
--- wrote the text of the lines before it. `left` is what remains in the reader, and `before` and `after` are as above
+-- a run read the whole script, which is within the limit, found that `bad` is the number of the first bad line, or that
+-- there is none, and wrote the text of the lines before it. `left` is what remains in the reader, and `before` and
+-- `after` are as above
 pub record RunsUpTo (bad : Option ℕ) (script : List ℕ) (left before after : Option (List ℕ)) : Type 0 where
   pub within_limit : length script ≤ script_limit
   pub none_left : IsAtEnd left

@@ -23,7 +23,7 @@ clock_response state (read offset now) =
     clock_register_read (clock_register_at offset) (guest_time_in found (host_time now)) found
 clock_response state (write _ _ _) = None
 
--- the state that an access leaves. A read changes no register, but it may find the alarm reached
+-- the state that an access leaves. A read itself changes no register but, like any access, may find the alarm reached
 abbrev pub clock_step : (state : RtcState) (access : Access) → RtcState
 clock_step state (read _ now) = after_alarm state (host_time now)
 clock_step state (write offset value now) =

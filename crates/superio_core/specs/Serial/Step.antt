@@ -101,8 +101,8 @@ receive_bytes (byte ∷ bytes) s = record s {
 
 -- ---- the response
 
--- the response to an enqueue. In loopback, and if no bytes are passed, it is 0. Otherwise it is the first of these that
--- applies: the FIFO is full, the trigger refused, or how many bytes were added
+-- the response to an enqueue: 0 in loopback or if no bytes are passed, else that the FIFO is full if it is, else the
+-- trigger's refusal if there is one, and else how many bytes were added
 abbrev pub enqueue_step_response : (s : State) (bytes : List ℕ) (asked : Asked) → Response
 enqueue_step_response s bytes asked =
     if is_loopback s.modem_control || (length bytes == 0) then EnqueueOk 0

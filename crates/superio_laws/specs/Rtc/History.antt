@@ -131,7 +131,8 @@ clock_of_history start trace = record {
   armed = is_armed start trace;
 }
 
--- the number that a read shows at its moment, after the alarm that the read itself may reach. A write responds nothing
+-- the number that a read shows at its moment. If the read itself reaches the alarm, the number shows that already. A
+-- write responds nothing
 abbrev pub clock_history_response : (start : RtcState) (trace : List Access) (access : Access) → Option ℕ
 clock_history_response start trace (read offset now) =
     clock_register_read (clock_register_at offset) (guest_time_at start trace (read offset now))

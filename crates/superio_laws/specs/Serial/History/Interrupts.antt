@@ -43,7 +43,8 @@ rda_raised start trace entry =
 abbrev pub rda_pending : (start : State) (trace : Trace) → Bool
 rda_pending start trace = pending_since Rda start (rda_raised start) trace
 
--- the same for a condition that is a parameter: `is_raised Rda` is `rda_raised`, and `is_pending Rda` is `rda_pending`
+-- whether a condition is raised or pending, with the condition as a parameter: `is_raised Rda` is `rda_raised`, and
+-- `is_pending Rda` is `rda_pending`
 abbrev pub is_raised : (condition : Condition) (start : State) (trace : Trace) (entry : TraceEntry) → Bool
 is_raised Rda start trace entry = rda_raised start trace entry
 is_raised Thre start trace entry =

@@ -107,7 +107,8 @@ SendsEnabled start before entry =
     × IsTrue (has_bits (ier_after start before) (ier_bit Thre))
 
 -- the driver becomes able to send, because it is given bytes or goes on after a stop, only at an entry that enables
--- THRE or that sends a byte. The entries are those after `before`, newest first
+-- THRE (`EnablesThre`), or that sends a byte while IER enables THRE (`SendsEnabled`). `newest` are the entries after
+-- `before`, newest first
 abbrev pub AsksWhenGiven : (driver : Driver) (start : State) (before newest : Trace) → Type 0
 AsksWhenGiven driver start before newest =
     (later earlier : Trace) (entry : TraceEntry) → newest ≡ later ++ entry ∷ earlier
@@ -151,8 +152,8 @@ pub record IsPass (driver : Driver) (start : State) (before pass : Trace) : Type
 abbrev pub ShowsNone : (start : State) (trace : Trace) → Type 0
 ShowsNone start trace = (is_pending Thre start trace ≡ false) × (is_pending Rda start trace ≡ false)
 
--- a run that ends at none, as with Linux and Xen: its last read of IIR shows nothing pending, and nobody reads RBR
--- after that. This read ends the closing pass
+-- a run that ends at none, as with Linux and Xen: it has two or more reads of IIR, the last one shows nothing pending,
+-- and nobody reads RBR after that. The last read ends the closing pass
 pub record EndsAtNone (driver : Driver) (start : State) (before run : Trace) : Type 0 where
   pub tail : Trace
   pub none : TraceEntry

@@ -44,7 +44,8 @@ module _ {T E EV W : Type 0} where
   records_in [] = []
   records_in (done ∷ later) = if is_restored done.reply then [] else done ∷ records_in later
 
-  -- the port at the end of a segment: the old port that the next restore hands back, or the port at the end of the run
+  -- the port at the end of a segment: the old port that the restore after it hands back, or the port at the end of the
+  -- run
   abbrev pub old_port_or : (reply : Reply T EV W E) (end : SerialView T EV W) → SerialView T EV W
   old_port_or (Restored old) end = old
   old_port_or _ end = end
