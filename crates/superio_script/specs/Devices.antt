@@ -109,7 +109,7 @@ command_of line = command_of_fields (fields_of line)
 
 -- ---- a board
 
--- the devices. A contract sees the controller as its reset line
+-- the devices. Of the controller, a contract sees its reset line
 pub record Devices : Type 0 where
   pub serial : SerialView Line Counts Output
   pub clock : ClockDevice Counts
@@ -173,8 +173,8 @@ replies_in_order (Controller line ∷ commands) serial clock (reply ∷ controll
     reply ++ replies_in_order commands serial clock controller
 replies_in_order _ serial clock controller = []
 
--- the replies to these commands, after this trace of the serial port and these accesses of the clock, given what a
--- script leaves open. The replies of each device depend on its own lines alone
+-- the replies to these commands, from this trace of the serial port and these accesses of the clock on, given what a
+-- script leaves open. The replies of each device come from its own lines alone
 abbrev pub text_from :
     (mask : ℕ) (trace : Trace) (accesses : List Access) (commands : List Command)
     (outcomes : List Outcome) (printed : List (List ℕ)) → List ℕ
