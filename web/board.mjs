@@ -134,7 +134,7 @@ export class Board {
     return LINES[name].reply(this, ...values);
   }
 
-  /** Asks for the interrupt that often, up to a refusal. Returns whether there was none. */
+  /** Asks for the interrupt `times` times, up to a refusal. Returns whether nothing was refused. */
   ask(times) {
     for (let count = 0; count < times; count += 1) {
       const number = this.asked;

@@ -232,8 +232,8 @@ export class Console {
 }
 
 /**
- * A 16550 serial port with a receive FIFO of 64 bytes, alone: docs/PORT.md says what your monitor then has to do, all
- * of which a `Console` does.
+ * A 16550 serial port with a receive FIFO of 64 bytes, and nothing else: docs/PORT.md says what your monitor then has
+ * to do. A `Console` does all of that for you.
  */
 export class Serial {
   /** A new port: divisor 12, 8 bits a character, OUT2 set, and nothing enabled, pending or held. */

@@ -293,7 +293,7 @@ class Serial(Saved):
     """A 16550 serial port with a receive FIFO of 64 bytes. `copy` and `pickle` use its saved state.
 
     A new port has divisor 12, 8 bits a character, OUT2 set, and nothing enabled, pending or held. It is a port alone:
-    `docs/PORT.md` says what your monitor then has to do, all of which a `Console` does.
+    `docs/PORT.md` says what your monitor then has to do. A `Console` does all of that for you.
 
     >>> port = Serial()
     >>> port.write("IER", 0x01)

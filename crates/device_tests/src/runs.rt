@@ -206,7 +206,7 @@ fn run_shows<W: io::Write + Drop>(
 /// A record of a port over a [`Narrow`] writer.
 type NarrowDone = Done<Line, Counts, Narrow>;
 
-/// Whether a restore replaced a port that holds these bytes, has sent none, and has called its trigger so often.
+/// Whether a restore replaced a port that holds these bytes, has sent none, and has called its trigger this often.
 fn replaced(alloc: Global, record: Option<&NarrowDone>, held: &[u8], calls: u64) -> bool {
     match record {
         Some(record) => is_replaced(alloc, &record.reply, held, calls),
@@ -234,7 +234,7 @@ fn is_replaced(
     }
 }
 
-/// Whether a restore handed back a line of this mask that was called so often, and a writer with this room.
+/// Whether a restore handed back a line of this mask that was called this often, and a writer with this room.
 fn handed_back(record: Option<&NarrowDone>, mask: u64, calls: u64, room: usize) -> bool {
     match record {
         Some(record) => is_handed_back(&record.reply, mask, calls, room),

@@ -259,7 +259,7 @@ fn fails(port: &mut TestSerial<Narrow>, offset: u8, value: u8, kind: ErrorKind) 
     failed_by(&port.write(offset, value), kind)
 }
 
-/// Whether an enqueue accepts so many bytes.
+/// Whether an enqueue accepts this many bytes.
 fn accepts(port: &mut TestSerial<Narrow>, bytes: &[u8], count: usize) -> bool {
     matches!(port.enqueue_raw_bytes(bytes), Ok(accepted) if accepted == count)
 }
@@ -287,7 +287,7 @@ fn is_timeout_refused(port: &mut TestSerial<Narrow>) -> bool {
     matches!(port.character_timeout(), Err(Error::Trigger(LineRefused)))
 }
 
-/// Whether the events object was told so often of each event.
+/// Whether the events object was told this often of each event.
 fn reports(port: &TestSerial<Narrow>, counts: [u64; 4]) -> bool {
     events(port) == counts
 }

@@ -34,9 +34,9 @@ pub enum MachineEvent {
     MemoryWrite(u64, u32),
     /// A byte is typed for the guest. If the console wants input, it accepts the byte. Otherwise the answer is `Full`.
     Typed(u8),
-    /// The sink took so many bytes of the output, the oldest ones.
+    /// The sink took this many bytes of the output, the oldest ones.
     Drained(usize),
-    /// The host's time is so many seconds since 1970.
+    /// The host's time is now this many seconds after the start of 1970.
     Moment(u64),
     /// The monitor's timer goes off, or its poll returns: some milliseconds after any other event while the console
     /// wants a turn, and when the alarm is due.

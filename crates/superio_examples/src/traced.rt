@@ -74,7 +74,7 @@ fn take_one<T: Trigger, EV: SerialEvents, W: Write>(serial: &mut Serial<T, EV, W
     let _ = serial.character_timeout();
 }
 
-/// Makes so many of these runs. By `laws::guest_driver`, they read out the first of the bytes that were held, in
+/// Makes `count` of these runs. By `laws::guest_driver`, they read out the first of the bytes that were held, in
 /// order, at least one in each run.
 pub fn take_first<T: Trigger, EV: SerialEvents, W: Write>(
     serial: &mut Serial<T, EV, W>,

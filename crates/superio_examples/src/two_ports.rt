@@ -43,7 +43,7 @@ pub enum Event {
     ClockWrite(u16, u32),
     /// The guest writes this value to the controller at this offset.
     Command(u8, u8),
-    /// The host's time is so many seconds since 1970.
+    /// The host's time is now this many seconds after the start of 1970.
     Moment(u64),
 }
 
