@@ -43,7 +43,7 @@ class Declared:
 
 @dataclass(eq=False, kw_only=True)
 class Definition(Declared):
-    """`clauses` are the patterns and the value of each. A `group` is of definitions that use one another."""
+    """Each of `clauses` has its patterns and its value. A `group` has the definitions that use one another."""
     type: Term
     clauses: list[tuple[list[Term], Term]] = field(default_factory=list)
     group: list["Entity"] = field(default_factory=list)
@@ -72,7 +72,8 @@ Entity = Definition | Record | Data | Variant
 
 
 class Module:
-    """The names of a file, where it has others from, and why what could not be read was refused."""
+    """The names that a file declares, where its other names come from, and why a declaration that was not read was
+    refused."""
     def __init__(self, path: str) -> None:
         self.path = path
         self.names: dict[str, Entity] = {}

@@ -46,8 +46,8 @@ def part(pair: Typed, type_: Type, field: str) -> Typed:
 
 @dataclass(frozen=True)
 class Scope:
-    """Where a term stands: its module and its variables. `name_of` gives the Coq name of what is declared, and may put
-    that out first."""
+    """Where a term stands: its module and its variables. `name_of` gives the Coq name of something that is declared,
+    and may first write its declaration."""
     modules: Modules
     name_of: Callable[[Entity | Word], str]
     module: Module

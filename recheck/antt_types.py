@@ -64,6 +64,6 @@ def record_of(modules: Modules, type_: Type, what: str) -> Record:
 
 
 def first_argument(modules: Modules, type_: Type) -> Type:
-    """That of the items of a list, or of what an option has."""
+    """The type of the items of a list, or of the value in an option."""
     type_ = unfolded(modules, type_)
     return type_.arguments[0] if isinstance(type_, Applied) else None

@@ -13,7 +13,7 @@ Member = tuple[str, str, int]                        # its name, its type, and h
 Function = tuple[str, list[tuple[str, str]]]        # its result, and the name and type of each parameter
 
 HEADER = "bindings/c/superio.h"
-# The name in C of each struct that has there another than by the rule of `name_in_c`.
+# The names in C of the structs that do not follow the rule of `name_in_c`.
 NAMES = {"Uart": "superio_serial", "ReadEffects": "superio_serial_read_effects",
          "WriteEffects": "superio_serial_write_effects", "EnqueueEffects": "superio_serial_enqueue_effects",
          "Pl031": "superio_rtc", "Work": "superio_console_work", "Wants": "superio_console_wanted",
@@ -23,7 +23,7 @@ PLAIN = {**{f"i{width}": f"int{width}_t" for width in (8, 16, 32, 64)},
          "()": "void"}
 SIGNATURE = re.compile(r'^#\[no_mangle\]\npub (?:unsafe )?extern "C" fn (\w+)\(([^)]*)\)(?: -> (\w+))? \{$', re.M)
 
-# What the preprocessor may be told: no name of C's gets another meaning.
+# The directives that are allowed. None of them gives a name of C another meaning.
 DIRECTIVE = re.compile(r"#(define SUPERIO_|undef SUPERIO_|ifndef SUPERIO_H$|ifdef __(cplusplus|clang__)$"
                        r"|if (defined\(__has_attribute\)|SUPERIO_HAS)|else$|endif$|include <std(bool|def|int)\.h>$"
                        r"|pragma clang diagnostic (push|pop|ignored \"-Wgcc-compat\"))")

@@ -60,7 +60,7 @@ class CallChecker(PatternChecker):
         return self.passes(node, key, arguments)
 
     def passes(self, node: Call | Method, key: str, arguments: list[Expr]) -> Type:
-        """The type of the result of a function of the crate. A method may change the place that it is of."""
+        """The type of the result of a function of the crate. A method may change the place that it is called on."""
         function = self.crate.functions[key]
         parameters, result = self.crate.signature(function)
         if len(parameters) != len(arguments):
@@ -116,7 +116,8 @@ class CallChecker(PatternChecker):
         self.refuse(node, f"{to}::{name} of {of}")
 
     def is_wider(self, to: str, of: Type) -> bool:
-        """Whether the library converts between these numbers. It has few of usize, whose width is the machine's."""
+        """Whether the library converts between these types of numbers. It converts few to or from usize, because the
+        width of usize depends on the machine."""
         if to == "usize":
             return of in ("u8", "u16")
         return isinstance(of, str) and of in WIDTHS and of != "usize" and WIDTHS[of] < WIDTHS.get(to, 63)

@@ -1,6 +1,6 @@
 # SPDX-License-Identifier: Apache-2.0 OR BSD-3-Clause
-"""Resolves the names of a body of the shell: a call of an object is a question, and a method that takes a closure is
-what it does with it."""
+"""Resolves the names of a body of the shell. A call of an object becomes a question, and a method that takes a closure
+becomes what the method does with the closure."""
 from dataclasses import dataclass
 
 from check_expressions import Checker

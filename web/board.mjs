@@ -18,8 +18,8 @@ export const hexOf = (bytes) => Array.from(bytes, (one) => hex(one, 2)).join("")
 export const bytesOf = (digits) => Uint8Array.from(digits.match(/../g) ?? [], (two) => parseInt(two, 16));
 
 const controller = new I8042();
-// What a board replies to the values of a line's fields; and the rule of the line with the heading of docs/DEVICES.md
-// where it stands, unless a register has the rule.
+// For each line, what a board replies to the values of its fields. If no register has the line's rule, also the rule,
+// and the heading of docs/DEVICES.md below which it stands.
 export const LINES = {
   refuse: { reply: (board, mask) => { board.mask = mask; return null; } },
   sr: { reply: (board, offset) => hex(board.read(offset), 2) },
@@ -134,7 +134,7 @@ export class Board {
     return LINES[name].reply(this, ...values);
   }
 
-  /** Asks for the interrupt that often, up to a refusal. Returns whether there was none. */
+  /** Asks for the interrupt `times` times, up to a refusal. Returns whether nothing was refused. */
   ask(times) {
     for (let count = 0; count < times; count += 1) {
       const number = this.asked;
@@ -228,9 +228,9 @@ function loaded(device, bytes, use) {
 }
 
 /**
- * The lines of a script that makes these calls in the program, after those that come `first`, and why there is none, or
- * an empty text. A further line that changed nothing is left out. One that did has no other line in its place, nor has
- * a byte that the output refused.
+ * The lines of a script that makes these calls in the program, after the lines `first`, and why there is no such
+ * script, as a text that is empty if there is one. A further line that changed nothing is left out. If a further line
+ * changed something, or the output refused a byte, no line of the program does the same.
  */
 export function programLines(first, calls) {
   const isFurther = ({ command: { name } }) => Object.hasOwn(FURTHER_LINES, name);

@@ -26,8 +26,9 @@ function entriesOf(row) {
 }
 
 /**
- * What is told of each recording: before it is played, and from its first call on. Its playback stops at the first
- * place of some calls, each a line with or without its reply, with what happens and the part of docs/GUESTS.md.
+ * What the page says about each recording: before it is played, and from its first call on. The playback stops at the
+ * first place of some calls. Each stop has these calls, as lines with or without their replies, what happens there, and
+ * the part of docs/GUESTS.md about it.
  */
 export const RECORDINGS = {
   boot: {

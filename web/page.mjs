@@ -45,9 +45,9 @@ function begin() {
 }
 
 /**
- * Makes a call, which ends the list: what came after the present call is dropped. A line that ends in ` f` has a writer
- * that fails. Returns the call, or null if it is no line of a script. The interrupt line refuses as the user says, unless
- * the caller says otherwise.
+ * Makes a call and puts it behind the present one. Later calls of the list are dropped. A line that ends in ` f` has a
+ * writer that fails. Returns the call, or null if the line is no line of a script. Whether the interrupt line refuses
+ * is up to the user, unless the caller says.
  */
 function make(line, refuses = id("refuses").checked) {
   if (state.boot) takeOver();
@@ -414,7 +414,7 @@ function takeOver() {
     "kernel has stopped: you, or a driver that you let serve, act for it.");
 }
 
-/** The longest time between two pictures that the playback makes up for, in milliseconds. */
+/** How many milliseconds between two pictures the playback makes up for, at most. */
 const LONGEST_FRAME = 1000;
 
 /** Makes the calls for the time since the last picture. Part of a call is left for the next one. */

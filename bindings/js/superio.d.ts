@@ -157,9 +157,9 @@ export interface ConsoleState {
  */
 export class Console {
   /**
-   * A new port, and no output that waits. If `isPolled`, input goes in at once, as a guest needs it that polls the
-   * port, such as a boot loader. Otherwise, and by default, it waits until the guest's driver is ready: until a write
-   * at offset 1 leaves IER with RDA and without THRE.
+   * Makes a console with a new port and no output. If `isPolled` is true, input goes in at once, for a guest that polls
+   * the port, such as a boot loader. Otherwise, and by default, input waits until the guest's driver is ready: until a
+   * write at offset 1 leaves IER with RDA and without THRE.
    */
   constructor(isPolled?: boolean);
   /** The guest reads at an offset. */
@@ -202,7 +202,7 @@ export class Console {
   refuse(): Work;
   /**
    * The guest's machine is reset: the port is a new one, the bytes that it held are lost, and input waits again unless
-   * the guest polls. Output that waits stays.
+   * the guest polls. Waiting output is kept.
    */
   reset(): Work;
   /**
@@ -232,8 +232,8 @@ export class Console {
 }
 
 /**
- * A 16550 serial port with a receive FIFO of 64 bytes, alone: docs/PORT.md says what your monitor then has to do, all
- * of which a `Console` does.
+ * A 16550 serial port with a receive FIFO of 64 bytes, and nothing else: docs/PORT.md says what your monitor then has
+ * to do. A `Console` does all of that for you.
  */
 export class Serial {
   /** A new port: divisor 12, 8 bits a character, OUT2 set, and nothing enabled, pending or held. */

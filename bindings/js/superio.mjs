@@ -34,7 +34,8 @@ const view = new DataView(calls.memory.buffer);
 const DEVICE = calls.__heap_base.value;
 const EFFECTS = DEVICE + CONSOLE_SIZE;
 const PASSED = EFFECTS + 16;
-// As many bytes as the memory holds. A longer array gets the answer that these get: a header gives a length of 16 bits.
+// As many bytes as the memory has room for. Of a longer array only these are passed. The answer is the same, because
+// the length in a header has 16 bits.
 const LONGEST = memory.length - PASSED;
 
 /** Makes a call of the module with the bytes of a device at DEVICE, which the call may change. */

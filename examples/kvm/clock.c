@@ -8,7 +8,7 @@
 enum { RTCCR = 0x00C, RTCMIS = 0x018 };
 
 static superio_rtc rtc;
-static bool was_up; /* the line, as the interrupt controller knows it */
+static bool was_up; /* the level of the line that the interrupt controller was told last */
 static int timer;
 static int64_t ahead; /* how many seconds moments are ahead of CLOCK_BOOTTIME */
 
@@ -18,12 +18,12 @@ static int64_t seconds(clockid_t which) {
     return time.tv_sec;
 }
 
-/* Since 1970. */
+/* The present moment, in seconds since 1970. */
 static uint64_t moment(void) {
     return (uint64_t)(seconds(CLOCK_BOOTTIME) + ahead);
 }
 
-/* After each access: the line is a level, which changes or stays, and the timer goes off when the alarm is due. */
+/* Called after each access: sets the timer to when the alarm is due, and the line to its level if that has changed. */
 static void follow_clock(uint64_t now) {
     uint64_t due = superio_rtc_alarm_due(&rtc, now);
     struct itimerspec goes_off = {0}; /* which is never */

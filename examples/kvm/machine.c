@@ -11,7 +11,7 @@ int vm, vcpu;
 _Alignas(PAGE) uint8_t memory[MEMORY_SIZE];
 static struct kvm_run *run;
 static size_t run_size;
-static bool is_reset; /* by the guest, in this access */
+static bool is_reset; /* whether the guest resets the machine in this access */
 static int line; /* the serial port's interrupt. KVM makes one edge of each write to this eventfd */
 
 static void add_memory(uint32_t slot, uint64_t start, uint64_t end) {
@@ -43,7 +43,7 @@ void machine_create(void) {
     vm = KVM(kvm, KVM_CREATE_VM, NULL);
     KVM(vm, KVM_SET_TSS_ADDR, TSS_ADDRESS);
     KVM(vm, KVM_CREATE_IRQCHIP, NULL);
-    /* The timer has port 0x61. Its late ticks are lost, and do not pile up for a guest that is slow. */
+    /* The timer also serves port 0x61. If the guest is slow, late ticks are lost, so that they do not pile up. */
     KVM(vm, KVM_CREATE_PIT2, &(struct kvm_pit_config){.flags = KVM_PIT_SPEAKER_DUMMY});
     KVM(vm, KVM_REINJECT_CONTROL, &(struct kvm_reinject_control){.pit_reinject = 0});
     add_memory(0, 0, CLOCK_BASE);
@@ -73,8 +73,8 @@ bool machine_interrupt(void) {
     return eventfd_write(line, 1) == 0;
 }
 
-/* A byte at a port. Of the ports from 0x60 to 0x64 the reset controller has the first and the last. Where no device is,
- * a read gives ones, and a write has no effect. */
+/* Serves the access of a byte at a port. The reset controller has the ports 0x60 and 0x64, and none between them. At a
+ * port without a device, a read gives ones, and a write has no effect. */
 static void serve_port(uint16_t port, bool is_write, uint8_t *byte) {
     bool is_serial = port >= COM1 && port < COM1 + SUPERIO_SERIAL_PORTS;
     bool is_controller = port == SUPERIO_I8042_DATA_PORT || port == SUPERIO_I8042_COMMAND_PORT;

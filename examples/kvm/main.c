@@ -18,13 +18,13 @@ enum { CTRL_A = 0x01, PATIENCE = 1000, PAUSE = 5 /* milliseconds */, MOST_WRITES
 pthread_mutex_t lock = PTHREAD_MUTEX_INITIALIZER;
 static struct termios before;  /* the terminal's settings, if there is one */
 static int wakes;              /* an eventfd, which ends the poll of the event loop */
-static const char *end_reason; /* why the monitor is to end, if it is, */
-static int end_status;         /* and with which status */
-static pthread_cond_t has_room = PTHREAD_COND_INITIALIZER; /* the output */
-static bool is_stuck;          /* its reader has taken nothing for long */
-static uint64_t taken;         /* bytes of output, by this reader */
-static uint64_t refused;       /* bytes of output, by a pipe that is closed or a disk that is full */
-static bool restarts;          /* the machine, when the guest resets it */
+static const char *end_reason; /* why the monitor is to end, or NULL */
+static int end_status;         /* the exit status then */
+static pthread_cond_t has_room = PTHREAD_COND_INITIALIZER; /* the output has room */
+static bool is_stuck;          /* the reader of the output has taken nothing for long */
+static uint64_t taken;         /* how many bytes of output the reader has taken */
+static uint64_t refused;       /* how many a closed pipe or a full disk has refused */
+static bool restarts;          /* whether the machine starts again when the guest resets it */
 static const char *image, *initramfs, *kernel_words = "console=ttyS0 reboot=k panic=1";
 
 /* The result of a call that has to succeed. */
@@ -77,8 +77,8 @@ static void start_machine(void) {
     boot(image, initramfs, kernel_words);
 }
 
-/* The guest resets the machine. A new one takes its place, since KVM resets none. What has power all the time, or is
- * outside, goes on: the clock, and the reader of the output. */
+/* The guest resets the machine. KVM cannot reset one, so a new machine takes its place. The clock goes on, because it
+ * has power all the time, and so does the reader of the output, which is outside the machine. */
 void monitor_reset(void) {
     if (!restarts)
         monitor_end(0, "the guest reset the machine");
@@ -90,9 +90,9 @@ void monitor_reset(void) {
     clock_reset();
 }
 
-/* Holds the guest until the reader of its output has taken some, for a second at most: the reader may be a guest that
- * waits for this one. Meanwhile the lock is free. Afterwards the guest goes on, and what it sends is dropped, until the
- * reader takes some. Returns whether it did. */
+/* Holds the guest until the reader of its output has taken some, but for a second at most, because the reader may be a
+ * guest that waits for this one. Meanwhile the lock is free. After a second the guest goes on, and what it sends is
+ * dropped until the reader takes some again. Returns whether the reader took some in time. */
 bool monitor_hold(void) {
     struct timespec end;
     clock_gettime(CLOCK_MONOTONIC, &end);

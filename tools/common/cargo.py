@@ -7,18 +7,19 @@ from pathlib import Path
 
 from common.commands import ROOT, run
 
-# The drop-in for vm-superio, and the devices without I/O, on which it stands.
+# The drop-in for vm-superio, and the devices without I/O, which it uses.
 DROP_IN, DEVICES = ROOT / "rust" / "vm-superio", ROOT / "rust" / "superio"
-# Debian's compiler, beside which another may come first in PATH.
+# Debian's compiler. Another one may come first in PATH.
 DEBIAN_RUSTC = Path("/usr/bin/rustc")
-# Most is built once, and nothing is debugged: a linker takes a second for what a debugger needs of Rust's own library.
+# Most crates are built once, and none is debugged. Without debug information of Rust's own library, linking takes a
+# second less.
 SETTINGS = {"CARGO_INCREMENTAL": "0", "CARGO_PROFILE_DEV_DEBUG": "0", "CARGO_PROFILE_DEV_STRIP": "debuginfo",
             "RUSTDOCFLAGS": "-C strip=debuginfo", "CARGO_NET_OFFLINE": "true"}
 
 
 def add_crate(folder, code, rest="[features]\nderive = []\n"):
-    """Makes a crate, whose name and version the folder may have. One without code takes the place of an optional
-    dependency, which has to be there, to be left out."""
+    """Makes a crate. Its folder has its name, and may have its version. A crate without code stands in for an optional
+    dependency: Cargo has to find the dependency even if it leaves it out."""
     name, _, version = folder.name.partition("-")
     head = f'[package]\nname = "{name}"\nversion = "{version or "0.1.0"}"\nedition = "2021"\n'
     (folder / "src").mkdir(parents=True, exist_ok=True)
@@ -27,8 +28,8 @@ def add_crate(folder, code, rest="[features]\nderive = []\n"):
 
 
 class Cargo:
-    """Runs Cargo offline in the folder of a crate. Other crates are those of a registry, or an empty serde alone. The
-    settings that say so are written into a folder, or one above."""
+    """Runs Cargo offline in the folder of a crate. It takes other crates from a registry or, without one, finds only an
+    empty serde. The settings that say so are written into the folder, or into `settings`, a folder above it."""
 
     def __init__(self, folder, toolchain=None, registry=None, settings=None):
         self.folder, self.cargo = folder, toolchain.cargo if toolchain else "cargo"
@@ -59,8 +60,8 @@ class Cargo:
 
 
 def copied_crate(folder, toolchain=None, crate=DROP_IN):
-    """Cargo in a copy of a crate, beside which stands the one of the devices without I/O: a Cargo.lock with an empty
-    serde would not do for who has another."""
+    """Cargo in a copy of a crate, with a copy of the crate of the devices without I/O beside it. In the repository
+    itself, Cargo would leave a Cargo.lock with the empty serde, which is wrong for whoever has another serde."""
     for path in {crate, DEVICES}:
         shutil.copytree(path, folder / path.name, ignore=shutil.ignore_patterns("target", "Cargo.lock"),
                         dirs_exist_ok=True)

@@ -27,8 +27,9 @@ def take_paths():
 
 
 def prepare(tools, may_install):
-    """Installs what is missing of some tools, and says so in a line. Ends this program if it cannot, or if this is
-    another system. What is missing still, or may not be installed, its user names."""
+    """Installs what is missing of some tools, and says so in a line. Ends this program if that fails, or if this is
+    another system than Debian 12. Whatever is then still missing, or may not be installed, is named by the part that
+    needs it."""
     take_paths()
     unpacked = UNPACKED.read_text(encoding="utf-8").split() if UNPACKED.is_file() else ()
     lacking = [package for package in packages(tools) if package not in unpacked]   # even if nothing finds it there

@@ -23,9 +23,10 @@ class NotBuilt(OSError):
 
 
 def build(*steps):
-    """Runs commands of rt, each in a crate's folder, the lowest crate first: rt passes over the sources of a crate once
-    more if it has to build the libraries too. If one fails, the error names a file with what they printed. A proof
-    takes RT_JOBS processors, or two: each reads the libraries itself, so that more cost much and save little time."""
+    """Runs commands of rt, each in a crate's folder. The lowest crate comes first, because rt goes over the sources of
+    a crate once more if it also has to build its libraries. If a command fails, the error names a file with what all of
+    them printed. A proof takes RT_JOBS processors, or two if that is not set: each job reads all libraries itself, so
+    more of them cost much and save little time."""
     if not shutil.which("rt"):
         raise NotBuilt("nothing was built: rt, of the Rattle kit, is not there")
     with tempfile.NamedTemporaryFile("wb", prefix=f"{steps[-1][0]}-", suffix=".log", delete=False) as log:
@@ -98,8 +99,9 @@ def number_of_tests():
 
 
 def hand_over():
-    """Marks what `rt ci` built as that of the sources as they are, so that nothing proves it again: it leaves libraries
-    without the stamp by which `rt` knows them, and programs that an earlier run made are older than a fresh clone."""
+    """Marks what `rt ci` built as built from the present sources, so that nothing proves it again. This is needed
+    because `rt ci` leaves libraries without the stamp by which `rt` knows them, and because programs of an earlier run
+    are older than the sources of a fresh clone."""
     sys.dont_write_bytecode = True
     sys.path.append(str(Path(shutil.which("rt")).resolve().parent))
     import rtlib

@@ -43,8 +43,9 @@ CLOCK_READS = [f"m{offset}00" for offset in ("00", "04", "08", "10", "14", "18")
 
 
 class Row(NamedTuple):
-    """A row of a table of the document: its columns; its first two cells; what it makes once, and what repeatedly; which
-    of the 64 places of the ring counts if it is made at each; and by column the number, and whether it is bold."""
+    """A row of a table of the document: its columns; its first two cells; the accesses that it makes once, and those
+    that it repeats; `median` or `worst`, if it is counted at each of the ring's 64 places; and the number of each
+    column, with whether it is bold."""
     columns: tuple
     name: str
     cell: str
@@ -72,8 +73,9 @@ class Row(NamedTuple):
         return sum(access[0] in "RWh" and (self.has_alarm or access[:3] in ASKS) for access in self.repeated)
 
     def lists(self):
-        """The lists that the program gets: what it makes once, what it repeats, and what it reads last. At another place
-        of the ring the port has had bytes before: first 64, so that vm-superio's ring has all its places."""
+        """The lists that the program gets: the accesses that it makes once, those that it repeats, and those that it
+        reads last. To reach another place of the ring, the port first gets bytes that are read out again: 64 to begin
+        with, so that vm-superio's ring has all its places."""
         last = PORT_READS if self.is_of_port else CLOCK_READS if self.is_of_clock else []
         if not self.place:
             return [(self.once, self.repeated, last)]
@@ -82,7 +84,7 @@ class Row(NamedTuple):
                 for place in range(PLACES)]
 
     def number_of(self, counts):
-        """The number of the row, of what its lists took."""
+        """The number that the row shows: the median or the most of what its lists took."""
         numbers = [counted.instructions for counted in counts]
         return median_low(numbers) if self.place == "median" else max(numbers)
 
@@ -94,8 +96,8 @@ class Program(NamedTuple):
 
 
 class Counted(NamedTuple):
-    """What a row took, numbers that depend on its replies, its interrupts and the device after it, and how often it
-    asked for the host's time."""
+    """What a row took; numbers that depend on its replies, on its interrupts and on the device after it; and how often
+    the row asked for the host's time."""
     instructions: int
     replies: tuple
     asked: int
@@ -206,7 +208,7 @@ def program_of(column):
 
 @lru_cache(maxsize=None)
 def counts_of(column):
-    """By the name of each row of a column what its lists take."""
+    """What the lists of each row of a column take, by the row's name."""
     rows = [row for row in read_rows() if column in row.numbers]
     found = count(program_of(column), [lists for row in rows for lists in row.lists()])
     return {row.name: [next(found) for _ in row.lists()] for row in rows}
@@ -228,8 +230,8 @@ def write_numbers(columns):
 
 
 def enqueue_slope(column):
-    """What a byte more of an enqueue takes at most, and what those beyond the room take, where the FIFO's room goes
-    past the last place of the ring."""
+    """How much one more byte of an enqueue takes at most, and how much the bytes beyond the room take. The FIFO's room
+    goes past the last place of the ring."""
     first = ["e0020", *32 * ["r0000"]]
     sizes = [*range(1, PLACES + 1), PLACES + 1, 128, 255]
     lists = [(first, [f"e00{size:02x}"], []) for size in sizes]

@@ -8,9 +8,9 @@ An expression stands between < and >, and may have others in it. It begins with 
 - NAME=NUMBER, for a register of a port, a field of a clock, or `flags` and `dropped` of a console. Otherwise it is that
   of a new device. output=BYTES is the output of a console, and count=NUMBER another number for how many bytes it is;
 - BYTES, which come after those: what a port holds, or the port of a console;
-- less=NUMBER, if so many bytes are missing at the end of what follows the header, and the length says so;
+- less=NUMBER, if that many bytes are missing at the end of what follows the header, and the length says so;
 - magic=BYTES, kind=NUMBER, version=NUMBER and length=NUMBER, for another header. version=+1 is the next version;
-- cut=NUMBER, if so many bytes are missing at the end, and first=NUMBER, if only so many are there.
+- cut=NUMBER, if that many bytes are missing at the end, and first=NUMBER, if only that many are there.
 
 A row with <invalid DEVICE> and a <reply> stands for a row of each such device that interface.toml has below its errors.
 """

@@ -43,7 +43,7 @@ def declared(text, end):
 
 
 def read_header(word=8):
-    """The table, if a `size_t` has so many bytes."""
+    """The table, for a `size_t` of `word` bytes."""
     text = COMMENT.sub("", HEADER.read_text(encoding="ascii"))
     code = re.sub(r"SUPERIO_AT_LEAST\((\w+)\)", r"\1", " ".join(DIRECTIVE.sub("", text).split()))
     return Header(

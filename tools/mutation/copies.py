@@ -19,13 +19,13 @@ SANDBOX = ["bwrap", "--ro-bind", "/", "/", "--dev", "/dev", "--dev-bind-try", "/
            "--tmpfs", "/tmp", "--unshare-pid", "--unshare-net", "--die-with-parent", "--new-session"]
 RUNNER = ["/usr/bin/python3", "-c", Path(__file__).with_name("runner.py").read_text(encoding="utf-8")]
 COMPILERS = ["cc", "gcc"]
-PYTEST = "/usr/bin/python3 -m pytest -q -x"   # with words alone, it is not imported again each time
+PYTEST = "/usr/bin/python3 -m pytest -q -x"   # the runner has pytest imported already, and takes the words after this
 LONGEST = 3600  # seconds
 
 
 class Ended(NamedTuple):
-    """How a command ended: `passed`, `failed` or `late`; the seconds of a processor that it took; and the tests that
-    failed or, if pytest was to find them alone, were found."""
+    """How a command ended: `passed`, `failed` or `late`; how many seconds of a processor it took; and which tests
+    failed, or which tests pytest found if it was only asked to find them."""
     how: str
     processor: float = 0
     tests: list = []
@@ -43,16 +43,16 @@ class Copy:
             shutil.copy(Path(__file__).with_name("compiler"), folder / "compilers" / name)
 
     def begin(self):
-        """Begins what runs commands."""
+        """Starts the runner of commands, in the sandbox."""
         words = [*SANDBOX, "--bind", self.folder, self.folder, "--chdir", self.folder, *RUNNER]
         path = os.pathsep.join([str(self.folder / "compilers"), os.environ["PATH"]])
         return subprocess.Popen(words, stdin=subprocess.PIPE, stdout=subprocess.PIPE, stderr=subprocess.DEVNULL,
                                 text=True, env={**os.environ, "PATH": path})
 
     def run(self, command, memory=None, seconds=LONGEST, processor=LONGEST):
-        """Runs a command. A mutant may run, print or take memory without end: each process gets so many KiB, and all
-        together so many seconds, and so many of a processor, which are the same however busy the machine is. What waits
-        for something that never comes is late soon."""
+        """Runs a command within limits, because a mutant may run, print or take memory without end. Each process gets
+        `memory` KiB. All of them together get `seconds`, and `processor` seconds of a processor, which do not depend on
+        how busy the machine is. A command that only waits counts as late much sooner."""
         self.runner = self.runner or self.begin()
         words = split(command.removeprefix(PYTEST)) if command.startswith(PYTEST) else command
         asked = {"command": words, "memory": memory, "seconds": seconds, "processor": processor}
@@ -65,7 +65,7 @@ class Copy:
 
     @contextmanager
     def changed(self, mutant, made=()):
-        """The copy with a mutant in place of a line. What is made of that is as before afterwards, too."""
+        """Puts a mutant in the place of a line, and afterwards restores this file and the files `made` from it."""
         path = self.folder / mutant.file
         before = {file: file.read_bytes() for file in [path, *(self.folder / name for name in made)]}
         lines = path.read_text(encoding="utf-8").split("\n")
@@ -91,7 +91,7 @@ class Copies:
         return self
 
     def __exit__(self, *_):
-        """Ends what goes on, too."""
+        """Also ends the commands that are still running."""
         self.threads.shutdown(wait=False, cancel_futures=True)
         for copy in self.all:
             if copy.runner:

@@ -1,7 +1,8 @@
 # SPDX-License-Identifier: Apache-2.0 OR BSD-3-Clause
-"""Which tests reach a line, how long each takes and which come first. Debian's coverage tells the lines of Python, Node
-and Chromium those of JavaScript, and gcov those of C. Of Rust, whose compiler and LLVM's tools may have different
-versions, nothing is told, nor of the monitor for KVM, whose tests take gcov's calls of the system for its own."""
+"""Which tests reach a line, how long each test takes, and which tests come first. Debian's coverage tells which lines
+of Python are reached, Node and Chromium which lines of JavaScript, and gcov which lines of C. Nothing tells this for
+Rust, because its compiler and LLVM's tools may have different versions, nor for the monitor for KVM, because its tests
+would take gcov's system calls for the monitor's own."""
 import json
 import shutil
 import time
@@ -38,12 +39,12 @@ ENDS = {
 
 
 class Test(NamedTuple):
-    """A command or, with a name, what follows a command that takes several names. It reaches lines of files, as far as
-    one knows: each known line has whether it does."""
+    """A test: a command or, with a name, one of the names that a command takes. `lines` has the lines of files about
+    which something is known, each with whether the test reaches it."""
     command: str
     name: str
-    seconds: float = 0     # that it takes
-    processor: float = 0   # and those of a processor, which are the same on a busy machine
+    seconds: float = 0     # how long the test takes
+    processor: float = 0   # how many seconds of a processor it takes: as many on a busy machine
     lines: dict = {}
 
     def __str__(self):
@@ -62,7 +63,7 @@ def joined(tests):
 
 
 def split(command, copy, keeps_cases):
-    """The tests of a command: pytest's are told one by one, and the cases of one too if they are to be kept apart."""
+    """The tests of a command. A command of pytest has many. If `keeps_cases`, each case of a test is one of its own."""
     if not command.startswith(PYTEST):
         return [Test(command, "")]
     begin, _, chosen = command.partition(" -k ")
@@ -142,7 +143,7 @@ def measured(test, copy, language, sources, memory):
 
 
 class Reach:
-    """The tests of a part. If none tells of any line, each may reach all."""
+    """The tests of a part. If nothing is known of any line, each test may reach all of them."""
 
     def __init__(self, tests):
         self.tests = sorted(tests, key=lambda test: test.processor)
@@ -153,18 +154,18 @@ class Reach:
         self.refusals = []   # mutants, each with the test that refused it
 
     def total(self, what, tests):
-        """The seconds of tests, of time or of a processor, beside those that their commands take to begin."""
+        """How many seconds, of time or of a processor, the tests take, without what their commands take to start."""
         return sum(max(0, getattr(test, what) - getattr(self.start[test.command], what)) for test in tests)
 
     def of(self, mutant):
-        """The tests that reach the line of a mutant, or the statement in which it is, and all others."""
+        """The tests that reach the line of a mutant, or the statement that this line is in; and all other tests."""
         known, line = self.known.get(mutant.file, []), mutant.number + 1
         line = known[max(0, bisect_right(known, line) - 1)] if known else None
         reaching = [test for test in self.tests if not self.known or test.lines.get(mutant.file, {}).get(line)]
         return reaching, [test for test in self.tests if test not in reaching]
 
     def note(self, mutant, tests, refused):
-        """Of these tests one refused a mutant, whose name and case pytest tells."""
+        """Notes that one of these tests refused a mutant. `refused` has its name and case, if pytest told them."""
         for test in tests:
             if test.name in ("", *refused[:1], *(name.partition("[")[0] for name in refused[:1])):
                 self.refusals.append((mutant, test))
@@ -176,8 +177,9 @@ class Reach:
         return [*{f"{self.refusals[place][1]}": self.refusals[place][1] for _, place in near}.values()][:MOST_NEAREST]
 
     def groups(self, tests):
-        """Tests in groups. First come those that take little, or refused many mutants for what they take. The first
-        group takes a twentieth of all, and each may take four times as long as the one before."""
+        """The tests in groups. First come the tests that are quick, or that refused many mutants for the time they
+        took. The first group takes a twentieth of what all take, and each later group up to four times the one
+        before."""
         counts = Counter(f"{test}" for _, test in self.refusals)
         most, groups = self.first, [[]]
         for test in sorted(tests, key=lambda test: test.processor / (1 + counts[f"{test}"])):
@@ -188,8 +190,9 @@ class Reach:
         return groups
 
     def commands(self, mutant, tests):
-        """Tests for commands, each with its limits, of the seconds and of those of a processor. First come those that
-        refused what is near. A limit is several times what was measured, since a busy machine is slower."""
+        """The tests of each command to run, with its limits: seconds, and seconds of a processor. First come the tests
+        that refused mutants near this one. A limit is several times what was measured, since a busy machine is
+        slower."""
         nearest = self.nearest(mutant, tests)
         for group in [nearest, *self.groups([test for test in tests if test not in nearest])]:
             for command in dict.fromkeys(test.command for test in group):

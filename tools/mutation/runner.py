@@ -1,9 +1,10 @@
 # SPDX-License-Identifier: Apache-2.0 OR BSD-3-Clause
-"""Runs commands within a sandbox, one after the other, and ends all that each has started. Each is asked for by a line
-of JSON on standard input, and told of by one on standard output.
+"""Runs commands within a sandbox, one after the other, and ends all that each has started. A line of JSON on standard
+input asks for a command, and a line of JSON on standard output says how it ended.
 
-A text is a command of the shell. Words are those of pytest, which is imported here once: a run of it is a fork of this
-process, and begins in a fraction of the time. It tells which tests it has found, or which has failed.
+A command that is a text goes to the shell. A list of words goes to pytest, which is imported here once: a run of pytest
+is a fork of this process, so it begins in a fraction of the time. It says which tests it has found, or which has
+failed.
 """
 import json
 import os
@@ -18,20 +19,21 @@ from ctypes import CDLL
 from importlib import import_module
 from pathlib import Path
 
-# What the tests import, beside what is imported here. What is missing is not needed.
+# What the tests import, beside what is imported here. A module that is missing is left out.
 IMPORTED = ["pytest", "hypothesis", "hypothesis.strategies", "xdist.plugin", "xdist.looponfail",
             "concurrent.futures.thread", "ctypes.util", "difflib", "lzma", "random", "socket", "subprocess", "tarfile",
             "unittest.mock", "zlib"]
-SUBREAPER = 36                # of prctl: who has lost its parent is a child, too
+SUBREAPER = 36                # PR_SET_CHILD_SUBREAPER: a process that has lost its parent becomes a child of this one
 TEMPORARY = ["/tmp", "/dev/shm"]
-MOST_WRITTEN = 200_000 << 10  # bytes of a file
-TICKS = os.sysconf("SC_CLK_TCK")   # of a second
-QUIET, LOOKS = 20, 2          # seconds in which nothing goes on, and how often in a second one looks
-LEAST = 0.01                  # seconds of a processor, between two looks, of what goes on
+MOST_WRITTEN = 200_000 << 10  # how many bytes a file can have
+TICKS = os.sysconf("SC_CLK_TCK")   # how many ticks a second has
+QUIET, LOOKS = 20, 2          # after how many idle seconds a command is late, and how often per second we look
+LEAST = 0.01                  # a command that took fewer seconds of a processor between two looks is idle
 
 
 class Told:
-    """Tells the tests that pytest finds, if it is to find them alone, or else the first that fails, where it ends."""
+    """Tells which tests pytest finds, if it is only asked to find them. Otherwise tells the first that fails, and ends
+    there."""
 
     def __init__(self, file):
         self.file = file
@@ -75,18 +77,19 @@ def stats(*pattern):
 
 
 def taken():
-    """The seconds of a processor that all processes here took, with those that they have awaited."""
+    """How many seconds of a processor all processes here took, together with their children that have ended."""
     return sum(sum(map(int, numbers[11:15])) for numbers in stats()) / TICKS
 
 
 def goes_on(before, now):
-    """Whether any did something between two looks, or would if it had a processor or a disk. A busy machine leaves a
-    thread in these states, and not one that waits for something."""
+    """Whether a process did something between two looks, or would have if it had got a processor or a disk: a busy
+    machine leaves its threads in the states R or D, and a thread that waits for something else has another state."""
     return now - before >= LEAST or any(numbers[0] in "RD" for numbers in stats("task", "[0-9]*"))
 
 
 def is_late(child, seconds, processor):
-    """Awaits a child. It is late after some seconds, or after those of a processor, or if nothing goes on."""
+    """Waits for a child. Returns whether it was late: it took too many seconds, too many of a processor, or was
+    idle."""
     end, before, quiet = time.monotonic() + seconds, 0, 0
     with open(os.pidfd_open(child), "rb", 0) as file:
         while not select.select([file], [], [], 1 / LOOKS)[0]:
@@ -99,7 +102,8 @@ def is_late(child, seconds, processor):
 
 
 def ended(child, how):
-    """How a child has ended, and the seconds of a processor that it took and all that it started, which end here."""
+    """How a child has ended, and how many seconds of a processor it took with all that it started. Ends all of
+    these."""
     total = 0
     while found := Path(f"/proc/self/task/{os.getpid()}/children").read_text("ascii").split():
         for number in found if how else ():
@@ -112,7 +116,7 @@ def ended(child, how):
 
 
 def clean():
-    """Removes what the next command would find. The copy may be there, too."""
+    """Removes what this command left in the temporary folders, but not the copy, which may be there, too."""
     for path in (path for folder in TEMPORARY for path in Path(folder).glob("*")):
         if not path.is_dir() or path.is_symlink():
             path.unlink()

@@ -1,9 +1,9 @@
 # SPDX-License-Identifier: Apache-2.0 OR BSD-3-Clause
 """Emulated legacy devices for virtual machine monitors, over a proved library.
 
-Among them are a 16550 serial port, with the monitor's part of its work (`Console`) or without (`Serial`), and a PL031
-real-time clock (`Rtc`). Each function of the library in
-`prebuilt` is proved to do what its specification says. This package around it is tested.
+They include a 16550 serial port, with the monitor's part of its work (`Console`) or without it (`Serial`), and a PL031
+real-time clock (`Rtc`). Each function of the prebuilt library is proved to do what its specification says. This package
+around the library is tested.
 
 `python3 -m superio` is a shell for a board with the devices, and `Board` is that board.
 """

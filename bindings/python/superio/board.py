@@ -157,7 +157,7 @@ class Board:
         self.mask, self.calls = mask, 0
 
     def _ask(self, times: int) -> bool:
-        """Asks for the interrupt that often, up to a refusal. Returns whether there was none."""
+        """Asks for the interrupt `times` times, up to a refusal. Returns whether nothing was refused."""
         for _ in range(times):
             self._answers.append(not self.mask >> self.calls & 1)
             self.calls += 1

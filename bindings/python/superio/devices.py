@@ -130,7 +130,7 @@ class Console(Saved):
     call, and your event loop polls for what `wants` says.
 
     Without `polled`, input waits until the guest's driver is ready: until a write at offset 1 leaves IER with RDA and
-    without THRE. With it, input goes in at once, as a guest needs it that polls the port, such as a boot loader.
+    without THRE. With `polled`, input goes in at once, for a guest that polls the port, such as a boot loader.
 
     >>> console = Console()
     >>> console.write("IER", 0x01)
@@ -185,8 +185,8 @@ class Console(Saved):
     def receive(self, data: bytes) -> ConsoleReceived:
         """Input arrives for the guest. The console accepts the first bytes, as many as `wants().input` says.
 
-        Keep the others, and offer them again when it wants more. None are lost if you read at most as many from their
-        source.
+        Keep the others, and offer them again when the console wants more. If you never read more than that from the
+        source of input, there are no others.
         """
         data = byte_string("data", data)
         done = self._library.superio_console_receive(self._pointer, data, len(data))
@@ -240,7 +240,7 @@ class Console(Saved):
     def reset(self) -> Work:
         """The guest's machine is reset. The port is a new one, and the bytes that it held are lost.
 
-        Input waits again unless the guest polls. Output that waits stays.
+        Input waits again unless the guest polls. Waiting output is kept.
         """
         return _work(self._library.superio_console_reset(self._pointer))
 
@@ -253,7 +253,7 @@ class Console(Saved):
         self._library.superio_console_suspend(self._pointer)
 
     def set_polled(self, polled: bool) -> Work:
-        """Says whether the guest polls from now on. A loader that polls and a kernel that does not may be one guest."""
+        """Says whether the guest polls from now on. A guest may do both: its loader polls, and its kernel does not."""
         check_kind("polled", polled, bool)
         return _work(self._library.superio_console_set_polled(self._pointer, polled))
 
@@ -293,7 +293,7 @@ class Serial(Saved):
     """A 16550 serial port with a receive FIFO of 64 bytes. `copy` and `pickle` use its saved state.
 
     A new port has divisor 12, 8 bits a character, OUT2 set, and nothing enabled, pending or held. It is a port alone:
-    `docs/PORT.md` says what your monitor then has to do, all of which a `Console` does.
+    `docs/PORT.md` says what your monitor then has to do. A `Console` does all of that for you.
 
     >>> port = Serial()
     >>> port.write("IER", 0x01)
@@ -341,7 +341,8 @@ class Serial(Saved):
 
         Returns how often to ask for the interrupt: 0 or 1 times.
 
-        A read of IIR or RBR ends RDA even if bytes are left, which then wait without an interrupt.
+        A read of IIR or RBR ends RDA even if bytes are left. Without this call, these bytes then wait without an
+        interrupt.
         """
         return self._library.superio_serial_character_timeout(self._pointer)
 

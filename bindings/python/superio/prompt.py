@@ -72,7 +72,7 @@ def _replace(target: str, text: str) -> None:
 
 
 class Prompt(cmd.Cmd):
-    """Carries out commands, of which each has a method `do_NAME`, and lines of them at a prompt."""
+    """Carries out commands, each by its method `do_NAME`, and reads lines of commands at a prompt."""
 
     groups: Dict[str, Tuple[Help, ...]] = {}
 

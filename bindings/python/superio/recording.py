@@ -19,7 +19,8 @@ from .script import BadLine, ScriptError, parse
 from .tell import pending
 
 _TEXT = re.compile(r'(polled|sent|received|so|sq) +(".*")(?: {2,}(\S+))?')
-# All calls of a row are in memory at once, so that a longer number is none: no line has it as its name.
+# All calls of a row are in memory at once, so a number has at most six digits. A longer one is taken for the name of a
+# line, and refused, because no line has such a name.
 _ROW = re.compile(r"(?:(\d{1,6}) )?(.+?)(?: {2,}(.*))?", re.DOTALL)
 
 EMPTY = "(empty)"

@@ -57,7 +57,7 @@ def number(name: str, value: Any, bits: int, is_signed: bool = False, instead: s
 
 
 def byte_string(name: str, value: Any) -> bytes:
-    """The bytes of an object that has its contents in memory, and not of a number, of which `bytes` makes zeros."""
+    """The bytes of an object that has its contents in memory. A number has none: `bytes` would make zeros of it."""
     if isinstance(value, bytes):
         return value
     try:

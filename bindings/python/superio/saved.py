@@ -31,7 +31,7 @@ class SavedStateError(ValueError):
 class Saved:
     """A device whose `copy` and `pickle` use its saved state, so that equal states make the same pickle everywhere.
 
-    The state has neither the places where rings begin nor bytes that a guest or a reader has taken.
+    A saved state leaves out where a ring begins, and the bytes that a guest or a reader has taken.
     """
 
     __slots__ = ("_library", "_struct", "_pointer")
@@ -59,8 +59,8 @@ class Saved:
     def from_bytes(cls: Type[_Device], data: bytes) -> _Device:
         """The device of a saved state.
 
-        If a console's interrupt controller was not restored too, then call `refuse` of it. Then make a `turn` in any
-        case.
+        If a console's interrupt controller was not restored too, call the console's `refuse`. In any case, make a
+        `turn` then.
 
         Raises `SavedStateError` if the bytes are no saved state of this device.
         """
@@ -74,7 +74,7 @@ class Saved:
             raise SavedStateError([*SAVED_STATE_ERRORS][error - 1])
 
     def __reduce__(self) -> Tuple[Any, ...]:
-        """Attributes of a subclass go along."""
+        """How `pickle` and `copy` make the device again, with the attributes of a subclass."""
         return _restored, (type(self), self.to_bytes()), getattr(self, "__dict__", None)
 
 

@@ -73,7 +73,7 @@ def parse(line: bytes, is_first: bool = False, is_for_program: bool = False) -> 
 
 @lru_cache(maxsize=_CACHED)
 def _parse(line: bytes, is_first: bool) -> Command:
-    """The same, also of a further line. A script has most of its lines many times."""
+    """What `parse` returns, also for a further line. It is cached, because a script repeats most of its lines."""
     text = line.decode("ascii", "replace")
     name = text.partition(" ")[0]
     if name not in LINE_FIELDS:

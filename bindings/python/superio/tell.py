@@ -53,8 +53,8 @@ def raised(call: Call) -> List[str]:
 
 
 def _answers(call: Call) -> Dict[str, bool]:
-    """What the interrupt line answered, for each condition that it was asked for: those that a call raised or, in a
-    restore, all that are pending and enabled. A load that it refused leaves nothing of its port."""
+    """What the interrupt line answered for each condition. A call asks it for the conditions that it raised, and a
+    restore for all that are pending and enabled. If the line refuses a load, nothing of the loaded port is left."""
     state, name = call.after.serial, call.command.name
     if name == "ss" or (name == "sl" and call.reply == "ok"):
         return dict(zip((one for one in pending(state) if state.interrupt_enable & ENABLES[one]), call.answers))

@@ -158,8 +158,9 @@ def _steps(path: str) -> List[Step]:
 
 
 def view(path: str, table_path: Optional[str], svg_path: Optional[str]) -> None:
-    """Steps through the trace in a file, or writes its table, to a file of this name or else to standard output, or its
-    picture. Raises `BadLine` at a row that stands for no calls."""
+    """Steps through the trace in a file. With a `table_path`, writes its table to this file instead, or to standard
+    output if the name is empty. With an `svg_path`, writes its picture there. Raises `BadLine` at a row that stands for
+    no calls."""
     steps, name = _steps(path), re.sub(r"\.xz$", "", os.path.basename(path))
     if svg_path:
         write_text(svg_path, picture(steps, name))

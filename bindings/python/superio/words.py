@@ -43,8 +43,8 @@ def _unescaped(match: "re.Match[bytes]") -> bytes:
 
 
 def _integer(text: str, what: str, bits: int, base: int = 0, instead: str = "") -> int:
-    """A number as people type it: decimal, or with 0x or 0b before it, if `base` is 0, and hexadecimal if it is 16.
-    `instead` is what may stand in its place, as a message adds it that refuses a text which is no number at all."""
+    """A number as people type it. If `base` is 0, it is decimal, or has 0x or 0b before it. If `base` is 16, it is
+    hexadecimal. `instead` is what else may stand there. A message that refuses a text which is no number adds it."""
     try:
         number = int(text, 10 if base == 0 and text.isdigit() else base)
     except ValueError:

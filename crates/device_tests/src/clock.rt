@@ -66,7 +66,7 @@ fn interrupted(imsc: u32, ris: u32) -> Rtc<Counts> {
     Rtc::from_state(&RtcState::from_five(0, 0, 0, imsc, ris), Counts::new())
 }
 
-/// Whether so many reads and so many writes were invalid.
+/// Whether `reads` reads and `writes` writes were invalid.
 fn reports(clock: &Rtc<Counts>, reads: u64, writes: u64) -> bool {
     let counts = clock.events();
     counts.invalid_read_count() == reads && counts.invalid_write_count() == writes

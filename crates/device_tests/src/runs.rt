@@ -160,7 +160,7 @@ fn first_wrong<W: io::Write>(done: &[Done<Line, Counts, W>], rows: &[Row]) -> Op
     None
 }
 
-/// Whether each record shows what it has to, there is no other, and the trigger was called so often.
+/// Whether each record shows what it has to, there are no other records, and the trigger was called `calls` times.
 fn is_right<W: io::Write>(
     done: &[Done<Line, Counts, W>],
     rows: &[Row],
@@ -172,8 +172,8 @@ fn is_right<W: io::Write>(
         && port.interrupt_evt().calls() == calls
 }
 
-/// Runs the calls of these rows, and asserts that each record shows what it has to, that there is no other, and how
-/// often the trigger was called by then.
+/// Runs the calls of these rows. Asserts that each record shows what it has to, that there are no other records, and
+/// how often the trigger was called.
 fn recorded<W: io::Write + Drop>(
     rt: &impl Abort,
     alloc: Global,
@@ -206,7 +206,7 @@ fn run_shows<W: io::Write + Drop>(
 /// A record of a port over a [`Narrow`] writer.
 type NarrowDone = Done<Line, Counts, Narrow>;
 
-/// Whether a restore replaced a port that holds these bytes, has sent none, and has called its trigger so often.
+/// Whether a restore replaced a port that holds these bytes, has sent none, and has called its trigger this often.
 fn replaced(alloc: Global, record: Option<&NarrowDone>, held: &[u8], calls: u64) -> bool {
     match record {
         Some(record) => is_replaced(alloc, &record.reply, held, calls),
@@ -234,7 +234,7 @@ fn is_replaced(
     }
 }
 
-/// Whether a restore handed back a line of this mask that was called so often, and a writer with this room.
+/// Whether a restore handed back a line of this mask that was called this often, and a writer with this room.
 fn handed_back(record: Option<&NarrowDone>, mask: u64, calls: u64, room: usize) -> bool {
     match record {
         Some(record) => is_handed_back(&record.reply, mask, calls, room),

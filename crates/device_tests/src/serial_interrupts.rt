@@ -105,7 +105,7 @@ fn loopback_bytes_raise_rda_once_until_one_is_read(rt: HostRuntime) {
     );
 }
 
-/// Whether this byte, written in loopback after so many interrupts, raises one, is held alone, and is then read.
+/// Whether this byte, written in loopback after this many interrupts, raises one, is held alone, and is then read.
 fn gives_back(port: &mut TestSerial<Narrow>, byte: u8, calls: u64) -> bool {
     port.interrupt_evt().calls() == calls
         && port.write(THR, byte).is_ok()

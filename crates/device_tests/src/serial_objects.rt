@@ -119,7 +119,7 @@ pub fn state_with(rt: &impl Abort, alloc: Global, fields: Fields) -> SerialState
     fields.state(alloc).ok().expect(rt, "a state")
 }
 
-/// A writer that takes so many bytes and none after them, or whose flush fails.
+/// A writer that has room for a number of bytes and takes none after them, or a writer whose flush fails.
 #[derive(Drop)]
 pub struct Narrow {
     taken: Output,
@@ -128,7 +128,7 @@ pub struct Narrow {
 }
 
 impl Narrow {
-    /// A writer with room for so many bytes.
+    /// A writer with room for `room` bytes.
     pub fn with_room(room: usize) -> Narrow {
         Narrow {
             taken: Output::new(),
@@ -187,7 +187,7 @@ pub enum Step {
     WriteRefused(u8, u8),
     /// Such a write returns the writer's fault, which is of this kind.
     WriteFails(u8, u8, ErrorKind),
-    /// An enqueue of these bytes accepts so many of them.
+    /// An enqueue of these bytes accepts this many of them.
     Enqueue(&'static [u8], usize),
     /// An enqueue of these bytes returns the trigger's refusal.
     EnqueueRefused(&'static [u8]),
@@ -199,11 +199,11 @@ pub enum Step {
     TimeoutRefused,
     /// A restore of the state over new objects succeeds. The steps after it are taken with the new port.
     Restore,
-    /// The FIFO has room for so many bytes.
+    /// The FIFO has room for this many bytes.
     Room(usize),
-    /// The trigger was called so often.
+    /// The trigger was called this many times.
     Calls(u64),
-    /// The events object was told so often of a byte read, sent and lost, and of an empty FIFO.
+    /// The events object was told this many times of a byte read, of one sent, of one lost, and of an empty FIFO.
     Events([u64; 4]),
     /// The writer holds these bytes.
     Written(&'static [u8]),
@@ -259,7 +259,7 @@ fn fails(port: &mut TestSerial<Narrow>, offset: u8, value: u8, kind: ErrorKind) 
     failed_by(&port.write(offset, value), kind)
 }
 
-/// Whether an enqueue accepts so many bytes.
+/// Whether an enqueue accepts this many bytes.
 fn accepts(port: &mut TestSerial<Narrow>, bytes: &[u8], count: usize) -> bool {
     matches!(port.enqueue_raw_bytes(bytes), Ok(accepted) if accepted == count)
 }
@@ -287,7 +287,7 @@ fn is_timeout_refused(port: &mut TestSerial<Narrow>) -> bool {
     matches!(port.character_timeout(), Err(Error::Trigger(LineRefused)))
 }
 
-/// Whether the events object was told so often of each event.
+/// Whether the events object was told this often of each event.
 fn reports(port: &TestSerial<Narrow>, counts: [u64; 4]) -> bool {
     events(port) == counts
 }

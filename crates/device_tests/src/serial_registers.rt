@@ -157,7 +157,7 @@ fn gives(port: &mut TestSerial<Narrow>, bytes: &[u8]) -> bool {
     true
 }
 
-/// Whether an enqueue accepts so many of these bytes.
+/// Whether an enqueue accepts this many of these bytes.
 fn accepts(port: &mut TestSerial<Narrow>, bytes: &[u8], count: usize) -> bool {
     matches!(port.enqueue_raw_bytes(bytes), Ok(accepted) if accepted == count)
 }

@@ -83,7 +83,7 @@ type CountedCall<'a> = Call<Counter<'a>, Counter<'a>, Counter<'a>>;
 
 type CountedSerial<'a> = Serial<Counter<'a>, Counter<'a>, Counter<'a>>;
 
-/// How many records a run of so many reads gives.
+/// How many records a run of this many reads gives.
 fn records_of_reads<'a>(
     alloc: Global,
     object: Counter<'a>,

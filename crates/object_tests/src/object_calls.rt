@@ -1,8 +1,8 @@
 // SPDX-License-Identifier: Apache-2.0 OR BSD-3-Clause
-//! The calls that objects get, and the faults that they answer, as far as no contract says so. A data write makes one
-//! `write`, and one `flush` if that succeeded, and returns their fault as it is, whichever call makes it. So does an
-//! event, an output that is drained, and a script, which calls its streams no more than it has to. A call that takes
-//! and drops objects does not call them before.
+//! The calls that objects get, and the faults with which they answer, where no contract says so. A data write,
+//! whichever call makes it, calls `write` once, and `flush` once if that succeeded, and returns their fault unchanged.
+//! The same holds for an event, for an output that is drained, and for a script, which calls its streams no more often
+//! than it has to. A call that takes objects and drops them does not call them first.
 use crate::objects::{
     FAULTS, Log, Object, SerialCall, TestSerial, Then, Writing, by_std, drawn, drawn_clock,
     drawn_state, fault_of, in_order, is_same, port, port_over, writings,

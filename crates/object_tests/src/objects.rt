@@ -26,7 +26,7 @@ pub fn drawn(seed: u64) -> u64 {
     mixed ^ (mixed >> 31)
 }
 
-/// A state of any registers that holds so many bytes.
+/// A state that holds this many bytes, with any values in its registers.
 pub fn drawn_state(alloc: Global, seed: u64, held: usize) -> Result<SerialState, AllocError> {
     let [dll, dlm, ier, iir, lcr, lsr, mcr, msr] = drawn(seed).to_le_bytes();
     let [scratch, byte, ..] = drawn(!seed).to_le_bytes();
@@ -177,7 +177,7 @@ pub enum Then {
     Fails(io::Error),
 }
 
-/// What a writer does: it takes so many bytes, then is interrupted so many times, and then goes on like this. Its flush
+/// What a writer does: it takes some bytes, then is interrupted some times, and then goes on like this. Its flush
 /// fails if there is a fault for it.
 #[derive(Clone, Copy)]
 pub struct Writing {

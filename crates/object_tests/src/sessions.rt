@@ -70,7 +70,7 @@ const READS: [(u16, &[u8], &[u8]); 16] = [
     (0x3FD, b"\xFF\xFF\xFF", b"\xFF\xFF\xFF"),
 ];
 
-/// Whether a read of so many bytes at this port gives these.
+/// Whether a read at this port, of as many bytes as `expected` has, gives these bytes.
 fn gives(bus: &mut TestBus<'_>, at: u16, expected: &[u8]) -> bool {
     let mut bytes = [0xAA; 4];
     let count = expected.len().min(4);
@@ -122,7 +122,7 @@ fn buses_reach_their_devices_by_port(rt: HostRuntime) -> Result<(), Fail> {
 /// Where a clock's window begins.
 const BASE: u64 = 0x10_0000_0000;
 
-/// Reads of so many bytes, seven seconds after the guest has set 1,000, and what they leave of bytes 0xAA.
+/// Reads of these lengths, seven seconds after the guest has set 1,000, and what they leave of bytes 0xAA.
 static CLOCK_READS: [(u64, usize, [u8; 4]); 15] = [
     (BASE, 4, [0xEF, 0x03, 0, 0]),
     // Parts of a register, of two, and of none.
@@ -156,7 +156,7 @@ fn first_left_otherwise(window: &mut ClockWindow<Object<'_>>) -> Option<u64> {
     None
 }
 
-/// Writes so many bytes as no guest writes of a register.
+/// Makes writes of lengths in which no guest writes a register.
 fn write_lengths(window: &mut ClockWindow<Object<'_>>) {
     let bytes = [0xFF; 8];
     for length in [1usize, 2, 3, 8] {

@@ -115,7 +115,7 @@ fn calls_of<'a>(
     Ok(calls)
 }
 
-/// How many records a run of so many reads, an enqueue and a restore gives, and how many bytes a new port gives back.
+/// How many records a run of this many reads, an enqueue and a restore gives, and how many bytes a new port gives back.
 fn counts_of<'a>(alloc: Global, object: Object<'a>, size: usize) -> Result<[usize; 2], Fail> {
     let bytes = b"x".repeat(alloc, size)?;
     let calls: Vec<SerialCall<'a>> = calls_of(alloc, object, bytes.clone()?)?;
@@ -163,7 +163,7 @@ fn outputs_of_each_size_are_made(rt: HostRuntime) -> Result<(), Fail> {
     Ok(())
 }
 
-/// How many replies a monitor gives while its guest sends so many bytes.
+/// How many replies a monitor gives while its guest sends this many bytes.
 fn replies_to(alloc: Global, monitor: &mut Monitor, size: usize) -> Result<usize, Fail> {
     let events = vec![in alloc; MachineEvent::PortWrite(0x3F8, b'x'); size]?;
     Ok(monitor.run(alloc, &events)?.len())

@@ -30,7 +30,7 @@ fn check(rt: &impl Abort, alloc: Global, rows: &[Row]) {
     }
 }
 
-/// Pieces in order, each so many times.
+/// These pieces in order, each as often as it says.
 fn joined(alloc: Global, pieces: &[(&[u8], usize)]) -> Result<Vec<u8>, AllocError> {
     let mut bytes = Vec::new(alloc);
     for (piece, times) in pieces {

@@ -1,5 +1,5 @@
 // SPDX-License-Identifier: Apache-2.0 OR BSD-3-Clause
-//! The devices of vm_superio as C functions. Their header is `bindings/c/superio.h`.
+//! The devices of vm_superio as C functions. Their header, `bindings/c/superio.h`, documents each of them for a caller.
 //!
 //! A function takes a device in a plain struct by pointer, changes it, and returns what is left to do. No function has
 //! a `requires`: any bytes of a struct are valid.

@@ -81,7 +81,7 @@ new_console is_polled = record {
 abbrev pub shows_ready : (enable : ℕ) → Bool
 shows_ready enable = has_bits enable (ier_bit Rda) && not (has_bits enable (ier_bit Thre))
 
--- input may go in: the driver is ready, or the guest polls; and it does not sleep
+-- input may go in: the driver is ready or the guest polls, and the guest does not sleep
 abbrev pub is_open : (c : ConsoleState) → Bool
 is_open c = (c.is_ready || c.is_polled) && not c.is_asleep
 
@@ -102,7 +102,7 @@ owes_turn c = has_waiting_input c.port || (c.is_refused && irq_level c.port)
 abbrev pub wants_of : (c : ConsoleState) → Wants
 wants_of c = record { input = input_room c; output = not_empty c.output; turn = owes_turn c }
 
--- these wants name something that those do not: input, output or a turn
+-- the new wants name something that the old ones do not: input, output or a turn
 abbrev pub names_more : (old new : Wants) → Bool
 names_more old new =
     ((old.input == 0) && not (new.input == 0)) || (not old.output && new.output) || (not old.turn && new.turn)
@@ -134,8 +134,8 @@ retries Turns = true
 retries (Writes offset value) = offset == 1
 retries call = false
 
--- what the call makes of the port: steps of superio_core, in order. A character timeout follows a read of IIR that
--- answers that nothing is pending, and each turn makes one. Input goes in as far as it fits
+-- what a call does to the port: steps of superio_core, in order. A read of IIR that shows nothing pending is followed
+-- by a character timeout, and each turn makes a character timeout, too. Input goes in as far as it fits
 abbrev pub port_calls : (call : Call) (c : ConsoleState) → List Op
 port_calls (Reads offset) c =
     Read offset ∷ (if answers_none offset (shown_at offset c.port) then CharacterTimeout ∷ [] else [])
@@ -204,7 +204,7 @@ asleep_after Resets c = false
 asleep_after Suspends c = true
 asleep_after call c = c.is_asleep && not (opens_gate call c)
 
--- whether the guest polls is the monitor's word
+-- whether the guest polls is what the monitor said last
 abbrev pub polled_after : (call : Call) (c : ConsoleState) → Bool
 polled_after (SetsPolled is_polled) c = is_polled
 polled_after call c = c.is_polled

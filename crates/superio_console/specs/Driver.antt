@@ -1,6 +1,6 @@
 -- SPDX-License-Identifier: Apache-2.0 OR BSD-3-Clause
--- The laws of a console and the guest's driver: the monitor's part of `superio_laws::guest_driver` is done, so the
--- driver's conditions are left.
+-- The laws of a console and the guest's driver. The console's calls do the monitor's part of
+-- `superio_laws::guest_driver`, so only the driver's rules are left to suppose.
 use Rattle.std.specs.Prelude.{⊤, ℕ, ◌≡◌, Bool, false, List, [], ◌∷◌, ◌++◌, take, length, IsTrue}
 use Rattle.superio_laws.specs.Serial.{State, fresh_state, not_empty, Coherent, Rda, Thre, Trace}
 use Rattle.superio_laws.specs.Serial.History.{state_of_history}
@@ -65,7 +65,7 @@ abbrev pub TimeoutLaw : Type 0
 TimeoutLaw = (start : State) (before : Trace) (c : ConsoleState) (calls : List Call) → IsAt start before c
     → in_one is_reset calls c ≡ false → TimeoutAfterNone start before (newest calls c)
 
--- with a turn after the driver's run, all is done that `superio_laws::guest_driver` asks of a monitor
+-- any calls without a reset, with a turn after them, do all that `superio_laws::guest_driver` asks of a monitor
 abbrev pub MonitoredLaw : Type 0
 MonitoredLaw = (driver : Driver) (start : State) (before : Trace) (c : ConsoleState) (calls : List Call)
     → IsAt start before c → in_one is_reset calls c ≡ false
@@ -73,9 +73,9 @@ MonitoredLaw = (driver : Driver) (start : State) (before : Trace) (c : ConsoleSt
 
 -- ---- each byte is through
 
--- after a run of the driver the guest is interrupted if a byte is held, or if one is left to send and flow control does
--- not stop the driver. If the driver read that nothing is pending, no turn has to come first: then RDA is pending at
--- once
+-- after a run, an interrupt for RDA is assured if bytes are held, and one for THRE if the driver has bytes left and
+-- flow control does not stop it. If the run ends at none, bytes are held and IER enables RDA, then RDA is pending
+-- already, before any turn
 pub record IsServed (driver : Driver) (start : State) (before : Trace) (run : List Call) (c : ConsoleState)
     : Type 0 where
   pub to_take : IsTrue (not_empty (after_calls run c).port.in_buffer) → IsInterrupted Rda run c
@@ -85,8 +85,8 @@ pub record IsServed (driver : Driver) (start : State) (before : Trace) (run : Li
       → IsTrue (is_enabled Rda (after_calls run c))
       → IsTrue (is_shown Rda (after_calls run c))
 
--- runs of the driver, in order: each is what an interrupt makes it do, with all other calls up to the next run, and
--- without a reset
+-- runs, in order: each is any list of the console's calls that has no reset and keeps the driver's rules, and each
+-- begins where the run before it ends
 abbrev pub AreRuns :
     (driver : Driver) (start : State) (before : Trace) (runs : List (List Call)) (c : ConsoleState) → Type 0
 AreRuns driver start before [] c = ⊤
@@ -106,9 +106,9 @@ abbrev pub runs_of : (runs : List (List Call)) (c : ConsoleState) → List Trace
 runs_of [] c = []
 runs_of (run ∷ later) c = newest run c ∷ runs_of later (after_calls run c)
 
--- the guest is interrupted after each run. The bytes held at first are read out first, in order, at least one in each
--- run. If a driver sends its bytes in order, the bytes left to send at first are sent first, at least one in each run
--- without a stop
+-- after each run, an interrupt is assured for what is left. The bytes held before the runs are read out first, in
+-- order, at least one in each run. If the driver sends its bytes in order, the bytes left before the runs are sent
+-- first, at least one in each run in which flow control never stops it
 pub record AllIsThrough
     (driver : Driver) (start : State) (before : Trace) (runs : List (List Call)) (c : ConsoleState)
     : Type 0 where
@@ -120,8 +120,8 @@ pub record AllIsThrough
       → (more : List ℕ) × (sent driver start end
       ≡ sent driver start before ++ take (free_runs driver before (runs_of runs c)) (left driver start before) ++ more)
 
--- if the runs keep the driver's conditions, they read and send the first bytes first, and after each of them the guest
--- is interrupted for what is left. The monitor's part is done by the console's calls
+-- if the runs keep the driver's rules, they read out and send the first bytes first, and after each run an interrupt is
+-- assured for what is left. The console's calls do the monitor's part
 abbrev pub EachByteIsThroughLaw : Type 0
 EachByteIsThroughLaw = (driver : Driver) (start : State) (before : Trace) (c : ConsoleState) (runs : List (List Call))
     → IsAt start before c → AreRuns driver start before runs c → AllIsThrough driver start before runs c

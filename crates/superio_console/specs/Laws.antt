@@ -81,8 +81,8 @@ abbrev pub HeldLaw : Type 0
 HeldLaw = (c : ConsoleState) → IsTrue (not_empty c.port.in_buffer)
     → IsTrue (has_bits c.port.interrupt_enable (ier_bit Rda)) → IsTrue (wants_of c).turn
 
--- the loop is told to come back after a refusal, too, as long as the line is up, that is, while a condition is pending
--- and enabled
+-- after a refusal, too, the loop is told to come back, as long as the line is up because a condition is pending and
+-- enabled
 abbrev pub RefusedLaw : Type 0
 RefusedLaw = (c : ConsoleState) → IsTrue c.is_refused → IsTrue (irq_level c.port) → IsTrue (wants_of c).turn
 
@@ -97,7 +97,8 @@ RetryLaw = (c : ConsoleState) → IsTrue c.is_refused
 abbrev pub asks_again : (call : Call) (c : ConsoleState) → Bool
 asks_again call c = retries call && not (length (conditions_due (after call c).port) == 0)
 
--- a refusal is forgotten only by such a call, by a read of IIR, after which nothing is pending, and by a reset
+-- a refusal is forgotten only at a call that asks again (`asks_again`), at a read of IIR, after which nothing is
+-- pending, and at a reset
 abbrev pub KeptLaw : Type 0
 KeptLaw = (calls : List Call) (c : ConsoleState) → IsTrue c.is_refused → in_one is_reset calls c ≡ false
     → in_one reads_iir calls c ≡ false → in_one asks_again calls c ≡ false → IsTrue (after_calls calls c).is_refused
@@ -107,8 +108,8 @@ KeptLaw = (calls : List Call) (c : ConsoleState) → IsTrue c.is_refused → in_
 abbrev pub asks : (call : Call) (c : ConsoleState) → Bool
 asks call c = not (interrupts_of call c == 0)
 
--- a condition that is pending in the end, and was not at first, was asked for by one of the calls. So a driver that
--- reads IIR, which ends both conditions, is interrupted again for each that comes
+-- if a condition is pending in the end and was not pending at first, one of the calls asked for an interrupt. So a
+-- driver that has read IIR, which ends both conditions, is interrupted again for each condition that becomes pending
 abbrev pub AskedLaw : Type 0
 AskedLaw = (condition : Condition) (calls : List Call) (c : ConsoleState) → in_one is_reset calls c ≡ false
     → has_bits c.port.interrupt_identification (iir_bit condition) ≡ false
@@ -140,7 +141,8 @@ is_enabled condition c = has_bits c.port.interrupt_enable (ier_bit condition)
 abbrev pub is_shown : (condition : Condition) (c : ConsoleState) → Bool
 is_shown condition c = has_bits c.port.interrupt_identification (iir_bit condition)
 
--- the loop is told to make a turn, which asks. If IER masks the condition, the write that enables it asks
+-- an interrupt is still to come. If IER enables the condition, the loop is told to make a turn, and this turn asks. If
+-- IER masks the condition, any write that enables it asks
 pub record IsDue (condition : Condition) (c : ConsoleState) : Type 0 where
   pub wanted : IsTrue (is_enabled condition c) → IsTrue (wants_of c).turn
   pub turn : IsTrue (is_enabled condition c) → 0 < interrupts_of Turns c
@@ -148,8 +150,9 @@ pub record IsDue (condition : Condition) (c : ConsoleState) : Type 0 where
       is_enabled condition c ≡ false → (write : Call) → IsTrue (is_enabled condition (after write c))
       → 0 < interrupts_of write c
 
--- after these calls the guest is interrupted. Where the interrupt controller takes edges, one was raised, or is due.
--- Where it takes levels, and IER enables the condition, the line is up, or a turn is wanted that leaves it up
+-- after these calls an interrupt for the condition is assured. If the interrupt controller takes edges, an interrupt
+-- was raised, or is due. If it takes levels and IER enables the condition, the line is up, or the loop is told to make
+-- a turn, which leaves the line up
 pub record IsInterrupted (condition : Condition) (calls : List Call) (c : ConsoleState) : Type 0 where
   pub edge : IsRaised calls c ⊎ IsDue condition (after_calls calls c)
   pub level :
@@ -157,13 +160,14 @@ pub record IsInterrupted (condition : Condition) (calls : List Call) (c : Consol
       IsTrue (is_enabled condition end)
       → IsTrue (irq_level end.port) ⊎ (IsTrue (wants_of end).turn × IsTrue (irq_level (after Turns end).port))
 
--- the guest is interrupted for a condition that is pending in the end and was not at first, as after a read of IIR
+-- if a condition is pending in the end and was not pending at first, for example because IIR had just been read, an
+-- interrupt for the condition is assured
 abbrev pub PendingLaw : Type 0
 PendingLaw = (condition : Condition) (calls : List Call) (c : ConsoleState) → in_one is_reset calls c ≡ false
     → is_shown condition c ≡ false → IsTrue (is_shown condition (after_calls calls c)) → IsInterrupted condition calls c
 
--- the guest is interrupted for bytes that are held, whatever it did and whatever arrived, if RDA was not pending at
--- first
+-- if bytes are held in the end and RDA was not pending at first, an interrupt for RDA is assured, whatever the guest
+-- did and whatever arrived
 abbrev pub WaitingLaw : Type 0
 WaitingLaw = (calls : List Call) (c : ConsoleState) → in_one is_reset calls c ≡ false
     → is_shown Rda c ≡ false → IsTrue (not_empty (after_calls calls c).port.in_buffer) → IsInterrupted Rda calls c
@@ -267,21 +271,23 @@ OpenLaw = (write : Call) (rest : List Call) (c : ConsoleState) → IsTrue (is_re
 abbrev pub PolledLaw : Type 0
 PolledLaw = (c : ConsoleState) → IsTrue c.is_polled → c.is_asleep ≡ false → NamesRoom c
 
--- ---- a driver that takes at least one byte whenever it runs
+-- ---- a driver that takes at least one byte in each run
 
--- runs of calls, in order: each is what an interrupt makes the driver do, with all other calls up to the next
+-- the bytes that leave the FIFO in these runs, in order. A run is any list of calls, and each begins where the run
+-- before it ends
 abbrev pub left_in_runs : (runs : List (List Call)) (c : ConsoleState) → List ℕ
 left_in_runs [] c = []
 left_in_runs (run ∷ later) c = in_each left_at run c ++ left_in_runs later (after_calls run c)
 
--- if a byte is held when a run begins, at least one leaves the FIFO in it, by a read of RBR or by a reset
+-- if a byte is held when a run begins, at least one byte leaves the FIFO in this run, by a read of RBR or by a reset
 abbrev pub EachTakes : (runs : List (List Call)) (c : ConsoleState) → Type 0
 EachTakes [] c = ⊤
 EachTakes (run ∷ later) c =
     (IsTrue (not_empty c.port.in_buffer) → IsTrue (not_empty (in_each left_at run c)))
     × EachTakes later (after_calls run c)
 
--- then the bytes held at first leave the FIFO first, in order, at least one in each run, whatever arrives meanwhile
+-- if each run takes a byte in this way, the bytes held at first leave the FIFO first, in order, at least one in each
+-- run, whatever arrives meanwhile
 abbrev pub TakenLaw : Type 0
 TakenLaw = (runs : List (List Call)) (c : ConsoleState) → EachTakes runs c
     → (more : List ℕ) × (left_in_runs runs c ≡ take (length runs) c.port.in_buffer ++ more)

@@ -44,16 +44,16 @@ pub fn refusals()
 }
 
 /// These laws hold for any guest, as long as it is not reset. Suppose that a condition is pending in the end and was
-/// not pending at first, as after a read of IIR. Then one of the calls asked for an interrupt, and the guest is
-/// interrupted.
+/// not pending at first, as after a read of IIR. Then one of the calls asked for an interrupt, and an interrupt for
+/// this condition is assured.
 ///
-/// For edges this means one of two things. Either a call asked for an interrupt, and since then there was no `refuse`
-/// and the guest did not read IIR. Or an interrupt is due: if IER enables the condition, `wants` names a turn, which
-/// asks, and if IER masks it, the write that enables it asks. For levels it means that the line is up while IER enables
-/// the condition.
+/// If your interrupt controller takes edges, *assured* means one of two things. Either a call asked for an interrupt,
+/// and since then there was no `refuse` and the guest did not read IIR. Or an interrupt is due: if IER enables the
+/// condition, `wants` names a turn, which asks, and if IER masks it, the write that enables it asks. If the controller
+/// takes levels, it means that the line is up while IER enables the condition.
 ///
-/// The same holds for RDA while bytes are held. If RDA is not pending yet, `wants` names a turn, which asks and leaves
-/// the line up.
+/// The same holds for RDA if bytes are held in the end and RDA was not pending at first. If RDA is still not pending,
+/// and IER enables it, `wants` names a turn, which asks and leaves the line up.
 pub fn interrupted()
     ensures asked { AskedLaw }
     ensures pending { PendingLaw }
@@ -115,8 +115,8 @@ pub fn output()
 
 /// A console with a coherent port, whether new or loaded, is at the empty trace, and calls without a reset add their
 /// entries to the trace. After a reset a console is at the empty trace again. After each read of IIR that shows nothing
-/// pending, the next call of the port is a character timeout. So with a turn after the driver's run, the monitor's part
-/// of `superio_laws::guest_driver` is done.
+/// pending, the next call of the port is a character timeout. So any calls without a reset, with a turn after them, do
+/// the monitor's part of `superio_laws::guest_driver`.
 pub fn history()
     ensures start { StartLaw }
     ensures first { FirstLaw }
@@ -128,18 +128,19 @@ pub fn history()
     by_lemmas();
 }
 
-/// This law supposes that each of a driver's runs keeps the driver's conditions of `superio_laws::guest_driver`, and
-/// that no run has a reset.
+/// A run is any list of the console's calls without a reset, and each run begins where the run before it ends. This law
+/// supposes that each run keeps the driver's rules of `superio_laws::guest_driver`.
 ///
-/// After each run the guest is interrupted, as [`interrupted`] says, if bytes are held, or if the driver has bytes left
-/// to send and flow control does not stop it. If bytes are held, IER enables RDA, and the driver read IIR until nothing
-/// was pending, then RDA is pending at once, without a turn. The bytes held at first are read out first, in order, at
+/// After each run, an interrupt is assured, as [`interrupted`] says: one for RDA if bytes are held, and one for THRE if
+/// the driver has bytes left to send and flow control does not stop it. If the run ends at none, bytes are held and IER
+/// enables RDA, then RDA is pending already, before any turn. The bytes held at first are read out first, in order, at
 /// least one in each run until none of them is left. If the driver sends its bytes in order, the same holds for the
-/// bytes left to send at first, with each run in which flow control did not stop it.
+/// bytes left to send at first, counting only the runs in which flow control never stops it.
 ///
 /// So a byte that has i bytes before it in its direction is through after i + 1 such runs, whatever arrives meanwhile.
-/// That these runs come is up to two others. The monitor makes a turn while `wants` names one, raises each interrupt
-/// that a call tells it to raise, and calls `refuse` if it cannot. The guest runs its handler when it is interrupted.
+/// The law does not say that these runs come. That is up to the monitor and the guest. The monitor makes a turn while
+/// `wants` names one, raises each interrupt that a call tells it to raise, and calls `refuse` if it cannot. The guest
+/// runs its handler when it is interrupted. docs/DRIVERS.md has all that this rests on.
 pub fn each_byte_is_through()
     ensures { EachByteIsThroughLaw }
 {

@@ -212,8 +212,8 @@ impl Console {
         ConsoleReceived { accepted, work }
     }
 
-    /// Returns the oldest output that waits, up to the end of the ring. It is empty only if no output waits. Pass the
-    /// number of bytes that the reader took to [`consume`](Self::consume).
+    /// Returns the oldest waiting output, up to the end of the ring. It is empty only if no output waits. Offer it to
+    /// the reader, and then tell [`consume`](Self::consume) how many bytes the reader took.
     pub fn output(&self) -> &[u8]
         ensures oldest { result.now ≡ take (length result.now) (state_of self.now).output }
         ensures bound { length result.now ≤ length (state_of self.now).output }
@@ -275,7 +275,7 @@ impl Console {
     }
 
     /// The guest's machine is reset. The port is then a new one, and the bytes that it held are lost. Input waits again
-    /// unless the guest polls. Output that waits stays.
+    /// unless the guest polls. Waiting output is kept.
     pub fn reset(&mut self) -> Work
         ensures work { result ≡ work_of Resets (state_of self.old) }
         ensures none { result.interrupts ≡ 0 }
@@ -335,8 +335,8 @@ impl Console {
     }
 
     /// Reads a console back from its saved bytes. It has the state of the saved console, so no guest can tell the two
-    /// apart. To you, [`output`](Self::output) may give another number of the oldest bytes. The port may be incoherent:
-    /// [`Uart::is_coherent`] tells.
+    /// apart. You may notice that [`output`](Self::output) returns a different number of the oldest bytes. The port may
+    /// be incoherent: [`Uart::is_coherent`] tells.
     ///
     /// If you did not restore your interrupt controller too, call [`refuse`](Self::refuse), because an earlier
     /// interrupt may be lost. In any case, make a [`turn`](Self::turn) then.

@@ -32,8 +32,8 @@ write_of offset bytes now = write offset (from_le_bytes w32 bytes) now
 abbrev pub identification_bytes : List ℕ
 identification_bytes = 0x31 ∷ 0x10 ∷ 0x04 ∷ 0x00 ∷ 0x0D ∷ 0xF0 ∷ 0x05 ∷ 0xB1 ∷ []
 
--- the register at an offset: RTCDR, RTCMR, RTCLR, RTCCR, RTCIMSC, RTCRIS, RTCMIS, RTCICR and the identification, of
--- which each byte is at four offsets
+-- the register at an offset: RTCDR, RTCMR, RTCLR, RTCCR, RTCIMSC, RTCRIS, RTCMIS, RTCICR, or a byte of the
+-- identification. Each of these bytes is at four offsets
 abbrev pub clock_register_at : (offset : ℕ) → ClockRegister
 clock_register_at offset =
     if offset == 0x000 then Dr else

@@ -95,7 +95,8 @@ is_asserted condition s =
 abbrev pub irq_level : (s : State) → Bool
 irq_level s = is_asserted Thre s || is_asserted Rda s
 
--- the trigger calls of a restore: one for each such condition, THRE first, as long as none is refused
+-- the trigger calls of a restore: one for each condition that is pending and enabled, THRE first. A refusal would end
+-- them early
 abbrev pub conditions_due : (s : State) → List Condition
 conditions_due s = pending_in_order (is_asserted Thre s) (is_asserted Rda s)
 
@@ -105,7 +106,7 @@ conditions_due s = pending_in_order (is_asserted Thre s) (is_asserted Rda s)
 abbrev pub register_count : ℕ
 register_count = 9
 
--- their bytes, in the order of a saved state
+-- the registers' bytes, in the order of a saved state
 abbrev pub register_bytes : (s : State) → List ℕ
 register_bytes s =
     s.baud_divisor_low ∷ s.baud_divisor_high ∷ s.interrupt_enable ∷ s.interrupt_identification ∷ s.line_control

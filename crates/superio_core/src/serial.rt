@@ -390,8 +390,9 @@ impl Registers {
         }
     }
 
-    /// Lowers THRE if two trigger calls were due and the trigger refused the first, since a refusal ends an IER write
-    /// before THRE is raised. Otherwise nothing changes.
+    /// Call this after a write if you want to do what vm-superio does at a refusal: `due` is how many trigger calls the
+    /// write asked for, and `asked` is what the trigger answered. If two calls were due and the first was refused, THRE
+    /// is lowered, because in vm-superio a refusal ends an IER write before THRE is raised. Otherwise nothing changes.
     pub fn cancel_thre(&mut self, due: u8, asked: Asked)
         ensures registers { self.new ≡ record self.old {
           interrupt_identification =
@@ -436,7 +437,8 @@ impl Registers {
         (count, self.rx_ready())
     }
 
-    /// Receives the first of these bytes, as many as fit. In loopback it accepts none.
+    /// Receives the first of these bytes, as many as fit, and none in loopback. Then ask for the interrupt as often as
+    /// the result says: 0 or 1 times.
     #[inline(always)]
     pub fn enqueue<F: RxFifo>(&mut self, fifo: &mut F, input: &[u8]) -> EnqueueEffects
         ensures step { IsUartEnqueue input.now result
@@ -466,7 +468,8 @@ impl Registers {
         }
     }
 
-    /// A character timeout: raises RDA if bytes are held. Returns how often to call the trigger.
+    /// A character timeout: raises RDA if bytes are held, IER enables RDA and RDA is not pending. Returns how often to
+    /// call the trigger: 0 or 1 times.
     #[must_use = "an interrupt may have to be raised"]
     #[inline(always)]
     pub fn character_timeout<F: RxFifo>(&mut self, fifo: &F) -> u8
@@ -499,7 +502,8 @@ impl Registers {
         }
     }
 
-    /// Reads a register.
+    /// Reads a register. A read of RBR takes the oldest byte out of the FIFO, and acknowledges RDA. A read of IIR
+    /// acknowledges both conditions. No other read changes anything.
     #[inline(always)]
     pub fn read<F: RxFifo>(&mut self, fifo: &mut F, register: Register) -> ReadEffects
         ensures value { result.byte
@@ -533,9 +537,9 @@ impl Registers {
         }
     }
 
-    /// Writes a register. In loopback a THR write is received. Otherwise its byte goes out, and THRE is raised even if
-    /// the byte is lost. The step assumes that the trigger takes its calls:
-    /// [`cancel_thre`](Self::cancel_thre) corrects a refusal.
+    /// Writes a register. In loopback, a byte written to THR is received. Otherwise the byte goes out, and THRE is
+    /// raised even if the byte is lost. The write assumes that the trigger takes its calls. If your trigger refuses
+    /// one, [`cancel_thre`](Self::cancel_thre) does what vm-superio does.
     #[inline(always)]
     pub fn write<F: RxFifo>(&mut self, fifo: &mut F, register: Register, value: u8) -> WriteEffects
         ensures sends { let kind = decode_write register (is_loopback self.old.modem_control) value in
@@ -588,7 +592,8 @@ impl Registers {
             && has_bits(self.interrupt_enable, condition.ier_bit())
     }
 
-    /// How often a restore calls the trigger: once for each condition that is pending and enabled, 0 to 2 times.
+    /// How often to call the trigger after a restore or a refusal: once for each condition that is pending and enabled,
+    /// 0 to 2 times.
     #[must_use = "the interrupts have to be raised"]
     pub fn interrupts_due(&self) -> u8
         ensures calls { result ≡ length (conditions_due (state_with self.now [])) }

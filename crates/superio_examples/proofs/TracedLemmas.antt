@@ -61,7 +61,7 @@ is_run start before asked hidden =
       asks = λ later earlier entry place has. absurd (false≢true (sym (idle start (entry ∷ earlier ++ before)) ∙ has));
     }
 
--- so many runs of a loop lead to a state, and any runs after them continue them
+-- `count` runs of a loop lead to a state, and any runs after them continue them
 pub record RunsSoFar (start : State) (count : ℕ) (s : State) : Type 0 where
   pub before : Trace
   pub state : s ≡ state_of_history start before

@@ -5,7 +5,7 @@ use Rattle.superio_core.specs.Serial.{State, state_of_uart}
 use Rattle.superio_core.specs.declared.serial.Uart.{Uart}
 use Rattle.superio_core.specs.Serial.RegisterMap.{is_dlab, is_loopback}
 
--- the driver has opened the port: it reaches the data register, outside loopback, and IER enables RDA alone
+-- the driver has opened the port: offset 0 is the data register, the port is not in loopback, and IER enables RDA alone
 pub record IsOpen (s : State) : Type 0 where
   pub dlab_clear : is_dlab s.line_control ≡ false
   pub outside : is_loopback s.modem_control ≡ false

@@ -31,7 +31,8 @@ abbrev pub is_other_write : (base address length : ℕ) → Bool
 is_other_write base address length = is_inside base address && not (is_write base address length)
 
 module _ {EV : Type 0} (link : Link EV RtcEvent) where
-  -- the clock's read, into bytes that were cleared, of the register around the offset: the part from the offset on
+  -- the clock reads the register around the offset. The bytes were cleared, and get the register's part from the offset
+  -- on
   pub record ReadsClock (offset now : ℕ) (bytes : List ℕ) (old new : ClockDevice EV) : Type 0 where
     pub bytes_read :
         let place = place_in offset (length bytes) in

@@ -196,7 +196,7 @@ reply_to event m = record {
   clock_line = rtc_irq_level (clock_after event m);
 }
 
--- an event, with what it answers, what it leaves to do, and what becomes of the machine
+-- what an event answers, what it leaves to do, and what becomes of the machine
 pub record Acts (event : MachineEvent) (answered : Answer) (left : Work) (old new : Machine) : Type 0 where
   pub answer : answered ≡ answer_to event old
   pub work : left ≡ work_by event old
@@ -242,8 +242,9 @@ abbrev pub accepted : (events : List MachineEvent) (replies : List MachineReply)
 accepted (event ∷ events) (reply ∷ replies) = accepted_by event reply.answer ++ accepted events replies
 accepted _ _ = []
 
--- the input that was accepted, and the bytes that the guest looped back, arrived in order, behind those that were held.
--- What left the FIFO, by reads or a reset, followed by what is held, are these bytes
+-- bytes pass through the FIFO in order. First come the bytes that were held at first, and behind them the accepted
+-- input and the bytes that the guest looped back, each of the two in order. What left the FIFO, by reads or by resets,
+-- followed by what is held, is this list
 abbrev pub InputInOrder : (events : List MachineEvent) (replies : List MachineReply) (old new : Machine) → Type 0
 InputInOrder events replies old new =
     KeepsInput (in_each left_at (calls_of events) old.console) (accepted events replies)
@@ -254,7 +255,7 @@ InputInOrder events replies old new =
 abbrev pub may_open : (call : Call) (c : ConsoleState) → Bool
 may_open call c = is_ready_write call c || lets_poll call c || (is_reset call c && c.is_polled)
 
--- no byte is accepted before such a call, if none may go in at first
+-- if no input may go in at first, no byte is accepted before such a call
 abbrev pub KeepsOut : (events : List MachineEvent) (replies : List MachineReply) (old : Machine) → Type 0
 KeepsOut events replies old =
     is_open old.console ≡ false → in_one may_open (calls_of events) old.console ≡ false → accepted events replies ≡ []
@@ -266,8 +267,8 @@ kept_at call c = if finds_no_room call c then [] else sent_at call c
 abbrev pub dropped_at : (call : Call) (c : ConsoleState) → List ℕ
 dropped_at call c = if finds_no_room call c then sent_at call c else []
 
--- what sinks took, followed by what waits, is what waited, followed by what was kept. What was dropped is counted, up
--- to 2^64 - 1
+-- what sinks took, followed by what waits, is what waited at first, followed by what was kept. The dropped bytes are
+-- counted, up to 2^64 - 1
 pub record KeepsOutput (calls : List Call) (old new : ConsoleState) : Type 0 where
   pub in_order : in_each taken_at calls old ++ new.output ≡ old.output ++ in_each kept_at calls old
   pub counted : new.dropped ≡ min (old.dropped + length (in_each dropped_at calls old)) (2 ^ 64 - 1)
@@ -275,7 +276,8 @@ pub record KeepsOutput (calls : List Call) (old new : ConsoleState) : Type 0 whe
 abbrev pub OutputInOrder : (events : List MachineEvent) (old new : Machine) → Type 0
 OutputInOrder events old new = KeepsOutput (calls_of events) old.console new.console
 
--- runs of the guest's driver: each is what an interrupt makes it do, with all other events up to the next
+-- the console's law, for runs of events: each run is any list of events that keeps the driver's rules, and begins where
+-- the run before it ends
 abbrev pub EachByteIsThrough : Type 0
 EachByteIsThrough =
     (driver : Driver) (start : State) (before : Trace) (runs : List (List MachineEvent)) (m : Machine)

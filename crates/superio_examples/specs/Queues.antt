@@ -8,7 +8,8 @@ pub record Waiting : Type 0 where
   pub capacity : ℕ
   pub dropped : ℕ
 
--- how many were dropped after a write of this many bytes: all of them, if there was no room. The count saturates
+-- how many bytes were dropped in all, after a write of `count` bytes. If there was no room, all of these are dropped.
+-- The number saturates
 abbrev pub dropped_by : (output : Waiting) (count : ℕ) → ℕ
 dropped_by output count =
     if length output.items == output.capacity then min (output.dropped + count) (2 ^ 64 - 1) else output.dropped

@@ -22,7 +22,7 @@ pub record IsAdded (op : Op) (start : State) (trace : Trace) (new : State) : Typ
   pub fitting : IsTrue (is_fitting_entry start trace entry)
   pub state : new ≡ state_of_history start (entry ∷ trace)
 
--- it does so whatever trace from a coherent start the port was at
+-- the operation does so after each trace from a coherent start that led to the port
 abbrev pub AddsEntry : (op : Op) (old new : State) → Type 0
 AddsEntry op old new = (start : State) (trace : Trace) → Coherent start → old ≡ state_of_history start trace
     → IsAdded op start trace new
@@ -34,7 +34,7 @@ pub record IsTraced (ops : List Op) (start end : State) : Type 0 where
   pub fitting : IsTrue (is_fitting start trace)
   pub state : end ≡ state_of_history start trace
 
--- a driver without bytes of its own: it counts as stopped
+-- a driver that has no bytes of its own to send, and therefore counts as stopped
 abbrev pub receiver : Driver
 receiver = record { given_at = λ trace entry. []; sends_own = λ trace entry. true; is_stopped = λ trace. true }
 

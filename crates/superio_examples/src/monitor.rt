@@ -32,11 +32,11 @@ pub enum MachineEvent {
     MemoryRead(u64),
     /// The guest writes this number, in four bytes, at this address.
     MemoryWrite(u64, u32),
-    /// A byte is typed for the guest. It is accepted if the console wants input, and answered `Full` otherwise.
+    /// A byte is typed for the guest. If the console wants input, it accepts the byte. Otherwise the answer is `Full`.
     Typed(u8),
-    /// The sink took so many bytes of the output, the oldest ones.
+    /// The sink took this many bytes of the output, the oldest ones.
     Drained(usize),
-    /// The host's time is so many seconds since 1970.
+    /// The host's time is now this many seconds after the start of 1970.
     Moment(u64),
     /// The monitor's timer goes off, or its poll returns: some milliseconds after any other event while the console
     /// wants a turn, and when the alarm is due.
@@ -87,8 +87,8 @@ impl Monitor {
     ghost use Rattle.superio_examples.specs.Monitor.{InputInOrder, KeepsOut, OutputInOrder, EachByteIsThrough, is_reset_reply, asks_reset};
     ghost use Rattle.superio_examples.specs.Monitor.{Acts, no_work, reply_to, replies_to};
 
-    /// The monitor of a new machine. If `is_polled`, its guest polls the serial port, so input goes in at once; otherwise
-    /// it waits until the guest's driver is ready.
+    /// The monitor of a new machine. If `is_polled` is true, the guest polls the serial port, so input goes in at once.
+    /// Otherwise input waits until the guest's driver is ready.
     pub fn new(is_polled: bool) -> Monitor
         ensures { machine_of result ≡ new_machine is_polled }
     {
@@ -248,8 +248,8 @@ impl Monitor {
         }
     }
 
-    /// A law: what [`superio_console::laws::each_byte_is_through`] says of a driver's runs holds for this monitor's
-    /// console.
+    /// A law: what [`superio_console::laws::each_byte_is_through`] says of runs holds for this monitor's console. Here
+    /// a run is any list of events whose calls keep the driver's rules.
     pub fn each_byte_is_through()
         ensures { EachByteIsThrough }
     {

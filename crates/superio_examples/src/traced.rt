@@ -1,6 +1,6 @@
 // SPDX-License-Identifier: Apache-2.0 OR BSD-3-Clause
-//! Loops of one's own that use laws over traces. Each call adds its entry to a trace, by `laws::calls_of_history`. The
-//! trace stands in the loop's invariant alone, and nothing is recorded when the loop runs.
+//! Loops such as you might write, whose proofs use laws over traces. Each call adds its entry to a trace, by
+//! `laws::calls_of_history`. Only the loop's invariant mentions the trace: nothing is recorded when the loop runs.
 ghost use Rattle.std.specs.Prelude.{◌≡◌, ◌++◌, ℕ, List, map, take};
 ghost use Rattle.vm_superio.specs.Claims.{Coherent, dlab_clear, held};
 ghost use Rattle.superio_laws.specs.Serial.{Trace};
@@ -74,7 +74,7 @@ fn take_one<T: Trigger, EV: SerialEvents, W: Write>(serial: &mut Serial<T, EV, W
     let _ = serial.character_timeout();
 }
 
-/// Makes so many of these runs. By `laws::guest_driver`, they read out the first of the bytes that were held, in
+/// Makes `count` of these runs. By `laws::guest_driver`, they read out the first of the bytes that were held, in
 /// order, at least one in each run.
 pub fn take_first<T: Trigger, EV: SerialEvents, W: Write>(
     serial: &mut Serial<T, EV, W>,

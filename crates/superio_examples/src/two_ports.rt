@@ -1,6 +1,6 @@
 // SPDX-License-Identifier: Apache-2.0 OR BSD-3-Clause
-//! A monitor of one's own: two serial ports without I/O, a clock and the reset command, with a loop of its own. Each
-//! claim about it has a proof of at most 20 lines, most by a law of `superio_laws`.
+//! A monitor such as you might write: two serial ports without I/O, a clock and the reset command, with a loop around
+//! them. Each claim about it has a proof of at most 20 lines, and most of these proofs use a law of `superio_laws`.
 ghost use Rattle.std.specs.Prelude.{◌≡◌, ◌≤◌, ◌+◌, ◌++◌, ℕ, [], false, if◌then◌else◌};
 ghost use Rattle.std.specs.List.{list_any};
 ghost use Rattle.superio_laws.specs.Serial.{Asked, Coherent, CoherentUart, RdaCoversHeldBytes, Write, enqueued_bytes, sends_byte, state_of_uart, step, step_calls, turned_on_count};
@@ -43,7 +43,7 @@ pub enum Event {
     ClockWrite(u16, u32),
     /// The guest writes this value to the controller at this offset.
     Command(u8, u8),
-    /// The host's time is so many seconds since 1970.
+    /// The host's time is now this many seconds after the start of 1970.
     Moment(u64),
 }
 
@@ -229,7 +229,8 @@ pub fn offer<'a>(port: &mut Uart, input: &'a [u8]) -> &'a [u8]
     &input[effects.accepted..]
 }
 
-/// A write asks for as many interrupts as conditions become pending. While RDA covers the held bytes, it goes on to.
+/// A write asks for as many interrupts as conditions become pending. If RDA covered the held bytes before the write, it
+/// covers them after it, too.
 pub fn a_write_covers_what_is_held(port: &mut Uart, offset: u8, value: u8) -> u8
     requires { RdaCoversHeldBytes (state_of_uart port.old) }
     ensures turned_on { result ≡ turned_on_count (state_of_uart port.old) (state_of_uart port.new) }

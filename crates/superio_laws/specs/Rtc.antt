@@ -190,7 +190,7 @@ SetTimeLaw = (before after : RtcState) (value now seconds : ℕ) (bytes shown : 
 
 -- ---- guest time from one moment to another
 
--- a clock goes on from its counter, if this is not negative
+-- a clock goes on from its counter, if the counter is not negative
 abbrev pub CounterLaw : Type 0
 CounterLaw = (state : RtcState) (value now : ℕ) → pos now +ℤ state.offset ≡ pos value → GoesOnFrom state value now
 
@@ -217,8 +217,8 @@ abbrev pub KeepsTimeInTraceLaw : Type 0
 KeepsTimeInTraceLaw = (state : RtcState) (trace : List Access) → list_any may_set_time trace ≡ false
     → (state_after_accesses state trace).offset ≡ state.offset
 
--- while that stays, a clock goes on as before. So guest time never goes back from one moment to a later one, while 32
--- bits hold it and the moment
+-- as long as guest time stays as far ahead of the host's, a clock goes on as before. So guest time never goes back from
+-- one moment to a later one, while 32 bits hold it and the moment
 pub record TimeGoesOn (state after : RtcState) (value now : ℕ) : Type 0 where
   pub goes_on : GoesOnFrom after value now
   pub not_back :

@@ -154,10 +154,10 @@ pub fn no_byte_waits()
     by_lemmas();
 }
 
-/// From any start, suppose that a driver takes at least one held byte at each interrupt, and ends its run with a read
-/// of IIR. Then a character timeout after the run asks for the interrupt again if bytes are held and IER enables RDA.
-/// After as many such runs as bytes are held, each with a timeout after it, all of these bytes are taken, in order,
-/// whatever arrives meanwhile.
+/// From any start, suppose that a run, which is a list of calls, ends with a read of IIR, and that at least one byte is
+/// read out in it if one is held when it begins. Then a character timeout right after the run asks for the interrupt
+/// again if bytes are held and IER enables RDA. After as many such runs as bytes are held, each with a timeout right
+/// after it, all of these bytes are read out, in order, whatever arrives meanwhile.
 #[tactic(auto, using(crate::proofs::Lemmas::Serial::Laws::InterruptDriver::interrupt_driver_laws))]
 pub fn interrupt_driver()
     ensures owed { InterruptAfterRunLaw }
@@ -165,10 +165,10 @@ pub fn interrupt_driver()
 {}
 
 /// From any start, an IER write that enables THRE, and each THR write outside loopback while IER enables THRE, raise
-/// THRE. They call the trigger once for it if it was not pending. The exception is an IER write with a refused call for
-/// RDA. RDA is then pending and enabled, and a retry calls the trigger for each condition that is pending and enabled.
-/// If a condition is pending after a read of IIR, a call for it was due since that read, and the call was made if the
-/// entry is fitting. What is said of the two writes holds for fitting entries.
+/// THRE, and call the trigger once for it if it was not pending. This holds for fitting entries, with one exception: an
+/// IER write with a refused call for RDA. RDA is then pending and enabled, and a retry calls the trigger for each
+/// condition that is pending and enabled. If a condition is pending after a read of IIR, a call for it was due since
+/// that read, and the call was made if the entry is fitting.
 pub fn transmitter_interrupt()
     ensures ier_write { IerWriteAsksLaw }
     ensures thr_write { ThrWriteAsksLaw }
@@ -177,29 +177,31 @@ pub fn transmitter_interrupt()
     ensures called { CalledSinceLaw }
 {}
 
-/// The law of the guest's driver, from any start. A run is what an interrupt makes the driver do, with all other calls
-/// up to the next run. The driver does the following:
+/// The law of the guest's driver, from any start. A run is any list of the port's calls, whoever makes them, and each
+/// run begins where the run before it ends. docs/DRIVERS.md explains how to cut a real driver's calls into runs. Each
+/// run has to keep these rules:
 ///
-/// - In each run, the driver reads IIR, and takes at least one byte if one is held when the run begins. Nobody else
-///   reads IIR.
-/// - Each run ends in one of two ways. Either the driver reads IIR at least twice, until nothing is pending, as Linux
-///   and Xen do, and nobody reads IIR or RBR after that. Or the run ends in what the driver does after its last read of
-///   IIR, as in a driver that reads IIR once.
-/// - It sends its bytes in order, by THR writes outside loopback while IER enables THRE. If a run ends in the first
-///   way, the driver has none left, or flow control stops it, at some moment between its last two reads of IIR. If a
-///   run ends in the second way, the driver sends at least one byte after its last read, unless it has none left at
-///   some moment there, or is stopped.
-/// - It gets bytes while it has none, or goes on after a stop, only at such a THR write, or at an IER write that
-///   enables THRE and has no refused call for RDA.
+/// - If a byte is held when the run begins, at least one byte is read out in the run.
+/// - The run ends in one of two ways. Either it has two or more reads of IIR, the last of them shows that nothing is
+///   pending, and nobody reads RBR after it, as with Linux and Xen. Or it ends in a pass, which is what follows its
+///   last read of IIR, as with a driver that reads IIR once.
+/// - If the run ends in the first way, the driver has no byte left, or flow control stops it, at some moment between
+///   the last two reads of IIR. If the run ends in the second way, the driver sends one of its bytes in the pass, by a
+///   THR write outside loopback while IER enables THRE. It need not send if it has no byte left, or is stopped, at some
+///   moment of the pass.
+/// - The driver becomes able to send, because it gets bytes or goes on after a stop, only at such a THR write, or at an
+///   IER write that enables THRE and has no refused call for RDA.
 ///
-/// The clause `asked_to_take` alone also needs a monitor. It makes a character timeout as the next call after each read
-/// of IIR that shows nothing pending, and one in a turn of its event loop after each run that ends in the second way.
-/// Nobody reads IIR or RBR between the latter timeout and the next run.
+/// The clause `asked_to_take` alone also asks for the monitor's part. In each run, each read of IIR that shows nothing
+/// pending is followed by a character timeout, as the next call. In each run that does not end in the first way, the
+/// monitor makes a timeout in a turn of its event loop, and nobody reads IIR or RBR after it in this run.
 ///
-/// Then the interrupt is asked for after each run if bytes are held and IER enables RDA, or if bytes are left to send
-/// and flow control does not stop the driver. Each run takes at least one more of the held bytes, in order, and each
-/// run without a stop sends at least one more. So a byte that has i bytes before it in its direction is through within
-/// i + 1 such runs, whatever arrives meanwhile, and whatever the driver is given.
+/// Then, after each run, the interrupt for RDA is asked for if bytes are held and IER enables RDA, and the interrupt
+/// for THRE if the driver has bytes left and is not stopped. The bytes that were held before the runs are read out in
+/// order, at least one in each run until none of them is left. If the driver sends its bytes in order, the bytes that
+/// it had left before the runs are sent in the same way, counting only the runs in which it is never stopped. So a byte
+/// that has i bytes before it in its direction is through within i + 1 such runs, whatever arrives meanwhile, and
+/// whatever the driver is given.
 ///
 /// If a driver ends its run with a read of IIR that shows THRE, and has bytes left, it may not be asked again. A 16550A
 /// does not ask it either.
@@ -210,11 +212,12 @@ pub fn guest_driver()
     ensures sent { SentInRunsLaw }
 {}
 
-/// The law of a handler like Linux's, from any start. It reads IIR until nothing is pending. After each read it sends,
-/// and it takes bytes until none is left or it has taken as many as a limit. It gets bytes to send, or goes on after a
-/// stop, as a driver of [`guest_driver`] does. Then its runs are runs of such a driver. When it reads that nothing is
-/// pending, it has sent all its bytes, unless it is stopped. If IER then enables RDA, it has also taken all bytes,
-/// unless its last pass came to the limit: the bytes that it left wait for the character timeout.
+/// The law of a handler like Linux's, from any start. Each of its runs ends in the first of the two ways of
+/// [`guest_driver`], and between the last two reads of IIR the handler takes bytes until none is left, or until it has
+/// taken as many as a limit allows. It becomes able to send as the driver of [`guest_driver`] does. Then its runs keep
+/// the rules there. When the handler reads that nothing is pending, it has sent all its bytes, unless it is stopped. If
+/// IER then enables RDA, it has also taken all bytes, unless it came to the limit: what it left waits for the character
+/// timeout.
 pub fn guest_handler()
     ensures run { HandlerRunLaw }
     ensures ends { HandlerEndsLaw }
@@ -268,7 +271,8 @@ pub fn polling_driver()
     ensures after_data_ready { PollsAfterDataReadyLaw }
 {}
 
-/// From any start, the bytes that the newest entries of a fitting trace record as sent are the output.
+/// From any start, the bytes that the newest entries of a fitting trace record as sent are the output: the values of
+/// the THR writes outside loopback, in order.
 #[tactic(auto, using(crate::proofs::Lemmas::Serial::Laws::Consequences::output_law))]
 pub fn output()
     ensures { OutputLaw }
@@ -333,11 +337,11 @@ pub fn set_time()
     by_lemmas();
 }
 
-/// Guest time from one moment to another, in any state. A clock whose counter is not negative goes on from it, second by
-/// second, while 32 bits hold both guest time and the moment. After a write of RTCLR it goes on from the written value,
-/// on the same condition. RTCDR shows guest time, and no access but a write of RTCLR or RTCCR changes how far it is
-/// ahead of the host's time. While that stays, a clock goes on as before, and guest time does not go back while 32 bits
-/// hold it and the moment.
+/// Guest time from one moment to another, in any state. If the counter of a clock is not negative, guest time goes on
+/// from it second by second, while 32 bits hold both guest time and the moment. After a write of RTCLR, guest time goes
+/// on from the written value, on the same condition. RTCDR shows guest time. Only a write of RTCLR or RTCCR changes how
+/// far guest time is ahead of the host's time. As long as this difference stays, guest time goes on as before, and does
+/// not go back while 32 bits hold it and the moment.
 pub fn time_goes_on()
     ensures counter { CounterLaw }
     ensures set { SetClockLaw }

@@ -58,7 +58,8 @@ clock_replies accesses [] = []
 clock_replies accesses (line ∷ lines) =
     clock_reply accesses line ∷ clock_replies (access_of_line line ∷ accesses) lines
 
--- a line of the clock. Any accesses that lead to its state give the reply, and one more leads to its new state
+-- what a line of the clock does: any accesses that lead to the old state give the reply, and with the line's own access
+-- they lead to the new state
 abbrev pub IsClockLineStep : (line : ClockCommand) (reply : List ℕ) (old new : RtcState) → Type 0
 IsClockLineStep line reply old new =
     (accesses : List Access) → old ≡ clock_after accesses
@@ -72,8 +73,8 @@ controller_syntaxes =
     ∷ (codes "kw", number w8 (λ offset. number w8 (λ value. end (controller.Write offset value))))
     ∷ []
 
--- the reply to a line. A fresh controller replaces one that was reset, and an access changes nothing else,
--- so the reply depends on no other line
+-- the reply to a line. It depends on no other line: a fresh controller replaces one that was reset, and no other access
+-- changes a controller
 abbrev pub controller_reply : (line : ControllerCommand) → List ℕ
 -- each offset reads 0
 controller_reply (controller.Read offset) = digits_reply (0 ∷ [])
@@ -145,7 +146,7 @@ IsLineStep (Clock line) reply old new =
     × (new.serial ≡ old.serial) × (new.controller ≡ old.controller)
 IsLineStep (Controller line) reply old new = (reply ≡ controller_reply line) × (new ≡ old)
 
--- ---- the replies: each device's own lines give its replies, which then come in the order of all lines
+-- ---- the replies: each device replies to its own lines, and then the replies are put into the order of all lines
 
 abbrev pub serial_lines : (commands : List Command) → List SerialCommand
 serial_lines [] = []

@@ -27,7 +27,8 @@ without_bytes s = record s {
   in_buffer = [];
 }
 
--- the events of so many reads that leave no byte: one for each read, and one before the last that no byte is left
+-- the events of `count` reads that leave no byte: one for each read and, before the last of these, one that says that
+-- no byte is left
 abbrev pub drain_events : (count : ℕ) → List Event
 drain_events zero = []
 drain_events (suc others) = repeat others (buffer_read ∷ []) ++ in_buffer_empty ∷ buffer_read ∷ []

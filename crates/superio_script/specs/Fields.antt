@@ -36,7 +36,7 @@ remaining_fields (Some rest) = fields_of rest.now
 
 -- ---- one field
 
--- so many bytes, each of two hexadecimal digits of either case
+-- `count` bytes, each written as two hexadecimal digits, in upper or lower case
 abbrev pub bytes_of : (count : ℕ) (field : List ℕ) → Option (List ℕ)
 bytes_of count field = result_ok (decode_sized field count)
 

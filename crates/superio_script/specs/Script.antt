@@ -70,8 +70,9 @@ first_bad_line_of script = first_bad_line (body_of script).first (body_of script
 
 -- ---- a run
 
--- the text of these lines was written, for some outcomes and printed bytes: what the writer held before, and what it
--- holds after. The board's output has room for 256 bytes, so the 257th is lost unless an earlier one is
+-- the text of these lines was written, for some outcomes and printed bytes. `before` is what the writer held before
+-- that, and `after` what it holds now. The board's output has room for 256 bytes, so at most 256 go out before the
+-- first loss
 pub record PrintsLines (mask : ℕ) (lines : List (List ℕ)) (before after : Option (List ℕ)) : Type 0 where
   pub outcomes : List Outcome
   pub within_room : out_before_loss outcomes ≤ output_limit
@@ -83,15 +84,16 @@ pub record PrintsLines (mask : ℕ) (lines : List (List ℕ)) (before after : Op
 abbrev pub script_limit : ℕ
 script_limit = 65536
 
--- a run read the whole script, which is within the limit, found this line to be the first bad one, and wrote the text
--- of the lines before it: what remains in the reader, and what the writer held before and holds after
+-- a run read the whole script, which is within the limit, found that `bad` is the number of the first bad line, or that
+-- there is none, and wrote the text of the lines before it. `left` is what remains in the reader, and `before` and
+-- `after` are as above
 pub record RunsUpTo (bad : Option ℕ) (script : List ℕ) (left before after : Option (List ℕ)) : Type 0 where
   pub within_limit : length script ≤ script_limit
   pub none_left : IsAtEnd left
   pub first_bad : first_bad_line_of script ≡ bad
   pub text : PrintsLines (body_of script).mask (body_of script).lines before after
 
--- so many bytes were read, and no more
+-- exactly `count` bytes were read
 abbrev pub ReadsBytes : (count : ℕ) (before after : Option (List ℕ)) → Type 0
 ReadsBytes count before after = (bytes : List ℕ) × Consumes before after bytes × (length bytes ≡ count)
 
@@ -104,6 +106,6 @@ pub record StopsWithoutMemory (mask : ℕ) (lines : List (List ℕ)) (before aft
   pub all_good : IsTrue (list_all has_syntax earlier)
   pub text : PrintsLines mask earlier before after
 
--- a run of this script ended so
+-- a run of this script ended without memory
 abbrev pub EndsWithoutMemory : (script : List ℕ) (before after : Option (List ℕ)) → Type 0
 EndsWithoutMemory script before after = StopsWithoutMemory (body_of script).mask (body_of script).lines before after

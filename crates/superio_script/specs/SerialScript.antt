@@ -1,6 +1,6 @@
 -- SPDX-License-Identifier: Apache-2.0 OR BSD-3-Clause
--- The serial port's part of a script: its lines, and the replies to them, by the history. They depend on these lines
--- alone, on the mask, and on what a script leaves open: which bytes are lost, and what `so` prints once one was.
+-- The serial port's part of a script: its lines, and the replies to them, by the history. The replies depend only on
+-- these lines, on the mask, and on what a script leaves open: which bytes are lost, and what `so` prints after a loss.
 use Rattle.std.specs.Prelude.{◌≡◌, ◌≤◌, ℕ, zero, suc, ◌+◌, ◌-◌, Bool, true, false, not, if◌then◌else◌, List, [], ◌∷◌, ◌++◌, length, drop, count_by, codes, nat_le, IsTrue}
 use Rattle.std.specs.Int.{w8}
 use Rattle.std.specs.List.{list_all}
@@ -38,7 +38,7 @@ response_reply (EnqueueOk count) = digits_reply (count ∷ [])
 response_reply TriggerRefused = with_lf (codes "trigger")
 response_reply WriterFailed = with_lf (codes "io")
 response_reply FifoFull = with_lf (codes "full")
--- no call of a line responds with these
+-- no line makes a call with these responses
 response_reply TimeoutOk = []
 response_reply OutOfMemory = []
 response_reply NoResponse = []
@@ -49,9 +49,10 @@ counts_reply counts =
     with_lf (count_digits counts.buffer_reads ++ 32 ∷ count_digits counts.out_bytes
     ++ 32 ∷ count_digits counts.tx_lost_bytes ++ 32 ∷ count_digits counts.in_buffer_empties)
 
--- ---- a board's serial port after a trace: its calls and its accepted restores, newest first, since it was fresh
+-- ---- a board's serial port after a trace, which has the calls and the accepted restores since the port was fresh,
+-- newest first
 
--- how many trigger calls an entry made: at a restore all that were due, else as many as were answered
+-- how many trigger calls an entry made: a restore makes all that are due, and another call as many as were answered
 abbrev pub calls_of_entry : (trace : Trace) (op : Op) (asked : Asked) → ℕ
 calls_of_entry trace Restore asked = length (conditions_due_after fresh_state trace)
 calls_of_entry trace op asked = answer_count asked
@@ -61,7 +62,7 @@ abbrev pub calls_made : (trace : Trace) → ℕ
 calls_made [] = 0
 calls_made (entry ∷ trace) = calls_made trace + calls_of_entry trace entry.op entry.asked
 
--- the interrupt line with this mask after so many calls
+-- the interrupt line with this mask after this many calls
 abbrev pub interrupt_line_after : (mask calls : ℕ) → Line
 interrupt_line_after mask calls = record { calls = saturated calls; mask = mask }
 
@@ -121,13 +122,14 @@ abbrev pub next_printed : (printed : List (List ℕ)) → List ℕ
 next_printed [] = []
 next_printed (bytes ∷ printed) = bytes
 
--- each has at most as many bytes as fit in the output
+-- none of these lists has more bytes than fit in the output
 abbrev pub all_short : (printed : List (List ℕ)) → Bool
 all_short printed = list_all (λ bytes. nat_le (length bytes) output_limit) printed
 
 -- ---- a call after a trace
 
--- the interrupt line's answers to so many calls, up to two; the first has this number. A refusal is the last answer
+-- the interrupt line's answers to `calls` calls, which are at most two. `number` is the number of the first call. A
+-- refusal is the last answer
 abbrev pub trigger_answers : (mask number calls : ℕ) → Asked
 trigger_answers mask number zero = Asked.Nothing
 trigger_answers mask number (suc zero) = if is_call_refused mask number then Asked.Refused else Asked.Took
@@ -145,7 +147,7 @@ sent_with false outcome = Sent.Nothing
 sent_with true Out = Sent.Out
 sent_with true Lost = Sent.Lost
 
--- the entry of a call. The interrupt line answers the calls that are due. If a byte is sent, it has this outcome
+-- the entry of a call: the interrupt line answers the calls that are due, and a byte that is sent has this outcome
 abbrev pub call_entry : (mask : ℕ) (trace : Trace) (outcome : Outcome) (op : Op) → TraceEntry
 call_entry mask trace outcome op = record {
   op = op;
@@ -162,7 +164,7 @@ entry_reply trace entry = response_reply (history_response fresh_state trace ent
 abbrev pub rbr_read_entry : TraceEntry
 rbr_read_entry = record { op = Read 0; asked = Asked.Nothing; sent = Sent.Nothing }
 
--- the trace with so many more RBR reads
+-- the trace after `count` more RBR reads
 abbrev pub after_rbr_reads : (count : ℕ) (trace : Trace) → Trace
 after_rbr_reads zero trace = trace
 after_rbr_reads (suc count) trace = after_rbr_reads count (rbr_read_entry ∷ trace)
@@ -189,8 +191,8 @@ shown serial.Calls state interrupt_line counts = with_lf (count_digits interrupt
 shown serial.Events state interrupt_line counts = counts_reply counts
 shown _ state interrupt_line counts = []
 
--- the reply to a line after a trace. If the line sends a byte, this is its outcome; if it is an `so` after a loss, it
--- prints these bytes
+-- the reply to a line after a trace. `outcome` is the outcome of the byte that the line sends, if it sends one, and
+-- `printed` is what the line prints if it is an `so` after a loss
 abbrev pub serial_reply :
     (mask : ℕ) (trace : Trace) (outcome : Outcome) (printed : List ℕ) (line : SerialCommand) → List ℕ
 serial_reply mask trace outcome printed (serial.Read offset) =
@@ -231,8 +233,8 @@ abbrev pub prints_after_loss : (trace : Trace) (line : SerialCommand) → Bool
 prints_after_loss trace serial.Output = not (none_lost trace)
 prints_after_loss trace _ = false
 
--- the replies to lines, in order. Each byte that a line sends has the next of the outcomes, and each `so` after a loss
--- prints the next of the bytes
+-- the replies to lines, in order. Each line that sends a byte takes the next of the outcomes, and each `so` after a
+-- loss takes the next list of printed bytes
 abbrev pub serial_replies :
     (mask : ℕ) (trace : Trace) (lines : List SerialCommand) (outcomes : List Outcome) (printed : List (List ℕ))
     → List (List ℕ)
@@ -246,8 +248,8 @@ serial_replies mask trace (line ∷ lines) outcomes printed =
 
 -- ---- what a contract sees of a board's serial port, and of one line on it
 
--- a board's serial port after this trace, with this mask of its interrupt line: the history gives its state and its
--- objects, the output only while no byte is lost. Before the first loss the output takes at most 256 bytes
+-- a board's serial port after this trace, with this mask of its interrupt line. The history gives its state and its
+-- objects, but it gives the output only while no byte is lost. Before the first loss the output takes at most 256 bytes
 pub record IsAfter (mask : ℕ) (trace : Trace) (port : SerialView Line Counts Output) : Type 0 where
   pub state : port.state ≡ state_of_history fresh_state trace
   pub interrupt_line : port.trigger ≡ interrupt_line_after mask (calls_made trace)
@@ -256,8 +258,8 @@ pub record IsAfter (mask : ℕ) (trace : Trace) (port : SerialView Line Counts O
   pub fitting : IsTrue (is_fitting fresh_state trace)
   pub within_room : out_before_loss (outcomes_of trace) ≤ output_limit
 
--- a line of the serial port, after a trace. For some outcome and some printed bytes the trace gives the reply, and the
--- port is then after the longer trace
+-- what a line of the serial port does after a trace: for some outcome and some printed bytes, the trace gives the
+-- reply, and the port is then one after the longer trace
 pub record SerialLineStep
     (mask : ℕ) (trace : Trace) (line : SerialCommand) (reply : List ℕ) (new : SerialView Line Counts Output) :
     Type 0 where
@@ -267,7 +269,7 @@ pub record SerialLineStep
   pub replied : reply ≡ serial_reply mask trace outcome printed line
   pub after : IsAfter mask (trace_after_line mask trace outcome line) new
 
--- this holds after every trace that leads to the port
+-- `SerialLineStep` holds after every trace that leads to the port
 abbrev pub IsSerialLineStep : (line : SerialCommand) (reply : List ℕ) (old new : SerialView Line Counts Output) → Type 0
 IsSerialLineStep line reply old new =
     (mask : ℕ) (trace : Trace) → IsAfter mask trace old → SerialLineStep mask trace line reply new

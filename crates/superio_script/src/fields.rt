@@ -151,7 +151,8 @@ impl<'a> Fields<'a> {
         Some(field)
     }
 
-    // Each of these takes the next field, if it is of its kind. After `None` the line has no known syntax.
+    // Each of these functions takes the next field, if this has the form that the function reads. If one of them
+    // returns `None`, the line has no known syntax.
 
     /// `N` bytes, of two digits each.
     fn array<const N: usize>(&mut self) -> Option<[u8; N]>

@@ -1,7 +1,7 @@
 -- SPDX-License-Identifier: Apache-2.0 OR BSD-3-Clause
--- Words for a caller's claims. A first contract needs two `ghost use` lines: one of this file, and one of the signs,
--- which come from `Rattle.std.specs.Prelude`. A type of this crate's sources is imported by its file, as `Call` by
--- `use Rattle.vm_superio.specs.declared.run.Call.{Call}`, and its variants by `.. Call.TheVariants.{Read, Write}`.
+-- Words for a caller's claims. A first contract needs two `ghost use` lines: one for this file, and one for the signs,
+-- which come from `Rattle.std.specs.Prelude`. To import a type of this crate's sources, name its file, as in
+-- `use Rattle.vm_superio.specs.declared.run.Call.{Call}`. Its variants come from `.. Call.TheVariants.{Read, Write}`.
 use Rattle.std.specs.Prelude.{◌≡◌, ℕ, Bool, true, false, List}
 pub use Rattle.superio_core.specs.declared.rtc_pl031.encoding.RtcState.{RtcState}
 pub use Rattle.superio_core.specs.Bits.{has_bits}

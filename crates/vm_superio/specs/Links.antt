@@ -5,12 +5,13 @@ pub mod Writer
 use Rattle.std.specs.Prelude.{◌≡◌, ◌⊎◌, ℕ, List, [], ◌∷◌, Option, Result, Ok, Err, option_map, option_to_list}
 use Rattle.vm_superio.specs.Serial.{Error as Failure, Trigger, Memory, Asked, Condition}
 
--- the relation that the type of a trigger, or of an events object, states: its value before some calls, what the calls
--- answered (a trigger) or reported (an events object), in order, and its value after them
+-- the relation that the type of a trigger or of an events object declares. It relates the object's value before some
+-- calls, the answers to these calls (of a trigger) or the events that they report (to an events object), in order, and
+-- the object's value after the calls
 abbrev pub Link : (Object Call : Type 0) → Type 1
 Link Object Call = Object → List Call → Object → Type 0
 
--- what the type of a writer states: the bytes that it holds, where they are known
+-- what the type of a writer declares: the bytes that a value of the type holds, or `None` if they are not known
 abbrev pub Contents : (W : Type 0) → Type 0
 Contents W = W → Option (List ℕ)
 
@@ -18,8 +19,7 @@ Contents W = W → Option (List ℕ)
 abbrev pub TriggerAnswer : (E : Type 0) → Type 0
 TriggerAnswer E = Result (Unit {0}) E
 
--- the answers of a record. If one of them is a refusal, it is the refusal in the reply, and otherwise the reply has
--- none
+-- the answers of a record, with the refusal that the reply has if one of the answers is a refusal
 abbrev pub answers_of : {E : Type 0} → (asked : Asked) (refusal : Option E) → List (TriggerAnswer E)
 answers_of Asked.Nothing refusal = []
 answers_of Asked.Took refusal = Ok tt ∷ []
@@ -33,8 +33,8 @@ module _ {E : Type 0} where
   all_ok [] = []
   all_ok (condition ∷ due) = Ok tt ∷ all_ok due
 
-  -- a restore calls the trigger once for each of the first conditions; only the last of these calls is refused, and
-  -- ends the restore
+  -- a restore calls the trigger once for each of the first conditions that are due, up to a refusal, which ends the
+  -- restore
   abbrev pub StopsAtRefusal : (due : List Condition) (refusal : E) (answers : List (TriggerAnswer E)) → Type 0
   StopsAtRefusal [] refusal answers = ⊥
   StopsAtRefusal (condition ∷ due) refusal [] = ⊥
@@ -42,9 +42,9 @@ module _ {E : Type 0} where
       ((answer ≡ Err refusal) × (answers ≡ []))
       ⊎ ((answer ≡ Ok tt) × StopsAtRefusal due refusal answers)
 
--- why a restore from a port's own state failed, and which calls the trigger had. Either it refused one of the calls
--- that are due, or memory was refused and the trigger not called. Too many bytes are never the reason, since a port
--- holds at most 64
+-- why a restore from a port's own state failed, and which calls the trigger had. Either the trigger refused one of the
+-- calls that are due, or memory was refused and the trigger was not called. Too many bytes are never the reason,
+-- because a port holds at most 64
 abbrev pub RefusesOwnState :
     {T E : Type 0} → (link : Link T (TriggerAnswer E)) (due : List Condition) (error : Failure E) (old new : T) → Type 0
 RefusesOwnState {T} {E} link due (Trigger refusal) old new =

@@ -149,7 +149,8 @@ pub record SerialView (T EV W : Type 0) : Type 0 where
   pub events : EV
   pub out : W
 
--- what a write or an enqueue returns, as a response, and the refusal in it. Neither takes memory
+-- the response for an error of a write, an enqueue or a timeout. None of them returns `Memory`, because none takes
+-- memory
 abbrev pub failure_response : {E : Type 0} → (error : Error E) → Response
 failure_response (Trigger refusal) = TriggerRefused
 failure_response (IOError fault) = WriterFailed

@@ -1,5 +1,5 @@
 -- SPDX-License-Identifier: Apache-2.0 OR BSD-3-Clause
--- The step of one access to the clock, in any state: its response and the state that it leaves. Then also when the
+-- The step of one access to the clock, in any state: its response, and the state that it leaves. After that, when the
 -- alarm is due.
 use Rattle.std.specs.Prelude.{ℕ, ◌%◌, pos, ◌+ℤ◌, ◌==◌, ◌&&◌, Bool, nat_le, false, if◌then◌else◌, List, [], ◌∷◌, Option, None, ◌≡◌, ◌+◌, ◌^◌, ◌<◌, ◌≤◌, ℤ, true, Some, bit_and}
 use Rattle.superio_core.specs.Rtc.{RtcState, Access, read, write, clock_register_at, host_time, guest_time, guest_time_in, clock_register_read, after_write}
@@ -23,14 +23,14 @@ clock_response state (read offset now) =
     clock_register_read (clock_register_at offset) (guest_time_in found (host_time now)) found
 clock_response state (write _ _ _) = None
 
--- the state that an access leaves: a read changes no register itself
+-- the state that an access leaves. A read itself changes no register but, like any access, may find the alarm reached
 abbrev pub clock_step : (state : RtcState) (access : Access) → RtcState
 clock_step state (read _ now) = after_alarm state (host_time now)
 clock_step state (write offset value now) =
     let time = host_time now in
     after_write (after_alarm state time) (clock_register_at offset) value time
 
--- the state that a trace of accesses leads to, newest first
+-- the state to which a trace of accesses leads. The trace has the newest access first
 abbrev pub state_after_accesses : (start : RtcState) (trace : List Access) → RtcState
 state_after_accesses start [] = start
 state_after_accesses start (access ∷ trace) = clock_step (state_after_accesses start trace) access
@@ -41,7 +41,7 @@ state_after_accesses start (access ∷ trace) = clock_step (state_after_accesses
 abbrev pub rtc_irq_level : (state : RtcState) → Bool
 rtc_irq_level state = bit_and state.ris state.imsc % 2 == 1
 
--- the alarm is due so many seconds after a moment: an access then finds it reached, and no access before does
+-- the alarm is due `seconds` seconds after the moment `now`: an access then finds it reached, and no earlier one does
 pub record IsDueIn (state : RtcState) (now seconds : ℕ) : Type 0 where
   pub reached : is_alarm_reached state (host_time (now + seconds)) ≡ true
   pub not_sooner : (sooner : ℕ) → sooner < seconds → is_alarm_reached state (host_time (now + sooner)) ≡ false
@@ -70,7 +70,7 @@ abbrev pub FirstAtOrAfter : (offset : ℤ) (value from : ℕ) (found : Option �
 FirstAtOrAfter offset value from (Some first) = IsFirst offset value from first
 FirstAtOrAfter offset value from None = (time : ℕ) → from ≤ time → time < 2 ^ 32 → NotReached offset value time
 
--- guest time first reaches a value so many seconds after a moment, even if the host's time has to wrap to 0 before
+-- guest time first reaches the value `seconds` seconds after the moment `now`. The host's time may wrap to 0 in between
 pub record IsComeIn (offset : ℤ) (value now seconds : ℕ) : Type 0 where
   pub come : Reached offset value (host_time (now + seconds))
   pub not_sooner : (sooner : ℕ) → sooner < seconds → NotReached offset value (host_time (now + sooner))

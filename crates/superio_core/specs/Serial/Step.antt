@@ -90,7 +90,7 @@ bytes_that_fit held bytes = take (fifo_size - length held) bytes
 abbrev pub enqueued_bytes : (s : State) (bytes : List ℕ) → List ℕ
 enqueued_bytes s bytes = if is_loopback s.modem_control then [] else bytes_that_fit s.in_buffer bytes
 
--- received bytes follow the others, data ready is set, and RDA is raised. No bytes change nothing
+-- received bytes follow those that are held, data ready is set, and RDA is raised. An empty list changes nothing
 abbrev pub receive_bytes : (bytes : List ℕ) (s : State) → State
 receive_bytes [] s = s
 receive_bytes (byte ∷ bytes) s = record s {
@@ -101,8 +101,8 @@ receive_bytes (byte ∷ bytes) s = record s {
 
 -- ---- the response
 
--- an enqueue responds 0 in loopback, whatever is passed, and for no bytes; otherwise that the FIFO is full; otherwise
--- the trigger's refusal; otherwise how many bytes it added
+-- the response to an enqueue: 0 in loopback or if no bytes are passed, else that the FIFO is full if it is, else the
+-- trigger's refusal if there is one, and else how many bytes were added
 abbrev pub enqueue_step_response : (s : State) (bytes : List ℕ) (asked : Asked) → Response
 enqueue_step_response s bytes asked =
     if is_loopback s.modem_control || (length bytes == 0) then EnqueueOk 0
@@ -141,8 +141,8 @@ read_step Data s = rbr_read s
 read_step Iir s = record s { interrupt_identification = iir_none_bit }
 read_step _ s = s
 
--- an IER write raises RDA while bytes are held, and then THRE, unless the trigger refused the first call. It clears no
--- pending condition
+-- an IER write raises RDA if bytes are held, and then THRE, unless the trigger refused the first call. A condition that
+-- was pending stays pending
 abbrev pub ier_write : (enable : ℕ) (asked : Asked) (s : State) → State
 ier_write enable asked s =
     let refused = rda_becomes_pending s.in_buffer enable s.interrupt_identification && is_refused_at_once asked in
@@ -239,7 +239,7 @@ step_calls s op = decoded_calls (decode_in s op) s
 abbrev pub sends_byte : (s : State) (op : Op) → Bool
 sends_byte s op = not_empty (sent_by (decode_in s op))
 
--- ---- which answers of the trigger and which outcome of a byte can come
+-- ---- which answers of the trigger, and which outcome of a byte, are possible
 
 -- each call is answered, and a refusal ends the operation
 abbrev pub answers_all : (calls : ℕ) (asked : Asked) → Bool

@@ -1,5 +1,6 @@
 -- SPDX-License-Identifier: Apache-2.0 OR BSD-3-Clause
--- Worked examples of words that laws only assume, or bound by, since with a wrong one they would say less.
+-- Worked examples of definitions that laws only suppose, or use as bounds. If such a definition were wrong, the laws
+-- would say less, and no proof would fail.
 pub mod GuestDriver
 use Rattle.std.proofs.Common.{◌≡◌, ℕ, ◌≤◌, true, false, List, [], ◌∷◌, ◌++◌, length, map, count_by, pos, ◌-ℤ◌, refl, arith}
 use Rattle.superio_laws.specs.Serial.{Asked, Sent, Coherent, State, fresh_state, Op, Read, Write, Enqueue, Response, ByteRead, WriteOk, EnqueueOk, Trace, TraceEntry, IerWrite, ThrWrite, is_iir_read, is_rbr_read, Rda, Thre, ReadEffects, conditions_due, has_bits, only_bits, with_bits}
@@ -28,7 +29,7 @@ five_told_with_two_reads : UartBoundLaw → (start end : State) (calls : List Ua
 five_told_with_two_reads law start end calls coherent follow one taken =
     omega (arith, law start end calls coherent follow, one, taken)
 
--- ---- what waiting bytes, drivers and the line are said of
+-- ---- what the laws of waiting bytes, of drivers and of the line are about
 
 enabling_shows_them : covers_waiting_bytes (IerWrite 0x01) [] ≡ true
 enabling_shows_them = refl
@@ -42,7 +43,7 @@ as_many_runs law start before after runs = law start (length (held_bytes start b
 sending_lowers_no_line : may_lower_line (ThrWrite 0x61) ≡ false
 sending_lowers_no_line = refl
 
--- ---- a driver that polls, and one that reads RBR without_results
+-- ---- a driver that polls, and one that reads RBR without looking at LSR
 
 -- a call that calls no trigger and sends no byte, with its response
 abbrev call : Op → Response → TraceEntry × Response
@@ -54,7 +55,7 @@ reads offset byte = call (Read offset) (ByteRead byte)
 abbrev enqueue : (bytes : List ℕ) → TraceEntry × Response
 enqueue bytes = call (Enqueue bytes) (EnqueueOk (length bytes))
 
--- after data ready it reads one byte; for the second it has not looked
+-- the first driver reads one byte after data ready. The second driver reads a second byte without looking again
 looks_before_it_reads :
     map (polls_after_data_ready fresh_state [] false) (
     (enqueue (0x61 ∷ []) ∷ reads 5 0x61 ∷ call (Write 7 0x12) WriteOk ∷ reads 0 0x61 ∷ reads 5 0x60 ∷ [])
@@ -64,7 +65,8 @@ looks_before_it_reads :
 unfolding has_bits only_bits with_bits
 looks_before_it_reads = refl
 
--- both reads were made while data ready would show, though the driver did not look; and one while it would not
+-- both reads of the first list were made while LSR would show data ready, although the driver did not look. The read of
+-- the second list was not
 reads_while_ready :
     map (polls fresh_state []) (
     (enqueue (0x61 ∷ 0x62 ∷ []) ∷ reads 0 0x61 ∷ reads 0 0x62 ∷ []) ∷ (reads 0 0x00 ∷ []) ∷ [])

@@ -80,7 +80,8 @@ match_written access = value_written 0x004 access
 abbrev pub match_value : (start : RtcState) (trace : List Access) → ℕ
 match_value start trace = unwrap_or (newest_found match_written trace) start.mr
 
--- the last match write wrote a value that guest time had still to reach; or there was none, and the start has an alarm
+-- the last match write wrote a value that guest time had not yet reached. If there was no match write, the start has an
+-- alarm
 abbrev pub is_alarm_set : (start : RtcState) (trace : List Access) → Bool
 is_alarm_set start [] = start.armed
 is_alarm_set start (access ∷ trace) =
@@ -130,7 +131,8 @@ clock_of_history start trace = record {
   armed = is_armed start trace;
 }
 
--- the number that a read shows at its moment, when it may reach an alarm itself; a write responds nothing
+-- the number that a read shows at its moment. If the read itself reaches the alarm, the number shows that already. A
+-- write responds nothing
 abbrev pub clock_history_response : (start : RtcState) (trace : List Access) (access : Access) → Option ℕ
 clock_history_response start trace (read offset now) =
     clock_register_read (clock_register_at offset) (guest_time_at start trace (read offset now))

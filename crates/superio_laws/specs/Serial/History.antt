@@ -109,8 +109,8 @@ abbrev pub guest_read : (start : State) (trace : Trace) (offset : ℕ) → ℕ
 guest_read start trace offset =
     register_read (register_at (dlab_after start trace) offset) (state_of_history start trace)
 
--- an enqueue responds 0 in loopback or for no bytes; otherwise that the FIFO is full, if 64 are held; otherwise the
--- trigger's refusal; otherwise how many bytes it accepted
+-- the response to an enqueue: 0 in loopback or if no bytes are passed, else that the FIFO is full if 64 bytes are held,
+-- else the trigger's refusal if there is one, and else how many bytes were accepted
 abbrev pub enqueue_history_response :
     (start : State) (trace : Trace) (bytes : List ℕ) (asked : Asked) → Response
 enqueue_history_response start trace bytes asked =

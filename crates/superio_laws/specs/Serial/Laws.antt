@@ -101,8 +101,8 @@ ResponseLaw = (start : State) (trace : Trace) (entry : TraceEntry) → Coherent 
 
 -- ---- one step, in the state of a history
 
--- a fitting call responds as the history says, leaves the state of the longer trace, and reports the events of its
--- point; and the writer took the byte that is sent there, if it was not lost
+-- a fitting call responds as the history says, leaves the state of the longer trace, and reports the events that the
+-- history has at this point. If it sends a byte that is not lost, the writer took this byte
 pub record StepAgrees (start : State) (trace : Trace) (entry : TraceEntry) : Type 0 where
   pub response :
       step_response (state_of_history start trace) entry.op entry.asked entry.sent
@@ -133,8 +133,8 @@ pub record CallAgrees
   pub response : reply ≡ history_response start trace entry.op entry.asked entry.sent
   pub state : new ≡ state_of_history start (entry ∷ trace)
 
--- this follows from what its contract says about the step: which answers were possible, the reply, and the state after
--- it
+-- a call agrees with the history if it does what its contract says of the step: which answers were possible, the reply,
+-- and the state after the call
 abbrev pub CallLaw : Type 0
 CallLaw = (start : State) (trace : Trace) (entry : TraceEntry) (reply : Response) (old new : State)
     → Coherent start → old ≡ state_of_history start trace

@@ -1,5 +1,6 @@
 -- SPDX-License-Identifier: Apache-2.0 OR BSD-3-Clause
--- Worked examples of words that contracts only assume, or bound by, since with a wrong one they would say less.
+-- Worked examples of definitions that contracts only suppose, or use as bounds. If such a definition were wrong, the
+-- contracts would say less, and no proof would fail.
 use Rattle.std.proofs.Common.{◌≡◌, ℕ, [], ◌∷◌, ◌++◌, replicate, refl, sym, subst, ap, ◌∙◌, arith, Ok, append-nil}
 use Rattle.std.proofs.lemmas.Bool.{false≢true}
 use Rattle.vm_superio.specs.Serial.{Asked, Sent, State, fresh_state, SerialView, Memory, Write, conditions_due, step, is_dlab, is_loopback, has_bits}

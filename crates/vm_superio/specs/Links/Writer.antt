@@ -18,8 +18,9 @@ abbrev pub serial_links :
 serial_links trigger events contents = record { trigger = trigger; events = events; contents = contents }
 
 module _ {W : Type 0} (contents : Contents W) where
-  -- a writer before and after it was sent these bytes, in order, with these outcomes: a byte that is out follows the
-  -- bytes that it holds, where these are known. Nothing is known of it after it lost one
+  -- a writer before and after it was sent these bytes, in order, with these outcomes. If the writer's contents are
+  -- known, a byte that is out comes behind the bytes that the writer held. After a lost byte, nothing is known of the
+  -- contents
   abbrev pub WriterLink : (outcomes : List Sent) (bytes : List ℕ) (old new : W) → Type 0
   WriterLink [] [] old new = old ≡ new
   WriterLink (Sent.Out ∷ outcomes) (byte ∷ bytes) old new =

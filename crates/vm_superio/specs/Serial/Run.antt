@@ -59,7 +59,7 @@ module _ {T E EV W : Type 0} where
   response_of (TimedOut answer) = timeout_response answer
   response_of _ = NoResponse
 
-  -- the refusal of an interrupt that a reply carries, of the port's own trigger
+  -- the refusal in a reply, if the port's own trigger refused an interrupt
   abbrev pub refusal_in_reply : (reply : Reply T EV W E) → Option E
   refusal_in_reply (Wrote answer) = refusal_in_result answer
   refusal_in_reply (Enqueued answer) = refusal_in_result answer
@@ -90,7 +90,7 @@ module _ {T E EV W : Type 0} where
   ReadsAre start trace (done ∷ later) =
       ReadIs start trace done.act done.reply × ReadsAre start (entry_of done ∷ trace) later
 
--- ---- how often the trigger is called, restores apart
+-- ---- how often the trigger is called, not counting restores
 
 module _ {T E EV W : Type 0} where
   -- the answers of the trigger in some records. The record of a restore has none
@@ -98,7 +98,7 @@ module _ {T E EV W : Type 0} where
   answers_in_records records = sum_by (λ (done : Done T EV W E). answer_count done.asked) records
 
 module _ {T EV W : Type 0} where
-  -- the most that a call acknowledges
+  -- how many conditions a call acknowledges at most
   abbrev pub acknowledged_by : (call : Call T EV W) → ℕ
   acknowledged_by (Call.Read offset) = acknowledged_at offset
   acknowledged_by _ = 0

@@ -47,8 +47,8 @@ use Rattle.vm_superio.specs.Serial.{
 use Rattle.vm_superio.specs.Links.{Link, TriggerAnswer, Contents, answers_of, RefusesOwnState}
 use Rattle.vm_superio.specs.Links.Writer.{SerialLinks, serial_links, WriterLink}
 
--- a call takes a port from `old` to `new` by one step, with these answers of the trigger and this outcome of a byte. A
--- refusal is the answer to the trigger's last call
+-- a call takes a port from `old` to `new` by one step. `asked` are the trigger's answers, and `sent` is the outcome of
+-- the byte that was sent. If there is a refusal, it is the answer to the trigger's last call
 pub record IsSerialStep
     {T E EV W : Type 0} (links : SerialLinks T E EV W) (op : Op) (asked : Asked) (sent : Sent) (reply : Response)
     (refusal : Option E) (old new : SerialView T EV W) : Type 0 where
@@ -82,8 +82,8 @@ pending_count s =
 
 -- ---- what a call keeps
 
--- what a write at one offset keeps of the others: received bytes and DLL are at 0, IER and DLM at 1, LCR at 3, MCR at 4
--- and SCR at 7. MSR never changes. IIR and LSR may change
+-- a write at one offset keeps what belongs to other offsets. The received bytes and DLL are at 0, IER and DLM at 1, LCR
+-- at 3, MCR at 4 and SCR at 7. MSR never changes. IIR and LSR may change
 pub record SameElsewhere (offset : ℕ) (old new : State) : Type 0 where
   pub held : OnFalse (offset == 0) (new.in_buffer ≡ old.in_buffer)
   pub divisor_low : OnFalse (offset == 0) (new.baud_divisor_low ≡ old.baud_divisor_low)
@@ -143,31 +143,31 @@ module _ {T E EV W : Type 0} (trigger : Link T (TriggerAnswer E)) (events : Link
 
 -- ---- why a restore is refused
 
--- why a restore failed, and which calls the trigger had. Either the state holds more than 64 bytes, and the trigger was
--- not called, or it holds at most 64, and the reason is one for which a port's own state is refused
+-- why a restore failed, and which calls the trigger had. If the state holds more than 64 bytes, the trigger was not
+-- called. If it holds at most 64, the reason is one for which a restore from a port's own state fails, too
 abbrev pub RefusesRestore :
     {T E : Type 0} → (link : Link T (TriggerAnswer E)) (s : State) (error : Error E) (old new : T) → Type 0
 RefusesRestore link s FullFifo old new = (fifo_size < length s.in_buffer) × (new ≡ old)
 RefusesRestore link s error old new =
     (length s.in_buffer ≤ fifo_size) × RefusesOwnState link (conditions_due s) error old new
 
--- ---- what stands after a call that failed
+-- ---- the state after a call that failed
 
 -- IIR shows a condition that it did not show before
 abbrev pub ShowsMore : (old new : State) → Type 0
 ShowsMore old new = 0 < turned_on_count old new
 
 module _ {E : Type 0} where
-  -- a write. If the trigger refused a call, IIR shows the condition nonetheless. If the output failed, the byte had to
-  -- be sent, and the registers are as after `Ok`. It fails for no other reason
+  -- a write fails for one of two reasons. If the trigger refused a call, IIR shows the condition nonetheless. If the
+  -- output failed, the write was one that sends its byte, and the registers are as after `Ok`
   abbrev pub WriteFate : (offset value : ℕ) (error : Error E) (old new : State) → Type 0
   WriteFate offset value (Trigger refusal) old new = ShowsMore old new
   WriteFate offset value (IOError fault) old new =
       IsTrue (sends_byte old (Write offset value)) × (new ≡ step old (Write offset value) Asked.Nothing)
   WriteFate offset value _ old new = ⊥
 
-  -- an enqueue. If the trigger refused a call, IIR shows RDA nonetheless, and bytes are held: the first of the input,
-  -- as many as the capacity shrank by. If the FIFO was full, it held 64 bytes. It fails for no other reason
+  -- an enqueue fails for one of two reasons. If the trigger refused a call, IIR shows RDA nonetheless, and the FIFO has
+  -- gained the first bytes of the input: as many as the capacity has shrunk by. If the FIFO was full, it held 64 bytes
   abbrev pub EnqueueFate : (input : List ℕ) (error : Error E) (old new : State) → Type 0
   EnqueueFate input (Trigger refusal) old new =
       ShowsMore old new
@@ -176,7 +176,7 @@ module _ {E : Type 0} where
   EnqueueFate input FullFifo old new = fifo_size ≤ length old.in_buffer
   EnqueueFate input _ old new = ⊥
 
-  -- a character timeout. If the trigger refused a call, IIR shows RDA nonetheless. It fails for no other reason
+  -- a character timeout fails only if the trigger refused its call. IIR shows RDA nonetheless
   abbrev pub TimeoutFate : (error : Error E) (old new : State) → Type 0
   TimeoutFate (Trigger refusal) old new = ShowsMore old new
   TimeoutFate _ old new = ⊥

@@ -72,8 +72,8 @@ pub fn clock_read_then_written(bytes: &[u8]) -> Result<[u8; SAVED_SIZE], SavedSt
     Ok(RtcState::from_bytes(bytes)?.to_bytes())
 }
 
-/// A state that is made a port and then a state again is the same state, unless memory is refused. A state with more
-/// than 64 received bytes has no port.
+/// Making a port of a state, and a state of this port, gives the first state back, unless memory is refused. A state
+/// with more than 64 received bytes has no port.
 pub fn state_to_uart_and_back(alloc: Global, state: &SerialState) -> Result<SerialState, LoadError>
     ensures back { length state.now.in_buffer.items ≤ fifo_size →
         MatchResult result (λ back. state_of back ≡ state_of state.now) (λ error. error ≡ LoadError.Memory) }
@@ -85,7 +85,7 @@ pub fn state_to_uart_and_back(alloc: Global, state: &SerialState) -> Result<Seri
     }
 }
 
-/// A port that is made a state and then a port again is the same port, unless memory is refused.
+/// Making a state of a port, and a port of this state, gives the first port back, unless memory is refused.
 pub fn uart_to_state_and_back(alloc: Global, port: &Uart) -> Result<Uart, LoadError>
     ensures { MatchResult result (λ back. state_of_uart back ≡ state_of_uart port.now)
         (λ error. error ≡ LoadError.Memory) }

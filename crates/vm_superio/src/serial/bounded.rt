@@ -1,5 +1,5 @@
 // SPDX-License-Identifier: Apache-2.0 OR BSD-3-Clause
-//! A writer that may be full, and says when it takes a byte; and the write that sends by it.
+//! A writer that may be full and says when it takes a byte, and the write that sends to such a writer.
 ghost use Rattle.std.specs.Prelude.{◌≡◌, ◌&&◌, ℕ, Bool, false, not, [], ◌∷◌, is_ok, IsErr, IsTrue, IfErr, OnOk};
 ghost use Rattle.std.specs.Io.KnownBytes.{Appends};
 ghost use Rattle.vm_superio.specs.Serial.{Coherent, Write, decode_in, failure_response, is_lost, refusal_in_result, sends_byte, sent_by, TriggerRefused, write_response};
@@ -16,8 +16,8 @@ use std::io::Write;
 
 /// A writer that says in its contract when it takes a byte, such as a queue of limited length.
 ///
-/// [`Serial::write_bounded`](super::Serial::write_bounded) sends by it. Its contract then says of each byte whether
-/// the writer took it.
+/// Send to it by [`Serial::write_bounded`](super::Serial::write_bounded): the contract of that call says of each byte
+/// whether the writer took it.
 pub trait BoundedWriter: Write {
     /// There is room for a byte.
     ghost takes: { Self → Bool };

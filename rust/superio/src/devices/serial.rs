@@ -303,8 +303,9 @@ impl Registers {
         }
     }
 
-    /// Lowers THRE if two trigger calls were due and the trigger refused the first, since a refusal ends an IER write
-    /// before THRE is raised. Otherwise nothing changes.
+    /// Call this after a write if you want to do what vm-superio does at a refusal: `due` is how many trigger calls the
+    /// write asked for, and `asked` is what the trigger answered. If two calls were due and the first was refused, THRE
+    /// is lowered, because in vm-superio a refusal ends an IER write before THRE is raised. Otherwise nothing changes.
     // Clauses in crates/superio_core/src/serial.rt: registers.
     pub fn cancel_thre(&mut self, due: u8, asked: Asked) {
         if due == 2 && matches!(asked, Asked::Refused) {
@@ -331,7 +332,8 @@ impl Registers {
         (count, self.rx_ready())
     }
 
-    /// Receives the first of these bytes, as many as fit. In loopback it accepts none.
+    /// Receives the first of these bytes, as many as fit, and none in loopback. Then ask for the interrupt as often as
+    /// the result says: 0 or 1 times.
     #[inline(always)]
     // Clauses in crates/superio_core/src/serial.rt: step, at_most_1, len_in_range.
     pub fn enqueue<F: RxFifo>(&mut self, fifo: &mut F, input: &[u8]) -> EnqueueEffects {
@@ -357,7 +359,8 @@ impl Registers {
         }
     }
 
-    /// A character timeout: raises RDA if bytes are held. Returns how often to call the trigger.
+    /// A character timeout: raises RDA if bytes are held, IER enables RDA and RDA is not pending. Returns how often to
+    /// call the trigger: 0 or 1 times.
     #[must_use = "an interrupt may have to be raised"]
     #[inline(always)]
     // Clauses in crates/superio_core/src/serial.rt: due, at_most_1, state.
@@ -381,7 +384,8 @@ impl Registers {
         }
     }
 
-    /// Reads a register.
+    /// Reads a register. A read of RBR takes the oldest byte out of the FIFO, and acknowledges RDA. A read of IIR
+    /// acknowledges both conditions. No other read changes anything.
     #[inline(always)]
     // Clauses in crates/superio_core/src/serial.rt: value, state, events, len_in_range.
     pub fn read<F: RxFifo>(&mut self, fifo: &mut F, register: Register) -> ReadEffects {
@@ -409,9 +413,9 @@ impl Registers {
         }
     }
 
-    /// Writes a register. In loopback a THR write is received. Otherwise its byte goes out, and THRE is raised even if
-    /// the byte is lost. The step assumes that the trigger takes its calls:
-    /// [`cancel_thre`](Self::cancel_thre) corrects a refusal.
+    /// Writes a register. In loopback, a byte written to THR is received. Otherwise the byte goes out, and THRE is
+    /// raised even if the byte is lost. The write assumes that the trigger takes its calls. If your trigger refuses
+    /// one, [`cancel_thre`](Self::cancel_thre) does what vm-superio does.
     #[inline(always)]
     // Clauses in crates/superio_core/src/serial.rt: sends, interrupts, at_most_2, state, len_in_range.
     pub fn write<F: RxFifo>(&mut self, fifo: &mut F, register: Register, value: u8) -> WriteEffects {
@@ -452,7 +456,8 @@ impl Registers {
             && has_bits(self.interrupt_enable, condition.ier_bit())
     }
 
-    /// How often a restore calls the trigger: once for each condition that is pending and enabled, 0 to 2 times.
+    /// How often to call the trigger after a restore or a refusal: once for each condition that is pending and enabled,
+    /// 0 to 2 times.
     #[must_use = "the interrupts have to be raised"]
     // Clauses in crates/superio_core/src/serial.rt: calls, at_most_2.
     pub fn interrupts_due(&self) -> u8 {

@@ -1,6 +1,6 @@
 -- SPDX-License-Identifier: Apache-2.0 OR BSD-3-Clause
--- Two runs of a driver that reads IIR once, around a console: what the law that each byte is through assumes, and what
--- it says of them.
+-- Two runs of a driver that reads IIR once, on a console. They keep the rules that the law `EachByteIsThroughLaw`
+-- supposes, so the law says that their bytes get through.
 use Rattle.std.proofs.Common.{◌≡◌, ◌==◌, ℕ, true, false, if◌then◌else◌, inl, inr, List, [], ◌∷◌, ◌++◌, length, refl, arith}
 use Rattle.superio_laws.specs.Serial.{fresh_state, Read, Write, CharacterTimeout, Trace, TraceEntry, is_iir_read, has_bits, with_bits, only_bits}
 use Rattle.superio_laws.specs.Serial.Laws.UartRun.{without_results}

@@ -1,5 +1,5 @@
 -- SPDX-License-Identifier: Apache-2.0 OR BSD-3-Clause
--- Worked examples of the guest's driver: runs as its laws assume them, a driver that stalls, and a trigger that refuses.
+-- Worked examples of the guest's driver: runs that keep its rules, a driver that stalls, and a trigger that refuses.
 use Rattle.std.proofs.Common.{◌≡◌, ℕ, Bool, true, false, not, ◌==◌, ◌&&◌, ◌||◌, if◌then◌else◌, nat_le, inl, inr, [], ◌∷◌, ◌++◌, length, refl, sym, subst, arith, IsTrue, ◌⊎◌}
 use Rattle.std.proofs.lemmas.Bool.{and_parts, false≢true}
 use Rattle.superio_laws.specs.Serial.{Asked, is_refused_at_once, Sent, State, fresh_state, Op, Read, Write, Enqueue, Trace, TraceEntry, DecodedOp, IirRead, is_iir_read, is_rbr_read, Rda, Thre, has_bits, only_bits, with_bits}
@@ -265,8 +265,9 @@ is_asked_for_both takes sends = (
 
 -- ---- a driver that stalls
 
--- it ends its run with a read of IIR that shows THRE, and so acknowledges what would call it again. It has a byte
--- left, nothing is pending, and neither a character timeout nor a retry asks for it. It stalls on a 16550A alike
+-- the driver ends its run with a read of IIR that shows THRE, and so acknowledges the condition that would call it
+-- again. It has a byte left, nothing is pending, and neither a character timeout nor a retry asks for it. On a 16550A
+-- it would stall, too
 abbrev stalled : Trace
 stalled = iir ∷ thr 0x41 Asked.Took ∷ iir ∷ ier 0x03 Asked.Took ∷ []
 

@@ -43,8 +43,8 @@ rda_raised start trace entry =
 abbrev pub rda_pending : (start : State) (trace : Trace) → Bool
 rda_pending start trace = pending_since Rda start (rda_raised start) trace
 
--- whether either condition is raised and is pending: `is_raised Rda` is `rda_raised`, and `is_pending Rda` is
--- `rda_pending`
+-- whether a condition is raised or pending, with the condition as a parameter: `is_raised Rda` is `rda_raised`, and
+-- `is_pending Rda` is `rda_pending`
 abbrev pub is_raised : (condition : Condition) (start : State) (trace : Trace) (entry : TraceEntry) → Bool
 is_raised Rda start trace entry = rda_raised start trace entry
 is_raised Thre start trace entry =
@@ -108,7 +108,8 @@ covers_waiting_bytes (IerWrite value) held = true
 covers_waiting_bytes Timeout held = true
 covers_waiting_bytes kind held = not_empty (accepted_by kind held)
 
--- after such an operation, with no IIR and no RBR read since, RDA is pending if bytes are held and IER enables it
+-- if an operation of these kinds was made, and neither IIR nor RBR was read since, RDA is pending if bytes are held and
+-- IER enables it
 abbrev pub RdaCoversWaitingBytes : (start : State) (trace : Trace) → Type 0
 RdaCoversWaitingBytes start trace =
     (after before : Trace) (entry : TraceEntry) → trace ≡ after ++ entry ∷ before

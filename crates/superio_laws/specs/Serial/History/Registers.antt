@@ -78,7 +78,7 @@ decode_at start trace op = decode (dlab_after start trace) (loopback_after start
 
 -- ---- received bytes
 
--- of the bytes that come in, the first are accepted, as many as fit beside the held ones in a FIFO of 64
+-- the accepted bytes are the first of the bytes that come in, as many as fit beside the held ones in a FIFO of 64
 abbrev pub accepted_by : (kind : DecodedOp) (held : List ℕ) → List ℕ
 accepted_by (RxInput bytes) held = take (fifo_size - length held) bytes
 accepted_by _ held = []
@@ -88,8 +88,8 @@ abbrev pub read_out_by : (kind : DecodedOp) (held : List ℕ) → List ℕ
 read_out_by RbrRead held = take 1 held
 read_out_by _ held = []
 
--- the bytes that remain: the bytes at the start, followed by those accepted, without as many of the first ones as were
--- taken
+-- the bytes that remain: if k bytes were taken, these are the bytes at the start, followed by the accepted bytes,
+-- without the first k
 abbrev pub remaining_bytes : (first accepted taken : List ℕ) → List ℕ
 remaining_bytes first accepted taken = drop (length taken) (first ++ accepted)
 

@@ -55,7 +55,7 @@ abbrev pub ReadOutThenHeldLaw : Type 0
 ReadOutThenHeldLaw = (start : State) (trace : Trace)
     → read_out_bytes start trace ++ held_bytes start trace ≡ start.in_buffer ++ accepted_bytes start trace
 
--- the bytes that calls give a guest from the FIFO are those that they take
+-- the bytes that calls give a guest from the FIFO are the bytes that these calls take from it
 abbrev pub RepliesAreReadOutLaw : Type 0
 RepliesAreReadOutLaw = (start : State) (trace : Trace) (calls : List (TraceEntry × Response))
     → ResponsesAre start trace calls
@@ -98,8 +98,8 @@ polls start trace (call ∷ later) =
     (not (is_rbr_read (decode_at start trace call.0.op)) || has_bits (guest_read start trace 5) lsr_dr_bit)
     && polls start (call.0 ∷ trace) later
 
--- what the driver has got, followed by what is held, is what was held at the start, followed by what was accepted: it
--- loses no byte, and gets no other
+-- what the driver has got, followed by what is held, is what was held at the start, followed by what was accepted. So
+-- the driver loses no byte, and gets none that was not there
 abbrev pub PollingDriverLaw : Type 0
 PollingDriverLaw = (start : State) (calls : List (TraceEntry × Response)) → ResponsesAre start [] calls
     → IsTrue (polls start [] calls)

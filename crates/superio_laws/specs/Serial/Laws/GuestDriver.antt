@@ -1,7 +1,7 @@
 -- SPDX-License-Identifier: Apache-2.0 OR BSD-3-Clause
--- The laws of a driver that takes received bytes and sends its own when an interrupt runs it, over a port whose monitor
--- makes character timeouts. After each run an interrupt has been asked for, for what is held and for what is left to
--- send, and each run moves the first bytes first.
+-- The laws of a driver that takes received bytes and sends its own, over a port whose monitor makes character timeouts.
+-- They are about runs, which are lists of the port's calls that keep the driver's rules. After each run, an interrupt
+-- has been asked for if bytes are held or left to send, and the bytes that were there first have been moved first.
 use Rattle.std.specs.Prelude.{
   ◌≡◌,
   ⊤,
@@ -61,38 +61,40 @@ use Rattle.superio_laws.specs.Serial.Laws.Transmit.{IsRetried, CallsFor}
 
 -- what a trace does not show of a driver
 pub record Driver : Type 0 where
-  -- the bytes that it is given to send, with a call at this point
+  -- the bytes that the driver is given to send, together with a call at this point
   pub given_at : Trace → TraceEntry → List ℕ
-  -- a THR write at this point sends one of them, and not a byte of another, such as a message printed by polling
+  -- a THR write at this point sends a byte of the driver's own, and not somebody else's, such as a message that the
+  -- kernel prints by polling
   pub sends_own : Trace → TraceEntry → Bool
-  -- flow control has stopped it at this point
+  -- flow control has stopped the driver at this point
   pub is_stopped : Trace → Bool
 
--- all bytes that it has been given so far, in order
+-- all bytes that the driver has been given so far, in order
 abbrev pub given : (driver : Driver) (trace : Trace) → List ℕ
 given driver [] = []
 given driver (entry ∷ trace) = given driver trace ++ driver.given_at trace entry
 
--- those bytes that it has sent
+-- the bytes that the driver has sent as its own so far, in order
 abbrev pub sent : (driver : Driver) (start : State) (trace : Trace) → List ℕ
 sent driver start [] = []
 sent driver start (entry ∷ trace) =
     sent driver start trace
     ++ (if driver.sends_own trace entry then sent_by (decode_at start trace entry.op) else [])
 
--- the bytes left to send: the bytes given, without as many of the first ones as were sent
+-- the bytes left to send: if the driver has sent k bytes, these are the bytes given without the first k
 abbrev pub left : (driver : Driver) (start : State) (trace : Trace) → List ℕ
 left driver start trace = drop (length (sent driver start trace)) (given driver trace)
 
--- it has sent the first of the bytes that it was given, in order
+-- the driver has sent in order: if it has sent k bytes, these are the first k of the bytes that it was given
 abbrev pub SentInOrder : (driver : Driver) (start : State) (trace : Trace) → Type 0
 SentInOrder driver start trace = given driver trace ≡ sent driver start trace ++ left driver start trace
 
--- it has bytes left, and is not stopped
+-- the driver can send: it has bytes left, and flow control does not stop it
 abbrev pub has_to_send : (driver : Driver) (start : State) (trace : Trace) → Bool
 has_to_send driver start trace = not_empty (left driver start trace) && not (driver.is_stopped trace)
 
--- an IER write that enables THRE and has no refused call for RDA. After a refusal a retry asks (`RefusedWriteLaw`)
+-- an IER write that enables THRE and has no refused call for RDA. If that call is refused, the write does not raise
+-- THRE, and a retry asks the driver instead (`RefusedWriteLaw`)
 abbrev pub EnablesThre : (start : State) (before : Trace) (entry : TraceEntry) → Type 0
 EnablesThre start before entry =
     (value : ℕ) × (decode_at start before entry.op ≡ IerWrite value) × IsTrue (has_bits value (ier_bit Thre))
@@ -104,8 +106,9 @@ SendsEnabled start before entry =
     (value : ℕ) × (decode_at start before entry.op ≡ ThrWrite value)
     × IsTrue (has_bits (ier_after start before) (ier_bit Thre))
 
--- in these entries after `before`, newest first, whoever gives the driver bytes while it has none, or lets it go on
--- after a stop, enables THRE or sends a byte. The driver comes to have bytes to send only at such an entry
+-- the driver becomes able to send, because it is given bytes or goes on after a stop, only at an entry that enables
+-- THRE (`EnablesThre`), or that sends a byte while IER enables THRE (`SendsEnabled`). `newest` are the entries after
+-- `before`, newest first
 abbrev pub AsksWhenGiven : (driver : Driver) (start : State) (before newest : Trace) → Type 0
 AsksWhenGiven driver start before newest =
     (later earlier : Trace) (entry : TraceEntry) → newest ≡ later ++ entry ∷ earlier
@@ -123,7 +126,7 @@ NoIirRead start newest trace = NoneAcknowledges start is_iir_read newest trace
 abbrev pub NoIirOrRbrRead : (start : State) (newest trace : Trace) → Type 0
 NoIirOrRbrRead start newest trace = NoneAcknowledges start (λ kind. is_iir_read kind || is_rbr_read kind) newest trace
 
--- in these entries the driver sends one of its bytes by a THR write outside loopback, while IER enables THRE
+-- in these entries the driver sends one of its own bytes, by a THR write outside loopback while IER enables THRE
 pub record SendsOne (driver : Driver) (start : State) (before newest : Trace) : Type 0 where
   pub later : Trace
   pub entry : TraceEntry
@@ -134,13 +137,13 @@ pub record SendsOne (driver : Driver) (start : State) (before newest : Trace) : 
   pub own : IsTrue (driver.sends_own (earlier ++ before) entry)
   pub enabled : IsTrue (has_bits (ier_after start (earlier ++ before)) (ier_bit Thre))
 
--- at some point of these entries it has no bytes left, or is stopped
+-- at some point of these entries the driver has no bytes left, or is stopped
 abbrev pub Rests : (driver : Driver) (start : State) (before newest : Trace) → Type 0
 Rests driver start before newest =
     (later earlier : Trace) × (newest ≡ later ++ earlier) × (has_to_send driver start (earlier ++ before) ≡ false)
 
--- a pass, after its read of IIR, which is the newest entry of `before`: in these entries IIR is not read again. The
--- driver sends at least one byte while it has bytes left and is not stopped
+-- a pass begins with a read of IIR, which is the newest entry of `before`. These entries follow it, and do not read IIR
+-- again. The driver sends one of its bytes in them, or has none left or is stopped at some point
 pub record IsPass (driver : Driver) (start : State) (before pass : Trace) : Type 0 where
   pub unread : NoIirRead start pass before
   pub sends : SendsOne driver start before pass ⊎ Rests driver start before pass
@@ -149,8 +152,8 @@ pub record IsPass (driver : Driver) (start : State) (before pass : Trace) : Type
 abbrev pub ShowsNone : (start : State) (trace : Trace) → Type 0
 ShowsNone start trace = (is_pending Thre start trace ≡ false) × (is_pending Rda start trace ≡ false)
 
--- a run that reads IIR until it shows nothing pending, as in Linux and Xen: this read ends its last pass, and neither
--- IIR nor RBR is read later
+-- a run that ends at none, as with Linux and Xen: it has two or more reads of IIR, the last one shows nothing pending,
+-- and nobody reads RBR after that. The last read ends the closing pass
 pub record EndsAtNone (driver : Driver) (start : State) (before run : Trace) : Type 0 where
   pub tail : Trace
   pub none : TraceEntry
@@ -164,7 +167,7 @@ pub record EndsAtNone (driver : Driver) (start : State) (before run : Trace) : T
   pub shows_none : ShowsNone start (pass ++ (iir ∷ earlier ++ before))
   pub untouched : NoIirOrRbrRead start tail (none ∷ (pass ++ (iir ∷ earlier ++ before)))
 
--- a run that ends in a pass, as in a driver that reads IIR once
+-- a run that ends in a pass, as with a driver that reads IIR once
 pub record EndsInPass (driver : Driver) (start : State) (before run : Trace) : Type 0 where
   pub pass : Trace
   pub iir : TraceEntry
@@ -173,8 +176,8 @@ pub record EndsInPass (driver : Driver) (start : State) (before run : Trace) : T
   pub reads : decode_at start (earlier ++ before) iir.op ≡ IirRead
   pub is_pass : IsPass driver start (iir ∷ earlier ++ before) pass
 
--- entries after `before`, newest first, of a driver's run, and of others meanwhile, such as the host. The driver takes
--- a byte if one is held at first, and ends in one of the two ways
+-- a run that keeps the driver's rules. It is any list of entries after `before`, newest first, whoever made their
+-- calls. A byte is read out in the run if one is held when it begins, and the run ends in one of the two ways
 pub record IsDriverRun (driver : Driver) (start : State) (before run : Trace) : Type 0 where
   pub takes :
       IsTrue (not_empty (held_bytes start before))
@@ -199,16 +202,16 @@ pub record EndsInTimeout (start : State) (before newest : Trace) : Type 0 where
   pub place : newest ≡ later ++ timeout_entry asked ∷ earlier
   pub unread : NoIirOrRbrRead start later (timeout_entry asked ∷ earlier ++ before)
 
--- the monitor makes both kinds of timeout. It makes the second in a turn of its event loop, after a run that does not
--- end where IIR shows nothing pending
+-- the monitor makes both kinds of timeout. It makes the second kind in a turn of its event loop, and only a run that
+-- does not end at none needs it
 pub record IsMonitored (driver : Driver) (start : State) (before run : Trace) : Type 0 where
   pub after_none : TimeoutAfterNone start before run
   pub in_loop : EndsAtNone driver start before run ⊎ EndsInTimeout start before run
 
 -- ---- the driver is asked again
 
--- the interrupt is asked for: the condition is pending, and after each read of IIR in the run the trigger was
--- called for it. If the trigger refused, a retry calls it again
+-- the interrupt is asked for: the condition is pending, and after each read of IIR in the run a trigger call for it was
+-- due. While IER enables the condition, a retry calls the trigger for it, too
 pub record IsAskedFor (condition : Condition) (start : State) (before run : Trace) : Type 0 where
   pub pending : IsTrue (is_pending condition start (run ++ before))
   pub called :
@@ -218,7 +221,7 @@ pub record IsAskedFor (condition : Condition) (start : State) (before run : Trac
       IsTrue (has_bits (ier_after start (run ++ before)) (ier_bit condition))
       → IsRetried condition start (run ++ before)
 
--- the interrupt is asked for after each run for RDA, if bytes are held and IER enables RDA, and the monitor makes its
+-- after each run, the interrupt for RDA is asked for if bytes are held, IER enables RDA, and the monitor makes its
 -- timeouts. No other of these laws needs the timeouts
 abbrev pub InterruptToReadLaw : Type 0
 InterruptToReadLaw = (driver : Driver) (start : State) (before run : Trace) → IsDriverRun driver start before run
@@ -227,14 +230,14 @@ InterruptToReadLaw = (driver : Driver) (start : State) (before run : Trace) → 
     → IsTrue (has_bits (ier_after start (run ++ before)) (ier_bit Rda))
     → IsAskedFor Rda start before run
 
--- the interrupt is asked for after each run for THRE, if the driver has bytes left and is not stopped
+-- after each run, the interrupt for THRE is asked for if the driver has bytes left and is not stopped
 abbrev pub InterruptToSendLaw : Type 0
 InterruptToSendLaw = (driver : Driver) (start : State) (before run : Trace) → IsDriverRun driver start before run
     → IsTrue (has_to_send driver start (run ++ before)) → IsAskedFor Thre start before run
 
 -- ---- every byte is through
 
--- the driver's runs follow each other
+-- each of these runs keeps the driver's rules, and begins where the run before it ends
 abbrev pub AreDriverRuns : (driver : Driver) (start : State) (before : Trace) (runs : List Trace) → Type 0
 AreDriverRuns driver start before [] = ⊤
 AreDriverRuns driver start before (run ∷ later) =
@@ -256,15 +259,15 @@ abbrev pub free_runs : (driver : Driver) (before : Trace) (runs : List Trace) �
 free_runs driver before [] = 0
 free_runs driver before (run ∷ later) = count_if (is_free driver before run) + free_runs driver (run ++ before) later
 
--- of the bytes held before the runs, the first are taken, in order, as many as there were runs
+-- n runs read out at least the first n of the bytes held before them, in order, or all if there are fewer
 abbrev pub ReadOutInRunsLaw : Type 0
 ReadOutInRunsLaw = (driver : Driver) (start : State) (before : Trace) (runs : List Trace)
     → AreDriverRuns driver start before runs
     → (more : List ℕ) × (read_out_bytes start (after_runs before runs)
     ≡ read_out_bytes start before ++ take (length runs) (held_bytes start before) ++ more)
 
--- of the bytes left to send before the runs, the first are sent, in order, as many as there were runs without a
--- stop
+-- if the driver sends in order, and is never stopped in n of the runs, they send at least the first n of the bytes left
+-- before them, in order, or all if there are fewer
 abbrev pub SentInRunsLaw : Type 0
 SentInRunsLaw = (driver : Driver) (start : State) (before : Trace) (runs : List Trace)
     → AreDriverRuns driver start before runs
@@ -274,8 +277,8 @@ SentInRunsLaw = (driver : Driver) (start : State) (before : Trace) (runs : List 
 
 -- ---- a handler of Linux's shape
 
--- in these entries no byte is held at some point, and neither RBR nor IIR is read later: LSR showed that none is
--- left
+-- at some point of these entries no byte is held, and neither RBR nor IIR is read after that, because the driver reads
+-- bytes only until LSR shows that none is left
 pub record TakesUntilNone (start : State) (before newest : Trace) : Type 0 where
   pub later : Trace
   pub earlier : Trace
@@ -283,13 +286,13 @@ pub record TakesUntilNone (start : State) (before newest : Trace) : Type 0 where
   pub none : held_bytes start (earlier ++ before) ≡ []
   pub unread : NoIirOrRbrRead start later (earlier ++ before)
 
--- in these entries as many bytes as `most` are taken
+-- at least `most` bytes are read out in these entries
 abbrev pub TakesMost : (start : State) (most : ℕ) (before newest : Trace) → Type 0
 TakesMost start most before newest =
     length (read_out_bytes start before) + most ≤ length (read_out_bytes start (newest ++ before))
 
--- a run that reads IIR until it shows nothing pending, and in its last pass takes bytes until LSR shows none, or as
--- many as `most`; Linux takes at most 256
+-- a run of a handler like Linux's. It ends at none, and in its closing pass bytes are taken until none is held, or
+-- until `most` are taken. Linux takes at most 256
 pub record IsHandlerRun (most : ℕ) (driver : Driver) (start : State) (before run : Trace) : Type 0 where
   pub ends : EndsAtNone driver start before run
   pub asks : AsksWhenGiven driver start before run
@@ -298,14 +301,14 @@ pub record IsHandlerRun (most : ℕ) (driver : Driver) (start : State) (before r
       TakesUntilNone start (ends.iir ∷ ends.earlier ++ before) ends.pass
       ⊎ TakesMost start most (ends.iir ∷ ends.earlier ++ before) ends.pass
 
--- it is a run of the guest's driver: it takes a byte if one is held at first
+-- such a run keeps the driver's rules
 abbrev pub HandlerRunLaw : Type 0
 HandlerRunLaw = (most : ℕ) (driver : Driver) (start : State) (before run : Trace)
     → IsHandlerRun most driver start before run → IsDriverRun driver start before run
 
--- where it reads that nothing is pending, it has sent all its bytes, unless it is stopped. It has also taken all
--- bytes if IER enables RDA, unless the last pass took as many as `most`: what that pass left waits for the
--- character timeout
+-- when the handler reads that nothing is pending, it has sent all its bytes, unless it is stopped. If IER then enables
+-- RDA, it has also taken all bytes, unless the closing pass took `most`: what that pass left waits for the character
+-- timeout
 abbrev pub HandlerEndsLaw : Type 0
 HandlerEndsLaw = (most : ℕ) (driver : Driver) (start : State) (before run : Trace)
     → (is : IsHandlerRun most driver start before run)

@@ -86,10 +86,10 @@ abbrev pub RdaFollowsTimeoutsLaw : Type 0
 RdaFollowsTimeoutsLaw =
     (start : State) (trace : Trace) → IsTrue (is_fitting start trace) → RdaFollowsTimeouts start trace
 
--- ---- a driver that is run by interrupts, whatever else it does: its runs take all that is held
+-- ---- a driver that ends each run with a read of IIR, whatever else it does: its runs take all that is held
 
--- entries after `before`, newest first, of a driver's run, and of others meanwhile, such as the host. They take a byte
--- if one is held at first, and the last reads IIR
+-- a run of such a driver. It is any list of entries after `before`, newest first, whoever made their calls. A byte is
+-- read out in the run if one is held when it begins, and the run's last call reads IIR
 pub record IsSimpleRun (start : State) (before run : Trace) : Type 0 where
   pub earlier : Trace
   pub last : TraceEntry
@@ -99,21 +99,21 @@ pub record IsSimpleRun (start : State) (before run : Trace) : Type 0 where
       IsTrue (not_empty (held_bytes start before))
       → length (read_out_bytes start before) < length (read_out_bytes start (run ++ before))
 
--- a character timeout after such a run asks for the interrupt again if bytes are held and IER enables RDA
+-- a character timeout right after such a run asks for the interrupt again if bytes are held and IER enables RDA
 abbrev pub InterruptAfterRunLaw : Type 0
 InterruptAfterRunLaw = (start : State) (before run : Trace) (asked : Asked) → IsSimpleRun start before run
     → IsTrue (not_empty (held_bytes start (run ++ before)))
     → IsTrue (has_bits (ier_after start (run ++ before)) (ier_bit Rda))
     → IsTrue (is_call_due Rda start (run ++ before) (timeout_entry asked))
 
--- so many such runs, each with a timeout after it, take a trace to another
+-- `runs` such runs, each with a timeout right after it, lead from the trace `before` to the trace `after`
 abbrev pub AreSimpleRuns : (start : State) (runs : ℕ) (before after : Trace) → Type 0
 AreSimpleRuns start zero before after = after ≡ before
 AreSimpleRuns start (suc others) before after =
     (run : Trace) × (asked : Asked) × IsSimpleRun start before run
     × AreSimpleRuns start others (timeout_entry asked ∷ run ++ before) after
 
--- after as many runs as bytes are held, all of these are taken, in order
+-- after as many runs as bytes were held at first, all of these bytes are read out, in order
 abbrev pub ReadOutAfterRunsLaw : Type 0
 ReadOutAfterRunsLaw = (start : State) (runs : ℕ) (before after : Trace) → AreSimpleRuns start runs before after
     → length (held_bytes start before) ≤ runs
@@ -131,9 +131,9 @@ is_called asked = not (answer_count asked == 0)
 abbrev pub is_line_up_under : (value : ℕ) (s : State) → Bool
 is_line_up_under value s = irq_level (record s { interrupt_enable = only_bits value ier_bits })
 
--- the level after a call, by what the call means and whether it called the trigger: an IIR read leaves the line down;
--- an RBR read leaves it up for THRE alone; after an IER write it is up by the new value, or if the trigger was called;
--- every other call leaves it up if it was up, or if the trigger was called
+-- the level after a call, by what the call means and whether it called the trigger. An IIR read leaves the line down.
+-- An RBR read leaves it up only for THRE. After an IER write the line is up if the new value enables a condition that
+-- was pending, or if the trigger was called. After every other call it is up if it was up, or if the trigger was called
 abbrev pub line_after : (kind : DecodedOp) (called : Bool) (s : State) → Bool
 line_after IirRead called s = false
 line_after RbrRead called s = is_asserted Thre s

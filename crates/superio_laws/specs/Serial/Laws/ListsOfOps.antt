@@ -1,6 +1,6 @@
 -- SPDX-License-Identifier: Apache-2.0 OR BSD-3-Clause
--- The laws of a list of operations on a port without objects, oldest first, as a loop makes them. Each word is a fold
--- or a sum over the steps, so an invariant can say how far the loop has come.
+-- The laws of a list of operations on a port without objects, oldest first, as a loop makes them. Each definition is a
+-- fold or a sum over the steps, so that the invariant of a loop can say how far the loop has come.
 use Rattle.std.specs.Prelude.{◌≡◌, ℕ, ◌+◌, ◌*◌, ◌≤◌, List, [], ◌∷◌, ◌++◌}
 use Rattle.superio_laws.specs.Serial.{Asked, Op, State, Coherent, Trace, step, step_calls, decode_in, sent_by, is_iir_read, is_rbr_read, count_if}
 use Rattle.superio_laws.specs.Serial.History.{state_of_history, accepted_by, read_out_by, accepted_bytes, read_out_bytes, output, calls_due}
@@ -16,7 +16,7 @@ abbrev pub read_out_in : (s : State) (ops : List Op) → List ℕ
 read_out_in s [] = []
 read_out_in s (op ∷ later) = read_out_by (decode_in s op) s.in_buffer ++ read_out_in (step s op Asked.Nothing) later
 
--- the bytes of them that the FIFO accepts, in order
+-- the bytes that the FIFO accepts from these operations, in order
 abbrev pub accepted_in : (s : State) (ops : List Op) → List ℕ
 accepted_in s [] = []
 accepted_in s (op ∷ later) = accepted_by (decode_in s op) s.in_buffer ++ accepted_in (step s op Asked.Nothing) later

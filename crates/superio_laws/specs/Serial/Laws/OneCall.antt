@@ -99,7 +99,8 @@ reports_outcome out_byte = true
 reports_outcome tx_lost_byte = true
 reports_outcome _ = false
 
--- a THR write outside loopback reports exactly one of the two, once, and no other call reports either
+-- a THR write outside loopback reports either that its byte is out or that it is lost, once, and no other call reports
+-- either
 abbrev pub OutcomeEventsLaw : Type 0
 OutcomeEventsLaw = (s : State) (op : Op) (asked : Asked) (sent : Sent) → IsTrue (answers_fit s op asked sent)
     → count_by reports_outcome (step_events s op sent) ≡ length (sent_by (decode_in s op))

@@ -42,8 +42,8 @@ RetriedLaw = (condition : Condition) (start : State) (trace : Trace)
     → IsTrue (is_pending condition start trace) → IsTrue (has_bits (ier_after start trace) (ier_bit condition))
     → IsRetried condition start trace
 
--- an IER write that calls for RDA leaves it pending and enabled. So if the trigger refuses this call, and the write
--- then does not raise THRE, a retry asks the driver
+-- an IER write that calls the trigger for RDA leaves RDA pending and enabled. So if the trigger refuses this call, and
+-- the write therefore does not raise THRE, a retry still asks the driver
 abbrev pub RefusedWriteLaw : Type 0
 RefusedWriteLaw = (start : State) (before : Trace) (entry : TraceEntry) (value : ℕ)
     → decode_at start before entry.op ≡ IerWrite value → IsTrue (is_call_due Rda start before entry)

@@ -1,6 +1,6 @@
 -- SPDX-License-Identifier: Apache-2.0 OR BSD-3-Clause
--- The laws by which a port without objects and the history agree. What the caller finds when it carries out the effects
--- changes nothing, so the start and the operations alone determine every read, interrupt, event and byte sent.
+-- The laws by which a port without objects and the history agree. The port never learns what came of its effects, such
+-- as a refused interrupt, so the start and the operations alone determine every read, interrupt, event and byte sent.
 use Rattle.std.specs.Prelude.{◌≡◌, ⊤, ℕ, ◌+◌, ◌*◌, ◌≤◌, not, ◌==◌, ◌&&◌, ◌||◌, nat_le, if◌then◌else◌, List, [], ◌∷◌, ◌++◌, length, take, drop, count_by, Bool, false}
 use Rattle.superio_laws.specs.Serial.{
   turned_on_count,
@@ -180,7 +180,8 @@ abbrev pub acknowledges_rda : (call : UartCall) (s : State) → Bool
 acknowledges_rda (UartRead offset effects) s = acknowledges Rda (decode_in s (Read offset))
 acknowledges_rda call s = false
 
--- if RDA is pending whenever bytes are held and IER enables it, every other call leaves it so
+-- if RDA is pending whenever bytes are held and IER enables it, this stays so after every call that reads neither IIR
+-- nor RBR
 abbrev pub UartCoversLaw : Type 0
 UartCoversLaw = (call : UartCall) (old new : State) → IsUartCall call old new → acknowledges_rda call old ≡ false
     → RdaCoversHeldBytes old → RdaCoversHeldBytes new

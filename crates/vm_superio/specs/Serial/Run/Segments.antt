@@ -1,8 +1,8 @@
 -- SPDX-License-Identifier: Apache-2.0 OR BSD-3-Clause
--- A run, split at the restores that succeed. Each part is a segment, which the same three objects serve. One line for
--- each object says by which calls it went from its value at the start of a segment to its value at the end. Whether a
--- restore succeeds decides which objects have the later calls, and a restore needs memory. What a refused restore hands
--- back stands here too. Nothing here names a step.
+-- A run, split at the restores that succeed. Each part is a segment, which the same three objects serve. For each
+-- object, a field of `IsServed` lists the calls that led from its value at the start of a segment to its value at the
+-- end. Which objects have the calls after a restore depends on whether the restore succeeds, and so on memory, too. The
+-- objects that a refused restore hands back are also here. No definition here names a step.
 use Rattle.std.specs.Prelude.{◌≡◌, not, ℕ, Bool, true, false, if◌then◌else◌, List, [], ◌∷◌, ◌++◌, flat_map, ⊤, IsTrue}
 use Rattle.std.specs.List.{list_all, AllByRecursion}
 use Rattle.std.specs.Io.KnownBytes.{Appends}
@@ -12,16 +12,16 @@ use Rattle.vm_superio.specs.Links.Writer.{SerialLinks, WriterLink}
 use Rattle.superio_laws.specs.Serial.History.{output}
 use Rattle.vm_superio.specs.Serial.Run.{Call, Reply, Restored, NotRestored, Done, entry_of, entries_of, trace_of, refusal_in_reply}
 
--- what is said of a port at each point of a trace: its state; for which conditions a restore would call the trigger
--- there; and of an entry that is made there, which events it reports and which byte it sends
+-- an account of a port: its state after each trace, the conditions for which a restore after this trace would call the
+-- trigger, and the events that an entry after this trace reports and the byte that it sends
 pub record Account : Type 0 where
   pub state : (trace : Trace) → State
   pub due : (trace : Trace) → List Condition
   pub events : (trace : Trace) (entry : TraceEntry) → List Event
   pub bytes : (trace : Trace) (entry : TraceEntry) → List ℕ
 
--- a segment: the trace at its start, the objects that it begins with, as they were handed in, the trigger's answers to
--- the restore that began it, its records, and the port at its end
+-- a segment: the trace at its start; its objects as they were passed to the restore that began it; the trigger's
+-- answers to this restore; its records; and the port at its end
 pub record Segment (T E EV W : Type 0) : Type 0 where
   pub before : Trace
   pub trigger : T
@@ -44,7 +44,8 @@ module _ {T E EV W : Type 0} where
   records_in [] = []
   records_in (done ∷ later) = if is_restored done.reply then [] else done ∷ records_in later
 
-  -- the port at its end: the old port that this restore hands back, or the port at the end of the run
+  -- the port at the end of a segment: the old port that the restore after it hands back, or the port at the end of the
+  -- run
   abbrev pub old_port_or : (reply : Reply T EV W E) (end : SerialView T EV W) → SerialView T EV W
   old_port_or (Restored old) end = old
   old_port_or _ end = end
@@ -54,7 +55,8 @@ module _ {T E EV W : Type 0} where
   end_of (done ∷ later) end = old_port_or done.reply (end_of later end)
 
   module _ (account : Account) where
-    -- a restore that succeeds begins a segment with its own objects. Its trigger took one call for each condition due
+    -- a restore that succeeds begins a segment with the objects that it was passed. The new trigger took one call for
+    -- each condition that was due
     abbrev pub segment_begun :
         (trace : Trace) (call : Call T EV W) (reply : Reply T EV W E) (entry : TraceEntry)
         (later : List (Done T EV W E)) (end : SerialView T EV W) → List (Segment T E EV W)
@@ -103,16 +105,16 @@ module _ {T E EV W : Type 0} where
   abbrev pub outcomes_in : (records : List (Done T EV W E)) → List Sent
   outcomes_in records = flat_map (λ (done : Done T EV W E). outcome_of done.sent) records
 
-  -- what each record adds at its point, after a trace
+  -- what each record adds at its point of the trace, one after the other
   abbrev pub in_order :
       {A : Type 0} (adds : Trace → TraceEntry → List A) (trace : Trace) (records : List (Done T EV W E)) → List A
   in_order adds trace [] = []
   in_order adds trace (done ∷ later) = adds trace (entry_of done) ++ in_order adds (entry_of done ∷ trace) later
 
 module _ {T E EV W : Type 0} (links : SerialLinks T E EV W) where
-  -- each object of a segment had these calls and no other, in order. The trigger first had the calls of the restore,
-  -- after which it is `made`. The port at the end of the segment has the state of that point, even if a restore hands
-  -- it back
+  -- each object of a segment had these calls and no others, in order. The trigger first had the calls of the restore,
+  -- and its value after them is `made`. The port at the end of the segment has the state that the account gives there,
+  -- also if it is an old port that a restore hands back
   pub record IsServed (account : Account) (segment : Segment T E EV W) : Type 0 where
     pub made : T
     pub restored : links.trigger segment.trigger segment.restoring made
@@ -135,8 +137,8 @@ module _ {T E EV W : Type 0} (links : SerialLinks T E EV W) where
 
   -- ---- restores that are refused
 
-  -- why a restore was refused, and the three objects that come back: the trigger after its calls, of which the last was
-  -- refused, and the others as handed in
+  -- why a restore was refused, and the three objects that come back: the trigger as its calls left it, the last of
+  -- which it refused, and the other two as they were passed
   abbrev pub IsRefusalAt :
       (account : Account) (trace : Trace) (call : Call T EV W) (reply : Reply T EV W E) → Type 0
   IsRefusalAt account trace (Call.Restore trigger events out) (NotRestored refused) =

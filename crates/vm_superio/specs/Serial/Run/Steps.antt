@@ -10,9 +10,9 @@ use Rattle.vm_superio.specs.Serial.Step.{IsSerialStep}
 use Rattle.vm_superio.specs.Serial.Run.{Call, Reply, Byte, Wrote, Enqueued, TimedOut, Restored, NotRestored, Done, act_of}
 
 module _ {T E EV W : Type 0} (links : SerialLinks T E EV W) where
-  -- one call as a port makes it: a step, or a restore, which records no answers and no sent byte. On success a port of
-  -- the same state takes the place of the old one, which comes back, and its trigger is called for the conditions that
-  -- are due. Otherwise the port stays, and the objects of the restore come back
+  -- one call as a port makes it: a step, or a restore. A restore records no answers and no sent byte. If it succeeds, a
+  -- port of the same state takes the place of the old port, which comes back, and the new port's trigger is called for
+  -- the conditions that are due. Otherwise the port stays, and the objects of the restore come back
   abbrev pub IsCallStep :
       (call : Call T EV W) (asked : Asked) (sent : Sent) (reply : Reply T EV W E) (old new : SerialView T EV W) → Type 0
   IsCallStep (Call.Read offset) asked sent (Byte byte) old new =

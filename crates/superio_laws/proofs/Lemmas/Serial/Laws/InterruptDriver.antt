@@ -56,7 +56,7 @@ timeouts_show_law start trace fitting after before entry at is_timeout =
 
 pub ruleset no_byte_waits_laws = (no_byte_waits_law, timeout_calls_law)
 
--- ---- a driver that is run by interrupts takes all bytes
+-- ---- a driver that ends each run with a read of IIR takes all bytes
 
 -- an IIR read leaves RDA not pending
 pub idle : (start : State) (last : TraceEntry) (trace : Trace) → decode_at start trace last.op ≡ IirRead

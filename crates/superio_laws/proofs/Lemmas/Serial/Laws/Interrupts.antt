@@ -1,6 +1,6 @@
 -- SPDX-License-Identifier: Apache-2.0 OR BSD-3-Clause
--- The interrupt law: IIR shows the pending conditions, and an entry is fitting exactly if it is fitting. And the
--- interrupt line: a call leaves it by the bits of IIR that it turns.
+-- The interrupt law: IIR shows the pending conditions, and the step admits an entry's answers and outcome exactly if
+-- the entry is fitting. Then the interrupt line: what a call does to its level, by the bits of IIR that the call turns.
 use Rattle.std.proofs.Common.{arith, ◌≡◌, ℕ, ◌+◌, Bool, false, not, ◌==◌, ◌&&◌, ◌||◌, List, [], ◌∷◌, ap, sym, ◌∙◌, length, ◌⊎◌, if◌then◌else◌, IsTrue}
 use Rattle.std.specs.Bool.{beq, IsFalse}
 use Rattle.superio_laws.specs.Serial.{ier_bits, Asked, TraceEntry, is_refused_at_once, is_sent, count_if, answer_count, DecodedOp, RbrRead, sent_by, is_iir_read, State, not_empty, has_bits, Thre, Rda}
@@ -97,7 +97,7 @@ pending_law start (entry ∷ trace) thre rda e =
     ∙ ap (λ bytes. next_of bytes s.interrupt_enable) (held_bytes_law start trace)
     ∙ ap (next_of (held_bytes start trace)) registers.interrupt_enable
 
--- an entry is fitting exactly if it is fitting
+-- the step admits the answers and the outcome of an entry exactly if the entry is fitting by the history
 fitting_law : (start : State) (trace : List TraceEntry) (thre rda : Bool) (entry : TraceEntry)
     → start.interrupt_identification ≡ identification_of thre rda
     → answers_fit (state_after start trace) entry.op entry.asked entry.sent ≡ is_fitting_entry start trace entry
