@@ -164,7 +164,7 @@ OPTIONS = {"To start the guest again after a reset": ("out 64 1 fe\n", "at 7c00"
 
 @with_c
 def test_statuses_of_the_page(over_host):
-    [said] = re.findall(r"It exits with (status .*?)\.", PAGE)
+    [said] = re.findall(r"The monitor exits with (status .*?)\.", PAGE)
     for number, words in at_least(3, re.findall(r"(?:status|with) (\d) (.*?)(?:, (?:and )?(?=with)|$)", said)):
         for end in words.split(" or "):
             command, given = ENDS[end]

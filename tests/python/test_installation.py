@@ -187,8 +187,10 @@ def test_the_order_of_libraries(tmp_path, monkeypatch):
     """From the last to the first, each is found once it is there."""
     package = tmp_path / "bindings" / "python" / "superio"
     name = Path("prebuilt", f"{os.uname().machine}-linux", library.FILE_NAME)
-    places = {"the file that the environment": tmp_path / "named", "the one in `prebuilt`": tmp_path / name,
-              "the one in the package": package / library.FILE_NAME, "the one of the system": Path(library.FILE_NAME)}
+    places = {"The file that the environment": tmp_path / "named",
+              "The library in the folder `prebuilt`": tmp_path / name,
+              "The library in the package": package / library.FILE_NAME,
+              "The library that your system": Path(library.FILE_NAME)}
     monkeypatch.setattr(library, "_PACKAGE", package)
     monkeypatch.setattr(library, "_loaded", Path)
     monkeypatch.delenv(library.VARIABLE, raising=False)
