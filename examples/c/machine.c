@@ -189,7 +189,7 @@ static uint8_t port_read(struct machine *machine, uint16_t port) {
 }
 
 /* An access has been served. If it asked for a reset, the machine is reset. The clock goes on. */
-static void end_access(struct machine *machine) {
+static void access_served(struct machine *machine) {
     pthread_mutex_lock(&machine->lock);
     if (machine->is_reset) {
         /* Stop other processors first. They may wait for the lock, so release it meanwhile. Ignore the resets that they
@@ -336,7 +336,7 @@ static void begin(void) {
 }
 
 static void end(void) {
-    end_access(here);
+    access_served(here);
     pthread_mutex_unlock(&processor);
 }
 

@@ -264,7 +264,7 @@ static void read_port(uint16_t port) {
 
 static void write_port(uint16_t port, uint8_t value) {
     port_write(&machine, port, value);
-    end_access(&machine);
+    access_served(&machine);
 }
 
 /* The guest writes so many bytes of memory, the lowest first. */

@@ -118,7 +118,7 @@ static void check_ports(struct machine *machine) {
     expect(port_read(machine, COM1 + 7) == 0x5A, "the port is written");
     port_write(machine, 0x64, 0xFE);
     expect(machine->is_reset && port_read(machine, COM1 + 7) == 0x5A, "the machine is reset");
-    end_access(machine);
+    access_served(machine);
     expect(!machine->is_reset && port_read(machine, COM1 + 7) == 0, "the access ends");
 }
 

@@ -426,7 +426,7 @@ OTHER_EXITS = at_least(18, [
     (" < SUPERIO_SERIAL_PORTS * STRIDE", " - 1 < SUPERIO_SERIAL_PORTS * STRIDE - 1", "the first register is read"),
     (" < SUPERIO_SERIAL_PORTS * STRIDE", " + 1 < SUPERIO_SERIAL_PORTS * STRIDE + 1", "no register is read"),
     (" < SUPERIO_SERIAL_PORTS * STRIDE", " <= SUPERIO_SERIAL_PORTS * STRIDE", "no register is read"),
-    ("    end_access(machine);\n", "", "the machine is reset"),
+    ("    access_served(machine);\n", "", "the machine is reset"),
     ("return true;", "return false;", "an access of ports is served"),
     ("return false;", "return true;", "another exit is left to the caller"),
 ])
