@@ -151,7 +151,7 @@ pub extern "C" fn serial_open(is_polled: bool) {
     *PORT.lock().unwrap() = Some(Port { serial, is_polled, takes_input: is_polled, is_refused: false, taken: 0 });
 }
 
-/// The output that waits stays.
+/// Waiting output is kept.
 #[no_mangle]
 pub extern "C" fn serial_reset() {
     access(|port| {
