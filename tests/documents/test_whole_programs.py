@@ -14,8 +14,8 @@ from harness import LIMIT, ROOT, at_least, check, run
 PACKAGE = '[package]\nname = "hi"\nversion = "0.1.0"\nedition = "2021"\n\n'
 LIBRARY = ROOT / "prebuilt" / f"{platform.machine()}-linux" / "libsuperio_c.a"
 # What the programs of README.md print.
-HI = ("the event loop wakes, and reads input\n2 bytes accepted, 1 interrupt to raise\nthe guest reads h\n"
-      "turn asks for 1 more interrupt, for the byte that is left\n")
+HI = ("wake your event loop: the guest takes input now\n2 bytes accepted, 1 interrupt to raise\nthe guest reads h\n"
+      "1 interrupt to raise for the byte that is left\n")
 MONITOR = "fn event_loop"   # which the whole monitor of docs/RUST.md has
 LIBC = 'libc = "0.2"\n'   # which docs/RUST.md adds for it below the crate of ours
 # Words for Cargo, which then takes crates of others from Debian's folder.
