@@ -131,7 +131,7 @@ int main(void) {
     if (!SUPERIO_ABI_MATCHES())
         abort();
     pthread_condattr_init(&attributes);
-    pthread_condattr_setclock(&attributes, CLOCK_MONOTONIC); /* so nobody can set the clock back during a wait */
+    pthread_condattr_setclock(&attributes, CLOCK_MONOTONIC); /* changes to the system time do not affect a wait */
     pthread_cond_init(&has_room, &attributes);
     signal(SIGPIPE, SIG_IGN); /* a write without a reader then fails, and does not end the program */
     superio_console_new(&console, false); /* true for a guest that polls */

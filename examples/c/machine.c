@@ -272,7 +272,7 @@ static int must(int file) {
 static void open_machine(struct machine *machine, int input, int output) {
     pthread_condattr_t attributes;
     pthread_condattr_init(&attributes);
-    pthread_condattr_setclock(&attributes, CLOCK_MONOTONIC); /* so nobody can set the clock back during a wait */
+    pthread_condattr_setclock(&attributes, CLOCK_MONOTONIC); /* changes to the system time do not affect a wait */
     *machine = (struct machine){.input = input, .output = output};
     pthread_mutex_init(&machine->lock, NULL);
     pthread_cond_init(&machine->has_room, &attributes);
@@ -285,7 +285,7 @@ static void open_machine(struct machine *machine, int input, int output) {
     machine->ahead = seconds(CLOCK_REALTIME) - seconds(CLOCK_BOOTTIME);
 }
 
-/* A saved machine, except what is the guest's: its processors, its memory and its interrupt controller. */
+/* The saved devices. The processors, the memory and the interrupt controller are saved elsewhere. */
 struct snapshot {
     uint8_t console[SUPERIO_CONSOLE_SAVED_MAX], clock[SUPERIO_RTC_SAVED_SIZE];
     size_t count; /* of bytes in `console` */
