@@ -98,8 +98,8 @@ def test_a_button_says_its_line(line, said):
 
 
 DESCRIBED = (ROOT / "docs" / "PAGE.md").read_text("utf-8")
-ADDRESSES = re.findall(r"add `#([^`]+)` to the end of the page's address and load that. One byte is then held, and "
-                       r"nothing is pending", DESCRIBED)
+ADDRESSES = re.findall(r"add `#([^`]+)` to the end of the page's address and press Enter. The port then holds one byte, "
+                       r"with nothing pending", DESCRIBED)
 
 
 @pytest.mark.parametrize("address", at_least(1, ADDRESSES))
