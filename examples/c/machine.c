@@ -29,7 +29,7 @@ struct machine {
     superio_console console;
     superio_rtc clock;
     int64_t ahead;     /* how many seconds moments are ahead of CLOCK_BOOTTIME */
-    uint64_t now;      /* the moment of the last access of the clock */
+    uint64_t now;      /* the moment of the last access to the clock */
     bool clock_was_up; /* the level of the clock's line that was set last */
     bool is_stuck;     /* the reader of the output has taken nothing for a second */
     bool is_reset;     /* the guest has asked for a reset */
@@ -87,7 +87,7 @@ static int64_t seconds(clockid_t which) {
     return time.tv_sec;
 }
 
-/* Before each access of the clock: the present moment. */
+/* Before each access to the clock: the present moment. */
 static void take_moment(struct machine *machine) {
     machine->now = (uint64_t)(seconds(CLOCK_BOOTTIME) + machine->ahead);
 }
@@ -100,10 +100,10 @@ static void set_clock_line(struct machine *machine, bool is_up) {
         clear(machine->clock_line);
 }
 
-/* After each access of the clock: sets the timer for the alarm, and the clock's line if its level has changed. */
+/* After each access to the clock: sets the timer for the alarm, and the clock's line if its level has changed. */
 static void follow_clock(struct machine *machine) {
     uint64_t due = superio_rtc_alarm_due(&machine->clock, machine->now);
-    struct itimerspec goes_off = {0}; /* which is never */
+    struct itimerspec goes_off = {0}; /* all zero: disarmed */
     if (due != SUPERIO_RTC_NEVER)
         goes_off.it_value.tv_sec = (time_t)((int64_t)(machine->now + due) - machine->ahead);
     timerfd_settime(machine->timer, TFD_TIMER_ABSTIME, &goes_off, NULL);
@@ -192,8 +192,8 @@ static uint8_t port_read(struct machine *machine, uint16_t port) {
 static void access_served(struct machine *machine) {
     pthread_mutex_lock(&machine->lock);
     if (machine->is_reset) {
-        /* Stop other processors first. They may wait for the lock, so release it meanwhile. Ignore the resets that they
-         * ask for until they have stopped. */
+        /* If there are several processors, let one thread alone do this. It first stops the others, and meanwhile
+         * releases the lock, because they may wait for it. Ignore resets that they ask for until they have stopped. */
         clear(machine->irq); /* in place of a reset of the interrupt controller */
         if (interrupt(machine, superio_console_reset(&machine->console)))
             eventfd_write(machine->wake_up, 1);
@@ -285,27 +285,35 @@ static void open_machine(struct machine *machine, int input, int output) {
     machine->ahead = seconds(CLOCK_REALTIME) - seconds(CLOCK_BOOTTIME);
 }
 
-/* The saved devices. The processors, the memory and the interrupt controller are saved elsewhere. */
+/* The saved devices. You add what you save in step 3. */
 struct snapshot {
     uint8_t console[SUPERIO_CONSOLE_SAVED_MAX], clock[SUPERIO_RTC_SAVED_SIZE];
     size_t count; /* of bytes in `console` */
     uint64_t now;
 };
 
-/* Saves the devices. No processor runs, and each access has ended. The event loop has ended, too. */
+/* Steps 2 to 7 of a save, as docs/SNAPSHOTS.md numbers them. No processor runs, and each access has ended. The event
+ * loop has ended, too. */
 static void save(struct machine *machine, struct snapshot *saved) {
+    /* step 2 */
     pthread_mutex_lock(&machine->lock);
+    /* step 3: your processors, memory and interrupt controller */
+    /* step 4 */
     saved->count = superio_console_save(&machine->console, saved->console);
+    /* step 5: read_input leaves no input to save */
+    /* step 6 */
     superio_rtc_save(&machine->clock, saved->clock);
     saved->now = machine->now;
+    /* step 7 */
     pthread_mutex_unlock(&machine->lock);
 }
 
-/* Restores the devices into a machine whose interrupt controller is restored, and whose processors and event loop do
- * not run yet. Returns false if the snapshot is refused. */
+/* Steps 2 to 5 of a restore, into a machine whose interrupt controller is restored, and whose processors and event loop
+ * do not run yet. Returns false if the snapshot is refused. */
 static bool restore(struct machine *machine, const struct snapshot *saved) {
     pthread_mutex_lock(&machine->lock);
-    superio_console console; /* what is refused changes nothing */
+    /* step 2: load into temporaries, so that a bad snapshot changes nothing */
+    superio_console console;
     superio_rtc clock;
     bool is_good = superio_rtc_load(&clock, saved->clock, sizeof saved->clock) == SUPERIO_LOAD_OK
                    && superio_console_load(&console, saved->console, saved->count) == SUPERIO_LOAD_OK
@@ -313,10 +321,13 @@ static bool restore(struct machine *machine, const struct snapshot *saved) {
     if (is_good) {
         machine->console = console;
         machine->clock = clock;
-        interrupt(machine, superio_console_refuse(&machine->console)); /* what was raised before may be lost */
+        /* step 3: what was raised before may be lost */
+        interrupt(machine, superio_console_refuse(&machine->console));
         interrupt(machine, superio_console_turn(&machine->console));
+        /* step 4 */
         int64_t moment = (int64_t)saved->now, host = seconds(CLOCK_REALTIME);
         machine->ahead = (moment > host ? moment : host) - seconds(CLOCK_BOOTTIME);
+        /* step 5 */
         follow_clock_again(machine);
     }
     pthread_mutex_unlock(&machine->lock);
@@ -415,17 +426,22 @@ static void *guest(void *unused) {
 /* Moves the guest from a machine to another. `loop` is the thread of the machine's event loop. */
 static void move(struct machine *from, struct machine *to, pthread_t *loop) {
     static struct snapshot saved;
+    /* step 1 of a stop */
     pthread_mutex_lock(&door);      /* no access begins */
     pthread_mutex_lock(&processor); /* the last one has ended */
+    /* step 2 of a stop */
     pthread_mutex_lock(&from->lock);
     from->is_stopped = true;
     pthread_mutex_unlock(&from->lock);
     eventfd_write(from->wake_up, 1);
     pthread_join(*loop, NULL);
     save(from, &saved);
+    /* step 1 of a restore: nothing, because a thread and an eventfd stand in for these parts */
     if (!restore(to, &saved))
         errx(1, "the snapshot is refused");
+    /* step 6 of a restore */
     pthread_create(loop, NULL, event_loop, to);
+    /* step 7 of a restore */
     here = to;
     pthread_mutex_unlock(&processor);
     pthread_mutex_unlock(&door);
