@@ -1,7 +1,8 @@
 // SPDX-License-Identifier: Apache-2.0 OR BSD-3-Clause
 // The rules of the bus of docs/RUST.md, in place of its `main`: what each access at each place does, by the rules of
-// docs/USING.md, and by devices of its own. `DONE` has the work of consoles that was carried out, and `FOLLOWED` is how
-// many times the clock's line and timer were set: `LINE` is the level, and `TIMER` the moment at which the timer goes off.
+// docs/INTEGRATION.md, and by devices of its own. `DONE` has the work of consoles that was carried out, and `FOLLOWED`
+// is how many times the clock's line and timer were set: `LINE` is the level, and `TIMER` the moment at which the timer
+// goes off.
 
 use std::sync::atomic::{AtomicBool, AtomicU64, AtomicUsize, Ordering::Relaxed};
 use std::sync::Mutex;

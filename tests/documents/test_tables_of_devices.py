@@ -1,6 +1,6 @@
 # SPDX-License-Identifier: Apache-2.0 OR BSD-3-Clause
 """The tables of docs/DEVICES.md say what the devices do. Each cell is tried at each of its offsets. It has words that
-are known here, and others fail. The numbers of device trees in docs/USING.md are those of these tables."""
+are known here, and others fail. The numbers of device trees in docs/INTEGRATION.md are those of these tables."""
 import re
 from dataclasses import replace
 
@@ -165,7 +165,8 @@ def test_identification(offsets, wanted):
 
 # ---- Device trees
 
-TREE = {row[0]: row[1:] for row in at_least(5, table(Document("docs/USING.md").text, "Property | The serial port"))}
+TREE = {row[0]: row[1:]
+        for row in at_least(5, table(Document("docs/INTEGRATION.md").text, "Property | The serial port"))}
 REGISTERS = 1 + max(int(row[0]) for row in PORT_ROWS if row[0].isdigit())
 
 

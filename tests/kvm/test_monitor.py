@@ -180,9 +180,9 @@ SAID = at_least(10, [
     ("docs/MONITOR.md", r"memory at 0x\w+, at IRQ (\d+)", "CLOCK_IRQ"),
     ("docs/MONITOR.md", r"It starts at (0x\w+)", "FLAT_START"), ("docs/MONITOR.md", r"guest, at (0x\w+)", "CLOCK_BASE"),
     ("docs/MONITOR.md", r"IRQ (\d+) +IRQ \d", "SERIAL_IRQ"), ("docs/MONITOR.md", r"IRQ \d +IRQ (\d+)", "CLOCK_IRQ"),
-    ("docs/USING.md", r"\(MONITOR\.md\) uses (0x\w+)", "CLOCK_BASE"),
-    ("docs/USING.md", r"looks for the port at (0x\w+)", "COM1"),
-    ("docs/USING.md", r"looks for the port at 0x\w+, with IRQ (\d+)", "SERIAL_IRQ"),
+    ("docs/INTEGRATION.md", r"\(MONITOR\.md\) uses (0x\w+)", "CLOCK_BASE"),
+    ("docs/INTEGRATION.md", r"looks for the port at (0x\w+)", "COM1"),
+    ("docs/INTEGRATION.md", r"looks for the port at 0x\w+, with IRQ (\d+)", "SERIAL_IRQ"),
     ("examples/linux-boot/README.md", r"serial port at (0x\w+)", "COM1"),
     ("examples/linux-boot/README.md", r"clock at (0x\w+)", "CLOCK_BASE"),
     ("examples/kvm/main.c", r"Starts any other at (0x\w+)", "FLAT_START")])
