@@ -6,13 +6,16 @@ Debian 12 to install. Only --without leaves tests out. What no package of Debian
 `@pytest.mark.where("kvm")`: such a test runs where that is there. Any other skip, and any expected failure, fails. The
 last lines name all that was not tried, and why.
 """
+import gc
 import os
 import platform
 import random
+import tempfile
 import time
 from collections import Counter
 from pathlib import Path
 
+import bytecode
 import pytest
 import sums
 from common.requirements import TOOLS, advice
@@ -22,6 +25,7 @@ from hypothesis import HealthCheck, settings
 from places import is_place
 
 LEFT_OUT = pytest.StashKey()   # of a test that --without leaves out
+BYTECODE = pytest.StashKey()   # where the workers of a run share bytecode
 # The files that take longest. They begin first, so that no worker is left with one of them at the end.
 DEAREST = ["tests/packages/test_releases.py", "tests/rust/test_crates.py", "tests/recheck/test_proofs.py",
            "tests/documents/test_paste.py", "tests/c/test_programs.py", "tests/guests/test_clock.py",
@@ -62,9 +66,16 @@ def places_of(item):
 
 
 @pytest.hookimpl(optionalhook=True)
-def pytest_xdist_setupnodes():
+def pytest_configure_node(node):
+    node.workerinput[bytecode.FOLDER] = node.config.stash[BYTECODE].name
+
+
+@pytest.hookimpl(optionalhook=True)
+def pytest_xdist_setupnodes(config):
     """Workers have to find the same names of tests. Some are of a set, whose order is a process's own."""
     os.environ["PYTHONHASHSEED"] = str(random.randrange(2 ** 32))
+    config.stash[BYTECODE] = tempfile.TemporaryDirectory()
+    config.add_cleanup(config.stash[BYTECODE].cleanup)
 
 
 @pytest.hookimpl(tryfirst=True)
@@ -77,6 +88,16 @@ def pytest_configure(config):
         raise pytest.UsageError(f"--without: there is no tool {', '.join(sorted(unknown))}")
     if time.localtime(0).tm_gmtoff != 19_800:
         raise pytest.UsageError(f"there is no zone {os.environ['TZ']}, in which local time is not UTC: install tzdata")
+
+
+@pytest.hookimpl(hookwrapper=True)
+def pytest_collection(session):
+    """What is made meanwhile stays until the end. So the collector of garbage need not look at it again and again."""
+    gc.disable()
+    with bytecode.shared(bytecode.folder_of(session.config)):
+        yield
+    gc.freeze()
+    gc.enable()
 
 
 def pytest_collection_modifyitems(items):
@@ -139,7 +160,9 @@ def pytest_runtest_makereport(item):
 @pytest.hookimpl(hookwrapper=True)
 def pytest_make_collect_report(collector):
     """So has a file that is skipped whole, as by `importorskip`."""
-    report = (yield).get_result()
+    folder = bytecode.folder_of(collector.config) if isinstance(collector, pytest.Module) else None
+    with bytecode.read_once(folder, collector.nodeid):
+        report = (yield).get_result()
     if report.skipped:
         report.outcome, report.longrepr = "failed", f"{collector.nodeid} skipped itself: {report.longrepr}"
 
