@@ -96,7 +96,6 @@ def pytest_collection(session):
     gc.disable()
     with bytecode.shared(bytecode.folder_of(session.config)):
         yield
-    gc.freeze()
     gc.enable()
 
 
