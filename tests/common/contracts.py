@@ -47,7 +47,7 @@ class Function:
 
 def code_of(text):
     """A source with blanks in place of all that is no code."""
-    return NO_CODE.sub(lambda found: re.sub(r"[^\n]", " ", found[0]), text)
+    return NO_CODE.sub(lambda found: "\n".join([" " * len(line) for line in found[0].split("\n")]), text)
 
 
 def without_generics(text):

@@ -69,6 +69,11 @@ def steps_of(trace):
     return list(replay("trace", trace.splitlines(keepends=True)))
 
 
+@lru_cache   # of a long one several tests look at the steps
+def steps_in(recording):
+    return steps_of(lzma.decompress(recording.read_bytes()))
+
+
 def said(viewer, line):
     """What the viewer says to a command."""
     viewer.stdout = io.StringIO()
@@ -211,7 +216,7 @@ def test_table_of_a_recording(recording, rows, row):
 
 def test_bytes_that_linux_leaves():
     """In its paste it reads that nothing is pending, and leaves bytes. Each time a timeout interrupts it again."""
-    steps = list(replay("trace", lzma.decompress(WITH_INPUT.read_bytes()).splitlines(keepends=True)))
+    steps = steps_in(WITH_INPUT)
     left = [len(then.call.before.serial.in_buffer) for step, then in zip(steps, steps[1:])
             if (step.call.command.values, step.call.reply) == ((2,), "c1") and then.call.answers == (True,)]
     assert left == [17] * 15
@@ -233,7 +238,7 @@ SAID = at_least(9, [
 
 @lru_cache
 def counts_of(recording):
-    steps = steps_of(lzma.decompress(recording.read_bytes()))
+    steps = steps_in(recording)
     lines = [line_of(step.call.command) for step in steps]
     asked = lines.index("kw 04 20") if "kw 04 20" in lines else len(lines)
     resets = lines[asked:].count("kw 04 fe")   # before each of which it reads the status once

@@ -21,7 +21,6 @@ from superio import Rtc, RtcState, Serial, SerialState, registers
 
 TOP = ROOT / "shell"
 EXAMPLE = ROOT / "examples" / "three_devices.script"
-BOOT = ROOT / "examples" / "linux-boot" / "boot.recording.xz"
 NOWHERE = "/nowhere/at/all: No such file or directory\n"
 SHELL, SCRIPT = ["--shell"], ["-"]
 NAME = f"{os.path.basename(sys.executable)} -m superio"
@@ -69,8 +68,10 @@ LOADED = "read SCR\nsd\ncr 00000000000003ef 0000\n"
 # A chain of files, of which each names the one before.
 CHAIN = {str(number): f"source {number - 1}\n" if number else "write SCR 7\n" for number in range(12)}
 
-# A script as long as one may be.
-LONGEST, LONGEST_SAID = "st\ncr 0000000000000000 0000\n" + "kr 04\n" * 10_918, f"{0:016x}\n{0:08x}\n" + "00\n" * 10_918
+# A script as long as one may be, of few lines, since the shell writes each reply by itself: after 64 bytes the port is
+# full.
+LONGEST = f"st\ncr {0:016x} 0000\n" + f"sq {'00' * 128}\n" * 251 + f"sq {'00' * 122}\n"
+LONGEST_SAID = f"{0:016x}\n{0:08x}\n40\n" + "full\n" * 251
 
 # Files that are there and standard input; the status, the output, a part of the errors, and the files that are new.
 FILES = [
@@ -102,7 +103,7 @@ FILES = [
     ({"it": SL + CL}, "load it\nscript\n", (1, "ok\nok\n"), f"of this session: call 1, {SL[:12]}", {}),
     # It has at most 65,536 bytes.
     ({}, LONGEST + "script new\n", (0, LONGEST_SAID + "the script is in new\n"), "", {"new": LONGEST}),
-    ({}, LONGEST + "sc\nscript new\n", (1, LONGEST_SAID + "40\n"), "at most 65,536 bytes, and these are more", {}),
+    ({}, LONGEST + "sc\nscript new\n", (1, LONGEST_SAID + "00\n"), "at most 65,536 bytes, and these are more", {}),
     ({}, "kr 04\nreset\nsr 07\ntrace on\nread SCR\ntrace off\nread SCR\ntrace\ntrace new\n",
      (0, "00\na fresh board\n00\ntrace is on\nsr 07\nSCR = 0x00\ntrace is off\nSCR = 0x00\nsr 07\nsr 07\nsr 07\n"
          "the calls since the last reset are in new\n"), "", {"new": "sr 07\nsr 07\nsr 07\n"}),
@@ -116,7 +117,8 @@ COMMANDS = [
     (f"yes 'kr 04' | {SUPERIO} --shell | head -n 1; exit ${{PIPESTATUS[1]}}", (128 + signal.SIGPIPE, "00\n", "")),
     (f"yes st | head -n 20000 | {SUPERIO} | head -n 1; exit ${{PIPESTATUS[2]}}",
      (128 + signal.SIGPIPE, "0000000000000000\n", "")),
-    (f"{SUPERIO} view {BOOT} --table | head -n 1; exit ${{PIPESTATUS[0]}}", (128 + signal.SIGPIPE, "piece 1\n", "")),
+    (f"yes 'kr 04' | head -n 5000 | {SUPERIO} view - --table | head -n 1; exit ${{PIPESTATUS[2]}}",
+     (128 + signal.SIGPIPE, "piece 1\n", "")),
     (f"echo 'kr 04' | {SUPERIO} --shell > /dev/full", (2, "", "No space left on device")),
     (f"printf 'kr 04\\nkr 4' | {SUPERIO} > /dev/full", (2, "", "input or output fault\n")),
     (f"echo 'kr 4' | {SUPERIO} 2> /dev/full", (1, "", "")),
