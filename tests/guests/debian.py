@@ -36,9 +36,8 @@ def apt_get(folder, release, kind="deb"):
     """The words of an apt-get with lists of its own in a folder, which are brought up to date. It fails if there is no
     network."""
     # Also of a machine that has read no list yet, such as a new container.
-    named = subprocess.run(["apt-get", "indextargets", "--no-release-info", "--format", "$(REPO_URI) $(RELEASE)",
-                            "Created-By: Packages"], stdout=subprocess.PIPE, text=True, check=True).stdout
-    uri = re.search(r"^(\S+) (bookworm|(old)*stable)$", named, re.M)[1]
+    named = subprocess.run(["apt-get", "--print-uris", "update"], stdout=subprocess.PIPE, text=True, check=True).stdout
+    uri = re.search(r"^'(\S+)/dists/(bookworm|(old)*stable)/InRelease'", named, re.M)[1]
     for part in ("parts", "lists/partial", "cache/archives/partial"):
         (folder / part).mkdir(parents=True, exist_ok=True)
     line = f"{kind} [signed-by={KEY}] {uri} {release} main\n"
@@ -47,7 +46,8 @@ def apt_get(folder, release, kind="deb"):
                 f"Dir::State::Lists={folder}/lists", "APT::Sandbox::User=root", "APT::Update::Error-Mode=any",
                 "Acquire::http::Timeout=20"]
     words = ["apt-get", "--quiet", *(word for setting in settings for word in ("-o", setting))]
-    subprocess.run([*words, "update"], check=True, stdout=subprocess.DEVNULL)
+    # What is asked for next reads all packages of the lists anyway: here that would take a second more.
+    subprocess.run([*words, "-o", "pkgCacheFile::Generate=false", "update"], check=True, stdout=subprocess.DEVNULL)
     return words
 
 

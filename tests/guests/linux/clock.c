@@ -22,7 +22,7 @@ static unsigned choose(unsigned bound) {
     x ^= x << 13;
     x ^= x >> 7;
     x ^= x << 17;
-    return (unsigned)(x >> 24) % bound;
+    return (x >> 32) * bound >> 32; /* not a remainder, which takes longer */
 }
 
 static const char *wrong; /* what was wrong first in this exchange */

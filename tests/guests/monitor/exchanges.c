@@ -19,7 +19,7 @@ unsigned choose(unsigned bound) {
     x ^= x << 13;
     x ^= x >> 7;
     x ^= x << 17;
-    return (unsigned)(x >> 24) % bound;
+    return (x >> 32) * bound >> 32; /* not a remainder, which took a sixth of the time */
 }
 
 static void fail(const char *what) {
