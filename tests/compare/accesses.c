@@ -135,14 +135,16 @@ __attribute__((noinline)) uint64_t sum_of(const struct access *list, size_t coun
 /* Makes the accesses of a text such as "w0741 r0500" so often. */
 static uint64_t make_all(const char *text, int times) {
     static struct access list[ROUNDS * MOST_ACCESSES];
-    unsigned offset, value;
     size_t count = 0;
-    char kind;
-    int length;
 
     while (times--)
-        for (const char *at = text; sscanf(at, " %c%2x%2x%n", &kind, &offset, &value, &length) == 3; at += length)
-            list[count++] = (struct access){kind, (uint8_t)offset, (uint8_t)value};
+        for (const char *at = text + strspn(text, " \n"); *at; at += strspn(at, " \n")) {
+            char *end;
+            unsigned long digits = strtoul(at + 1, &end, 16); /* `sscanf` would look for the end of the text each time */
+
+            list[count++] = (struct access){*at, (uint8_t)(digits >> 8), (uint8_t)digits};
+            at = end;
+        }
     return sum_of(list, count);
 }
 

@@ -1,12 +1,17 @@
 // SPDX-License-Identifier: Apache-2.0 OR BSD-3-Clause
 //! Makes the rows of accesses that come on standard input, for tests/costs. A row has three lists, with ` / `
 //! between them: a new board makes the first, then the second once and ten times, and then the third. Callgrind counts
-//! `sum_of`. An access is one of docs/PERFORMANCE.md, such as `w0741`.
+//! `sum_of`. An access is one of docs/PERFORMANCE.md, such as `w0741`. With the word `port` or `console`, it is
+//! console.rs that makes them: one program has all of them, because its link-time optimisation takes seconds.
 //!
 //! Prints two numbers that depend on each reply of the ten rounds and of the third list, how often the trigger was
 //! called, and how often the clock asked for the host's time in the ten rounds. The output is dropped, and nobody hears
 //! the events.
+#[cfg(feature = "further")]
+mod console;
+
 use std::convert::Infallible;
+use std::env::args;
 use std::hint::black_box;
 use std::io::{Sink, sink, stdin};
 use std::sync::atomic::{AtomicU64, Ordering::Relaxed};
@@ -122,11 +127,27 @@ fn accesses_of(words: &str) -> Vec<[u8; 3]> {
     words.split_whitespace().map(|word| [word.as_bytes()[0], byte(&word[1..3]), byte(&word[3..])]).collect()
 }
 
-fn main() {
-    set_moment(MOMENT);
-    for row in stdin().lines() {
+/// The rows of standard input, each with its three lists.
+fn rows() -> impl Iterator<Item = [Vec<[u8; 3]>; 3]> {
+    stdin().lines().map(|row| {
         let row = row.expect("a row");
-        let [once, repeated, last] = [0, 1, 2].map(|place| accesses_of(row.split('/').nth(place).expect("three lists")));
+        [0, 1, 2].map(|place| accesses_of(row.split('/').nth(place).expect("three lists")))
+    })
+}
+
+fn main() {
+    match args().nth(1).as_deref() {
+        #[cfg(feature = "further")]
+        Some("port") => console::make_rows(console::sum_of_port),
+        #[cfg(feature = "further")]
+        Some("console") => console::make_rows(console::sum_of_console),
+        _ => make_rows(),
+    }
+}
+
+fn make_rows() {
+    set_moment(MOMENT);
+    for [once, repeated, last] in rows() {
         let mut board = Board::new();
         INTERRUPTS.store(0, Relaxed);
         board.sum_of(&once);

@@ -91,6 +91,7 @@ __attribute__((constructor)) static void begin(void) {
     must(pipe(both), "the user");
     dup2(both[0], STDIN_FILENO);
     keys = both[1];
+    madvise(memory, MEMORY_SIZE, MADV_HUGEPAGE); /* the sanitizer reads all of it when the monitor exits */
 }
 
 /* The first is for the interrupt, and the second for the event loop. A write to either has the lock. */

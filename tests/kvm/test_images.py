@@ -11,7 +11,7 @@ from typing import NamedTuple
 
 import pytest
 from harness import run
-from monitors import build_monitor
+from hosts import build_over_host
 from seeds import random_source
 
 pytestmark = [pytest.mark.needs("cc", "make"), pytest.mark.where("Linux on x86-64")]
@@ -61,7 +61,7 @@ def random_image(source):
 def monitor(tmp_path_factory):
     """The folder of the monitor over host.c."""
     folder = tmp_path_factory.mktemp("host")
-    build_monitor("host", folder)
+    build_over_host(folder)
     return folder
 
 

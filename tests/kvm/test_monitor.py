@@ -10,7 +10,6 @@ Two monitors whose guests echo each other go on after the socket between them wa
 import difflib
 import random
 import re
-import shutil
 import signal
 import socket
 import subprocess
@@ -21,6 +20,7 @@ from contextlib import suppress
 import pytest
 from documents import Document
 from harness import LIMIT, ROOT, at_least, check, run
+from hosts import build_over_host
 from monitors import HERE, WRAPPED, build_monitor, rust_port
 from places import is_place
 
@@ -54,7 +54,7 @@ def test_number_of_lines():
 def over_host(tmp_path_factory, request):
     """The folder of the monitor over host.c, in which an image stands."""
     folder = tmp_path_factory.mktemp("host")
-    build_monitor("host", folder, rust_port(folder / "target") if request.param == "Rust" else "serial.c")
+    build_over_host(folder, rust_port(folder / "target") if request.param == "Rust" else "serial.c")
     (folder / "image").write_bytes(b"\xF4")
     return folder
 
@@ -117,19 +117,10 @@ BROKEN = {
 
 
 @pytest.mark.parametrize("fault", BROKEN)
-def test_a_broken_rule_is_seen(fault, tmp_path, monkeypatch):
+def test_a_broken_rule_is_seen(fault, tmp_path):
     """So host.c notices it in a script, where the replies of the guest's port would not differ, and no lock is waited for
-    without end."""
-    copy = shutil.copytree
-
-    def broken_copy(*words, **options):
-        copy(*words, **options)
-        for file, old, new in (BROKEN[fault], ("Makefile", "-O2", "-O0")):   # what runs for a moment
-            text = (tmp_path / file).read_text(encoding="utf-8")
-            assert text.count(old) == 1, old
-            (tmp_path / file).write_text(text.replace(old, new), encoding="utf-8")
-    monkeypatch.setattr(shutil, "copytree", broken_copy)
-    build_monitor("host", tmp_path)
+    without end. That is host.c's work, and not the sanitizers'."""
+    build_over_host(tmp_path, edits=[BROKEN[fault]], with_sanitizers=False)
     (tmp_path / "image").write_bytes(b"\xF4")
     assert any(fault in seen_of(tmp_path, script, limit=30) for script in SCRIPTS)
 

@@ -112,7 +112,10 @@ def test_changes(names, tmp_path):
     copy_repository(tmp_path)
     for change in changes:
         make(change["edits"], tmp_path)
-    check([tmp_path / "tools/generate", *STEPS, *steps_of(names)], cwd=tmp_path)
+    # Its steps find this Python first, and no stand-in that looks for one each time.
+    path = f"{PurePath(sys.executable).parent}{os.pathsep}{os.environ['PATH']}"
+    check([sys.executable, tmp_path / "tools/generate", *STEPS, *steps_of(names)], cwd=tmp_path,
+          env={**os.environ, "PATH": path})
     check(BUILD, cwd=tmp_path)
     if any(file.startswith("rust/vm-superio/src/") for file in files):
         Cargo(tmp_path / "rust/vm-superio").check("check")

@@ -185,30 +185,41 @@ def test_what_runs_a_tool_is_needed_with_it(tool):
     assert {interpreter(command) for command in there} <= {None, "sh", "bash", "perl", "python3", *TOOLS[tool]}
 
 
-@lru_cache(maxsize=None)
-def told_by_dpkg(*words):
-    return run(["dpkg-query", *words]).stdout
-
-
-def is_of_a_package(what):
-    """Whether what a tool needs is there, and is a file of a package of Debian's."""
+def path_of(what):
+    """Where what a tool needs is, or `None`."""
     if what.startswith("import "):
-        module = what.removeprefix("import ").split(", ")[0]
-        path = run(["/usr/bin/python3", "-c", f"import {module}; print({module}.__file__)"]).stdout.strip()
-    else:
-        path = next(iter(glob(what)), None) if what.startswith("/") else shutil.which(what)
-    return bool(path) and re.search(rf"^\S+: {re.escape(path)}$", told_by_dpkg("--search", path), re.M) is not None
+        return path_of_module(what.removeprefix("import ").split(", ")[0])
+    return next(iter(glob(what)), None) if what.startswith("/") else shutil.which(what)
+
+
+@lru_cache(maxsize=None)
+def path_of_module(name):
+    ran = run(["/usr/bin/python3", "-c", f"import {name}; print({name}.__file__)"])
+    return ran.stdout.strip() or None
+
+
+@pytest.fixture(scope="module")
+def packaged():
+    """The paths of what tools need that are files of packages of Debian's. The packages are asked once for all."""
+    paths = {path for needed in TOOLS.values() for path in map(path_of, needed) if path}
+    said = run(["dpkg-query", "--search", *sorted(paths)]).stdout
+    return {path for path in paths if re.search(rf"^\S+: {re.escape(path)}$", said, re.M)}
+
+
+@pytest.fixture(scope="module")
+def installed():
+    """The names of the packages that are there, and of those in whose place they are."""
+    said = run(["dpkg-query", "--showformat=${Package}, ${Provides}\n", "--show"]).stdout
+    return {name.split(" ")[0] for name in re.split(", |\n", said)}
 
 
 @pytest.mark.parametrize("tool", TOOLS)
-def test_a_tool_comes_with_its_package(tool):
+def test_a_tool_comes_with_its_package(tool, packaged, installed):
     """Where a package has put what a tool needs, the packages that are named for it are there, or another in their
     place. One of another architecture is only unpacked."""
-    said = told_by_dpkg("--showformat=${Package}, ${Provides}\n", "--show")
-    here = {name.split(" ")[0] for name in re.split(", |\n", said)}
     for what, packages in TOOLS[tool].items():
-        if is_of_a_package(what):
-            assert not {package for package in packages.split() if ":" not in package} - here, what
+        if path_of(what) in packaged:
+            assert not {package for package in packages.split() if ":" not in package} - installed, what
 
 
 @pytest.mark.parametrize("line, is_found", [("import os", True), ("import os; assert False", False),

@@ -81,9 +81,12 @@ def write_tests(folder, text):
 
 
 # Runs pytest in folders, as `python3 -m pytest` does, and writes there what it prints. Each run has a process of its
-# own, which is forked after the slowest modules are there. Tells with what status each ends.
-FORKED = f"""import json, os, signal, sys
-import hypothesis, pytest
+# own, which is forked after the slowest modules and pytest's own plugins are there. Tells with what status each ends.
+FORKED = f"""import importlib, json, os, signal, sys
+import hypothesis, hypothesis.strategies, pytest
+from _pytest.config import default_plugins
+for name in default_plugins:
+    importlib.import_module("_pytest." + name)
 for line in sys.stdin:
     folder, words, variables = json.loads(line)
     if not (child := os.fork()):

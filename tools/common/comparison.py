@@ -20,7 +20,6 @@ name = "{0}"
 path = "{1}/{0}.rs"
 [features]
 further = []
-bare = []
 [dependencies]
 superio = {{ package = "vm-superio", version = "0.8.2", default-features = false }}
 [patch.crates-io]

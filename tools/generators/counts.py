@@ -3,11 +3,9 @@
 `accesses` of tests/compare, which make them under callgrind. What their loop takes is subtracted.
 
 Counts do not depend on what else the machine does, but on the compilers, which the document names, and on the
-processor, an x86-64. A second table has what accesses cost through a console, counted by the program `console`, beside
-the port in it. vm-superio is counted if VM_SUPERIO names the folder of its package, 0.8.2.
+processor, an x86-64. A second table has what accesses cost through a console, beside the port in it. vm-superio is counted if VM_SUPERIO names the folder of its package, 0.8.2.
 """
 import re
-import shutil
 import subprocess
 from functools import lru_cache
 from pathlib import Path
@@ -90,9 +88,12 @@ class Row(NamedTuple):
 
 
 class Program(NamedTuple):
-    """A program of tests/compare, and the folder that is removed at the end."""
+    """A program of tests/compare, the word that chooses what makes the accesses, the function that callgrind counts, and
+    the folder that is removed at the end."""
     path: Path
     folder: TemporaryDirectory
+    words: tuple = ()
+    counted: str = "sum_of"
 
 
 class Counted(NamedTuple):
@@ -163,8 +164,9 @@ def totals_of(program, rows):
     rows = [([], [], []), ([], ["n0000"], []), *rows]  # first nothing, and an access that does nothing
     text = "".join(" / ".join(map(" ".join, lists)) + "\n" for lists in rows)
     out = Path(mkdtemp(dir=program.folder.name)) / "out"
-    printed = check(["valgrind", "--tool=callgrind", f"--callgrind-out-file={out}", "--toggle-collect=sum_of",
-                     "--dump-after=sum_of", program.path], input=text, stderr=subprocess.DEVNULL)
+    printed = check(["valgrind", "--tool=callgrind", f"--callgrind-out-file={out}",
+                     f"--toggle-collect={program.counted}", f"--dump-after={program.counted}", program.path,
+                     *program.words], input=text, stderr=subprocess.DEVNULL)
     dumps = [out.with_suffix(f".{number}").read_text(encoding="ascii") for number in range(1, 4 * len(rows) + 1)]
     totals = [int(re.search(r"^totals: (\d+)", dump, re.M)[1]) for dump in dumps]
     nothing, loop = totals[0], (totals[6] - totals[2]) / ROUNDS
@@ -182,25 +184,24 @@ def count(program, rows):
 
 
 @lru_cache(maxsize=None)
-def rust_folder(crate):
-    """The folder in which the programs over a crate are built, one after the other, and the crate once."""
-    return TemporaryDirectory(prefix="counts-")
+def rust_program(crate):
+    """The program over a crate, which is built once for all columns that it counts."""
+    folder = TemporaryDirectory(prefix="counts-")
+    comparison = Comparison(Path(folder.name, "accesses"), crate, "accesses")
+    built = comparison.build(**RUST_FLAGS)
+    assert built.returncode == 0, built.stdout
+    return Program(comparison.program, folder)
 
 
 @lru_cache(maxsize=None)
 def program_of(column):
     """The program of a column."""
+    if column in CONSOLE_COLUMNS:
+        return rust_program(None)._replace(words=(column,), counted=f"sum_of_{column}")
+    if column not in (BY_HAND, LIBRARY):
+        return rust_program(ORIGINAL if column == THEIRS else None)
     folder = TemporaryDirectory(prefix="counts-")
     path = Path(folder.name, "accesses")
-    if column not in (BY_HAND, LIBRARY):
-        name = "console" if column in CONSOLE_COLUMNS else "accesses"
-        features = ["bare"] if column == PORT else []
-        crate = ORIGINAL if column == THEIRS else None
-        comparison = Comparison(Path(rust_folder(crate).name, "accesses"), crate, name, features)
-        built = comparison.build(**RUST_FLAGS)
-        assert built.returncode == 0, built.stdout
-        shutil.copy(comparison.program, path)
-        return Program(path, folder)
     port = ["-DBY_HAND", COMPARISON / "uart.c"] if column == BY_HAND else [C_LIBRARY]
     check(["gcc", *C_FLAGS, COMPARISON / "accesses.c", *port, "-o", path], "")
     return Program(path, folder)
