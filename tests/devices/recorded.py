@@ -4,6 +4,7 @@ and every answer of the objects in every state."""
 import lzma
 import random
 import re
+from functools import cache
 from itertools import product
 
 from board import FIFO_SIZE, Board
@@ -19,6 +20,8 @@ RUN = 40   # calls of a random run
 BEHAVIOURS = [*[""] * 6, *"12nfui", "1 2", "1 f", "1 u", "2 n"]
 # The lines of scripts that recorded calls share.
 SHARED = ("sr", "sw", "sq", "si", "sc", "cr", "cw", "kr", "kw")
+# A call, and the words after it.
+WITH_WORDS = re.compile("(.*?)((?: [12nfiu])*)")
 CONTROLLER_CALLS = table_of("k", LINES)
 
 
@@ -32,18 +35,24 @@ def clock_text(state):
     return " ".join([f"{state['LR']:08x}", str(state["offset"]), *numbers, *["armed"] * state["armed"]])
 
 
+@cache   # most calls come again and again, and on each model
+def read(call):
+    """The name of a call, the method of a board that makes it with its arguments, and the words after it."""
+    line, words = WITH_WORDS.fullmatch(call).groups()
+    name, *fields = line.split(" ")
+    if name in SHARED:
+        return name, *call_of(line.replace(" -", "")), words
+    return name, f"call_{name}", *fields, words
+
+
 class Recorder(Board):
     """A board whose objects behave in a call as the words after it say, and whose calls are logged."""
 
     def make(self, call):
         """What stands after ` = ` in a line of a recording, of what stands before."""
-        line, self.words = re.fullmatch("(.*?)((?: [12nfiu])*)", call).groups()
-        self.did, (name, *fields) = [], line.split(" ")
-        if name in SHARED:
-            shared, *values = call_of(line.replace(" -", ""))
-            reply = getattr(self, shared)(*values)
-        else:
-            reply = getattr(self, f"call_{name}")(*fields)
+        name, method, *arguments, self.words = read(call)
+        self.did = []
+        reply = getattr(self, method)(*arguments)
         if reply == "reset":
             reply = "ok" if self.line() else "trigger"
         if reply == "invalid":
