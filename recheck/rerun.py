@@ -66,12 +66,13 @@ def translated(root: Path, around: bool = True) -> tuple[dict[str, str], list[st
     """The generated files, with all functions, and the Coq names of the public ones. `around` is whether manifests and
     the header count."""
     left, build_script = left_out()
+    if around:
+        check_manifests(root, build_script)
     c_functions = safe_part(source(root / CRATES["c"] / "lib.rs"), left["c"][Path("lib.rs")])
     if [*(root / CRATES["c"]).iterdir()] != [root / CRATES["c"] / "lib.rs"]:
         raise rust2coq.Refused(f"{CRATES['c']}: more than lib.rs")
     crate = rust2coq.Crate(root / CRATES["core"], c_functions, left["core"])
     if around:
-        check_manifests(root, build_script)
         check_header(root, crate)
     functions = sorted(name for name, item in crate.functions.items() if item.public)
     types, code = rust2coq.translate(crate, [*functions, *crate.functions])

@@ -163,7 +163,7 @@ class Statements:
         asked = [f"{'Print ' if name in printed else 'Check @'}Recheck.{name}. Check I." for name in names]
         lines = [line for settings in ways for line in [*settings, *asked]]
         said = re.sub(r"^\n?Arguments .*(?:\n .*)*\n", "", self.said(*lines, *more), flags=re.M)
-        *found, last = (re.sub(r" +$", "", text, flags=re.M).strip() for text in said.split(SEPARATOR))
+        *found, last = map(trimmed, said.split(SEPARATOR))
         parts = [found[place:place + len(names)] for place in range(0, len(found), len(names))]
         return [dict(zip(names, part, strict=True)) for part in parts], last
 
@@ -253,6 +253,11 @@ class Statements:
             add("statements.txt", title, [name for name in left if name not in read])
         parts["statements.txt"].append(f"All of both files, with what Coq does not show of it: {self.sum}\n")
         return {file: "\n".join(texts) for file, texts in parts.items()}
+
+
+def trimmed(text: str) -> str:
+    """The text without the spaces at the ends of its lines, or lines around it."""
+    return "\n".join(line.rstrip(" ") for line in text.split("\n")).strip()
 
 
 def paragraph(text: str) -> str:

@@ -10,6 +10,7 @@ run once, at the import. Coq computes the first case that is translated in anoth
 edit, up to seven more.
 """
 import importlib
+import os
 import re
 import subprocess
 import sys
@@ -24,6 +25,7 @@ from coq_text import RECHECK, words
 from harness import LIMIT
 from test_translator_of_shell import COQ, SCRIPTS
 
+import coq
 import rust2coq
 import shell2coq
 
@@ -368,13 +370,21 @@ def results(cases, folder):
         body = "\n".join(line for line in text.splitlines() if not line.startswith("Require"))
         shown = "rs_case" if kind is of_device else f"(map show [{'; '.join(map(str, SCRIPTS))}])"
         lines.append(f"Module {name}.\n{body}\nTimeout {LIMIT} Compute ({at}, {shown}).\nEnd {name}.")
-    run = subprocess.run(["coqtop", "-q", "-w", "none"], input="\n".join(lines), cwd=folder, capture_output=True,
-                         text=True)
+    run = subprocess.run(["coqtop", "-q", "-w", "none"], input="\n".join(lines), cwd=folder, env=os.environ | coq.HEAP,
+                         capture_output=True, text=True)
     said = re.findall(r"^ +=\s+\((\d+),\s+(.*?)\)\s+:", run.stdout, re.M | re.S)
     return {int(at): " ".join(result.split()) for at, result in said}
 
 
+@pytest.fixture
+def compiled_once(tmp_path, monkeypatch):
+    """An edited file has its importers imported again. Python compiles each of these once."""
+    monkeypatch.setattr(sys, "pycache_prefix", str(tmp_path / "compiled"))
+    monkeypatch.setattr(sys, "dont_write_bytecode", False)
+
+
 @pytest.mark.needs("coq")
+@pytest.mark.usefixtures("compiled_once")
 def test_broken_rules(tmp_path):
     cases = tmp_path / "cases"
     write_cases(cases)

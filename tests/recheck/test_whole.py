@@ -5,6 +5,7 @@ import os
 import re
 import shutil
 import subprocess
+from functools import cache
 
 import pytest
 from harness import at_least, run
@@ -13,6 +14,7 @@ from test_plants import C_FUNCTIONS, DEVICES, ROOT, SHELL, copy_sources
 import expanded
 import rerun
 import rust2coq
+import rust_tokens
 
 CORE = "rust/superio/src/"
 QUICK = "pub(crate) fn guest_time(_offset: i64, time: u32) -> u32 {\n    time\n}\n"
@@ -179,6 +181,14 @@ CHANGES |= {
     "two structs of one name in C": ([(C_FUNCTIONS, "", "\n#[repr(C)]\npub struct Rtc {\n    pub lr: u32,\n}\n")], "superio.h: superio_rtc twice"),
     "a field that the header lacks": (in_header("    uint8_t scratch; ", "    "), "superio.h: superio_serial: "),
 }
+
+
+@pytest.fixture(scope="module", autouse=True)
+def tokens_once():
+    """Each case changes a file or two. The tokens of the others are made once: no reader changes a token."""
+    with pytest.MonkeyPatch.context() as patch:
+        patch.setattr(rust_tokens, "tokens", cache(rust_tokens.tokens))
+        yield
 
 
 @pytest.fixture(scope="module")
