@@ -131,6 +131,7 @@ installcheck-rust:
 DIST = dist
 PYTHON = python3
 crates = superio-$(version)-rust
+targets = $(notdir $(wildcard prebuilt/*-linux))
 dist:
 	@if [ -e "$(DIST)" ]; then echo "$(DIST) is there already"; exit 1; fi
 	if [ "$$(git status --porcelain)" ]; then echo "the checkout is not clean"; git status --porcelain; exit 1; fi
@@ -151,17 +152,20 @@ dist:
 	}
 	git -c tar.umask=0022 archive --prefix=fimolavand-$(version)/ HEAD | tar --extract --directory="$$place"
 	pack fimolavand-$(version)
-	cd "$$tree/bindings/python"
-	unset PYTHONDONTWRITEBYTECODE # setuptools warns of it
-	build() {
-	    $(PYTHON) -c "from setuptools import build_meta; build_meta.$$1('$$out')" > /dev/null
-	}
-	build build_sdist
-	for target in $(notdir $(wildcard prebuilt/*-linux)); do
+	for target in $(targets); do
 	    $(MAKE) -s -C "$$tree" install DESTDIR="$$place" PREFIX=/superio-$(version)-$$target TARGET=$$target
 	    pack superio-$(version)-$$target
-	    _PYTHON_HOST_PLATFORM=linux-$${target%-linux} build build_wheel
 	done
+	cd "$$tree/bindings/python"
+	unset PYTHONDONTWRITEBYTECODE # setuptools warns of it
+	# One Python builds all, because its start takes longer than a wheel does. Make leaves no line of it indented.
+	$(PYTHON) - "$$out" $(targets:-linux=) > /dev/null <<- END
+		import os, sys
+		from setuptools import build_meta
+		_, out, *machines = sys.argv
+		build_meta.build_sdist(out)
+		for machine in machines: os.environ["_PYTHON_HOST_PLATFORM"] = f"linux-{machine}"; build_meta.build_wheel(out)
+	END
 	cp -rL ../../rust/vm-superio ../../rust/superio "$$place/$(crates)"
 	pack $(crates)
 	cd ../js
