@@ -28,8 +28,7 @@ ARCHIVES = [f"fimolavand-{VERSION}", f"superio-{VERSION}-rust", *(f"superio-{VER
 WHEEL = "superio-{0}-py3-none-manylinux_2_17_{1}.manylinux2014_{1}.musllinux_1_1_{1}.whl"
 FILES = [*(f"{name}.tar.gz" for name in ARCHIVES), f"superio-{VERSION}.tar.gz", f"superio-{VERSION}.tgz",
          f"superio-{VERSION}.html", *(WHEEL.format(VERSION, target.partition("-")[0]) for target in TARGETS)]
-# Packages that are less compressed are built in less time.
-OF_DEBIAN = {**os.environ, "PATH": "/usr/sbin:/usr/bin:/sbin:/bin", "DPKG_DEB_COMPRESSOR_LEVEL": "0"}
+OF_DEBIAN = {**os.environ, "PATH": "/usr/sbin:/usr/bin:/sbin:/bin"}
 
 
 def another_user():
@@ -39,22 +38,11 @@ def another_user():
 
 
 @pytest.fixture(scope="module")
-def quick(tmp_path_factory):
-    """A folder of programs that compress less than they are told to, in less time."""
-    folder = tmp_path_factory.mktemp("quick")
-    for name, level in ("gzip", "-1"), ("xz", "-0"):
-        (folder / name).write_text(f'#!/bin/sh\nexec /usr/bin/{name} "$@" {level}\n', encoding="ascii")
-        (folder / name).chmod(0o755)
-    folder.chmod(0o755)   # another user calls them, too
-    return folder
-
-
-@pytest.fixture(scope="module")
-def releases(tmp_path_factory, quick):
+def releases(tmp_path_factory):
     """Two releases, in other folders, at other times, for other users. Gives the folder with the trees and the
     releases."""
     folder = tmp_path_factory.mktemp("releases")
-    own = {**os.environ, "GIT_COMMITTER_DATE": f"{MOMENT} +0000", "PATH": f"{quick}:{os.environ['PATH']}"}
+    own = {**os.environ, "GIT_COMMITTER_DATE": f"{MOMENT} +0000"}
     other = {**own, "TZ": "Asia/Tokyo", "LC_ALL": "C", "USER": "other", "HOME": str(folder)}
     for made, user, mask, environment in ("one", [], "022", own), ("two", another_user(), "077", other):
         tree = folder / f"the tree of {made}"
@@ -178,11 +166,15 @@ def commands_for_debian():
 
 
 @pytest.fixture(scope="module")
-def debian(releases, quick):
+def debian(releases):
     """The folder of a source package without the libraries, unpacked."""
     tree = releases / "debian" / f"fimolavand-{VERSION}"
     tree.parent.mkdir()
     shutil.copy(releases / "one" / f"{tree.name}.tar.gz", tree.parent)
+    quick = releases / "quick"   # an xz that compresses less, in half of the time
+    quick.mkdir()
+    (quick / "xz").write_text('#!/bin/sh\nexec /usr/bin/xz "$@" -0\n', encoding="ascii")
+    (quick / "xz").chmod(0o755)
     check(["sh", "-ec", commands_for_debian()[0]], cwd=tree.parent,
           env={**OF_DEBIAN, "PATH": f"{quick}:{OF_DEBIAN['PATH']}"})
     return tree
