@@ -38,7 +38,9 @@ static uint64_t number(int place) { return strtoull(words[place], NULL, 16); }
 
 #define add(text, ...) sprintf((text) + strlen(text), __VA_ARGS__)
 
-/* Without `add`, which goes over all of the reply each time: an emulator takes long for a console's 4,096 bytes. */
+/* What most calls do is without `add`, for which an emulator takes long. */
+static void add_text(char *text, const char *more) { strcat(text, more); }
+
 static void add_bytes(const void *bytes, size_t count) {
     char *end = reply + strlen(reply);
     for (size_t i = 0; i < count; i++) {
@@ -46,6 +48,15 @@ static void add_bytes(const void *bytes, size_t count) {
         *end++ = DIGITS[((const uint8_t *)bytes)[i] & 15];
     }
     *end = '\0';
+}
+
+/* A number of up to eight bits has two digits, and one of more bits has more. */
+static void add_number(size_t number) {
+    uint8_t byte = (uint8_t)number;
+    if (number > 0xFF)
+        add(reply, "%zx", number);
+    else
+        add_bytes(&byte, 1);
 }
 
 /* Nobody may touch the pages beside those. */
@@ -61,7 +72,7 @@ static void *beside_guard(int page, size_t size) {
     return memory + page * PAGE + (line_number % 2 == 0 ? 0 : PAGE - size);
 }
 
-static int value_of(char digit) { return (int)(strchr(DIGITS, digit) - DIGITS); }
+static int value_of(char digit) { return digit <= '9' ? digit - '0' : digit - 'a' + 10; }
 
 /* The bytes of a word, or NULL if there are none. */
 static uint8_t *bytes_of(const char *digits, size_t *count) {
@@ -77,7 +88,7 @@ static uint8_t *bytes_of(const char *digits, size_t *count) {
 /* The first call is refused if `1` stands in the line, and the second if `2` does. */
 static bool trigger(void) {
     bool is_refused = strchr(behaviour, '1' + trigger_calls++) != NULL;
-    add(events, is_refused ? " R" : " T");
+    add_text(events, is_refused ? " R" : " T");
     return !is_refused;
 }
 
@@ -88,7 +99,7 @@ static bool send(uint8_t byte) {
         add(events, " W%02x", byte);
     if (strpbrk(behaviour, "nf"))
         return false;
-    add(events, " F");
+    add_text(events, " F");
     return !strchr(behaviour, 'u');
 }
 
@@ -119,15 +130,17 @@ static void reply_port(void) {
     uint8_t saved[SUPERIO_SERIAL_SAVED_MAX];
     size_t held = superio_serial_save(port, saved) - HEADER - REGISTERS;
     add_bytes(saved + HEADER, REGISTERS);
-    add(reply, held == 0 ? " -" : " ");
+    add_text(reply, held == 0 ? " -" : " ");
     add_bytes(saved + HEADER + REGISTERS, held);
-    add(reply, " %02zx", superio_serial_fifo_capacity(port));
+    add_text(reply, " ");
+    add_number(superio_serial_fifo_capacity(port));
 }
 
 static void serial_read(void) {
     superio_serial_read_effects done = superio_serial_read(port, (uint8_t)number(1));
-    add(reply, "%02x", done.byte);
-    add(events, "%s%s", done.in_buffer_empty ? " e" : "", done.buffer_read ? " b" : "");
+    add_number(done.byte);
+    add_text(events, done.in_buffer_empty ? " e" : "");
+    add_text(events, done.buffer_read ? " b" : "");
 }
 
 static void serial_write(void) {
@@ -135,8 +148,8 @@ static void serial_write(void) {
     superio_serial_write_effects done = superio_serial_write(port, (uint8_t)number(1), value);
     bool is_sent = !done.sends || send(value);
     if (done.sends)
-        add(events, is_sent ? " o" : " l");
-    add(reply, !request(done.interrupts) ? "trigger" : is_sent ? "ok" : "io");
+        add_text(events, is_sent ? " o" : " l");
+    add_text(reply, !request(done.interrupts) ? "trigger" : is_sent ? "ok" : "io");
 }
 
 static void serial_enqueue(void) {
@@ -144,11 +157,11 @@ static void serial_enqueue(void) {
     const uint8_t *bytes = bytes_of(words[1], &count);
     superio_serial_enqueue_effects done = superio_serial_enqueue(port, bytes, count);
     if (done.fifo_full)
-        add(reply, "full");
+        add_text(reply, "full");
     else if (request(done.interrupts))
-        add(reply, "%02zx", done.accepted);
+        add_number(done.accepted);
     else
-        add(reply, "trigger");
+        add_text(reply, "trigger");
 }
 
 /* A port takes the place of this one if its interrupts are not refused. */
@@ -159,7 +172,7 @@ static void restore(superio_serial restored) {
         reply_port();
     } else {
         *port = before;
-        add(reply, "trigger");
+        add_text(reply, "trigger");
     }
 }
 
@@ -180,7 +193,7 @@ static void serial_state(void) {
     memcpy(&restored, bytes_of(words[1], &count), REGISTERS);
     const uint8_t *bytes = bytes_of(words[2], &count);
     if (count > SUPERIO_SERIAL_FIFO_SIZE) {
-        add(reply, "full");
+        add_text(reply, "full");
         return;
     }
     restored.head = (uint8_t)line_number;
@@ -201,17 +214,18 @@ static void carry_out(superio_console_work work) {
             add(events, " a refusal that leaves something else");
         work.wakes |= refused.wakes;
     }
-    add(events, "%s%s", work.is_up ? " up" : "", work.wakes ? " wake" : "");
+    add_text(events, work.is_up ? " up" : "");
+    add_text(events, work.wakes ? " wake" : "");
 }
 
 static void finish(superio_console_work work) {
-    add(reply, "ok");
+    add_text(reply, "ok");
     carry_out(work);
 }
 
 static void console_read(void) {
     superio_console_read_effects done = superio_console_read(console, (uint8_t)number(1));
-    add(reply, "%02x", done.byte);
+    add_number(done.byte);
     carry_out(done.work);
 }
 
@@ -224,7 +238,7 @@ static void console_receive(void) {
     size_t count;
     const uint8_t *bytes = bytes_of(words[1], &count);
     superio_console_receive_effects done = superio_console_receive(console, bytes, count);
-    add(reply, "%02zx", done.accepted);
+    add_number(done.accepted);
     carry_out(done.work);
 }
 
@@ -232,7 +246,7 @@ static void console_output(void) {
     size_t count = (size_t)number(1);
     uint8_t *bytes = count > 0 ? (uint8_t *)beside_guard(BYTES_PAGE, count) : NULL;
     count = superio_console_output(console, bytes, count);
-    add(reply, count == 0 ? "-" : "");
+    add_text(reply, count == 0 ? "-" : "");
     add_bytes(bytes, count);
 }
 
@@ -277,17 +291,17 @@ static void clock_state(void) {
 
 static void clock_read(void) {
     superio_rtc_read_effects done = superio_rtc_read(rtc, (uint16_t)number(2), number(1));
-    add(events, done.invalid_read ? " i" : "");
+    add_text(events, done.invalid_read ? " i" : "");
     if (done.invalid_read && done.value == 0)
-        add(reply, "a5a5a5a5");
+        add_text(reply, "a5a5a5a5");
     else
         add(reply, "%08" PRIx32, done.value);
 }
 
 static void clock_write(void) {
     if (superio_rtc_write(rtc, (uint16_t)number(2), (uint32_t)number(3), number(1)).invalid_write)
-        add(events, " j");
-    add(reply, "ok");
+        add_text(events, " j");
+    add_text(reply, "ok");
 }
 
 static void save(void) {
@@ -321,14 +335,15 @@ static void load(void) {
     uint32_t status = *words[0] == 's' ? superio_serial_load(port, bytes, count)
                     : *words[0] == 'l' ? superio_console_load(console, bytes, count)
                                        : superio_rtc_load(rtc, bytes, count);
-    strcat(reply, status < sizeof WORDS / sizeof *WORDS ? WORDS[status] : "no status");
+    add_text(reply, status < sizeof WORDS / sizeof *WORDS ? WORDS[status] : "no status");
     if (status == SUPERIO_LOAD_UNKNOWN_VERSION && *words[0] != 'l')
         add(reply, " %02x", bytes[5]);
 }
 
-static void answer(bool is_taken) { add(reply, is_taken ? "ok" : "trigger"); }
+static void answer(bool is_taken) { add_text(reply, is_taken ? "ok" : "trigger"); }
 
-#define IS(name) (strcmp(words[0], name) == 0)
+/* Each name has two letters, which are compared faster than by `strcmp`. */
+#define IS(name) (words[0][0] == (name)[0] && words[0][1] == (name)[1] && words[0][2] == '\0')
 
 static void make_call(void) {
     if (IS("sr")) serial_read();
@@ -341,8 +356,8 @@ static void make_call(void) {
     else if (IS("sl") && words[2]) serial_state();
     else if (IS("sl") || IS("ll") || (IS("cl") && !words[2])) load();
     else if (IS("sb") || IS("lb") || IS("cb")) save();
-    else if (IS("sc")) add(reply, "%02zx", superio_serial_fifo_capacity(port));
-    else if (IS("sh")) add(reply, "%02x", superio_serial_interrupt_line(port));
+    else if (IS("sc")) add_number(superio_serial_fifo_capacity(port));
+    else if (IS("sh")) add_number(superio_serial_interrupt_line(port));
     else if (IS("sf")) add(reply, "%02x", superio_serial_is_coherent(port));
     else if (IS("cr")) clock_read();
     else if (IS("cw")) clock_write();
@@ -350,21 +365,21 @@ static void make_call(void) {
     else if (IS("cd") && superio_rtc_alarm_due(rtc, number(1)) == SUPERIO_RTC_NEVER) add(reply, "never");
     else if (IS("cd")) add(reply, "%08" PRIx64, superio_rtc_alarm_due(rtc, number(1)));
     else if (IS("ch")) add(reply, "%02x", superio_rtc_interrupt_line(rtc));
-    else if (IS("ln")) superio_console_new(console, words[1] != NULL), add(reply, "ok");
+    else if (IS("ln")) superio_console_new(console, words[1] != NULL), add_text(reply, "ok");
     else if (IS("lr")) console_read();
     else if (IS("lw")) finish(superio_console_write(console, (uint8_t)number(1), (uint8_t)number(2)));
     else if (IS("la")) console_wants();
     else if (IS("lq")) console_receive();
     else if (IS("lo")) console_output();
-    else if (IS("lc")) superio_console_consume(console, (size_t)number(1)), add(reply, "ok");
+    else if (IS("lc")) superio_console_consume(console, (size_t)number(1)), add_text(reply, "ok");
     else if (IS("li")) add(reply, "%02x %" PRIx64, superio_console_is_full(console), superio_console_dropped(console));
     else if (IS("lt")) finish(superio_console_turn(console));
     else if (IS("lf")) finish(superio_console_refuse(console));
     else if (IS("lz")) finish(superio_console_reset(console));
-    else if (IS("ls")) superio_console_suspend(console), add(reply, "ok");
+    else if (IS("ls")) superio_console_suspend(console), add_text(reply, "ok");
     else if (IS("lp")) finish(superio_console_set_polled(console, number(1) != 0));
     else if (IS("lx")) console_struct();
-    else if (IS("kr")) add(reply, "%02x", superio_i8042_read((uint8_t)number(1)));
+    else if (IS("kr")) add_number(superio_i8042_read((uint8_t)number(1)));
     else if (IS("kw")) answer(!superio_i8042_write((uint8_t)number(1), (uint8_t)number(2)).resets || trigger());
 }
 
@@ -398,7 +413,9 @@ int main(void) {
         char *equals = strstr(line, " = ");
         if (!equals)
             continue;
-        line[strcspn(line, "\n")] = '\0';
+        char *end = strchr(equals, '\n');
+        if (end)
+            *end = '\0';
         memcpy(text, line, (size_t)(equals - line));
         text[equals - line] = '\0';
         line_number++;

@@ -111,7 +111,7 @@ static uint32_t interface; /* of the library */
 #undef superio_console_wants
 
 enum { MACHINES = 2, THREADS = 5, FILES = 10, FIRST_FILE = 100, ROOM = 100, ROOM_OF_PIPE = 3, STACK = 1 << 18 };
-enum { ACCESSES = 1000, MOST_STEPS = 5000000 };
+enum { ACCESSES = 1000, MOST_STEPS = 1000000 }; /* a good monitor's world takes 63,000 */
 enum ending { BY_FILE, BY_TIME, BY_SIGNAL }; /* of a poll */
 
 /* What the rules are about, and what happens to it. */

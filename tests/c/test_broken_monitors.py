@@ -53,5 +53,5 @@ def test_a_monitor_that_breaks_a_rule(said, edit, tmp_path):
     text = (ROOT / "examples/c/monitor.c").read_text(encoding="utf-8")
     assert text.count(edit[0]) == 1
     (tmp_path / "monitor.c").write_text(text.replace(*edit), encoding="utf-8")
-    ran = run_rules(tmp_path / "monitor.c", tmp_path)
+    ran = run_rules(tmp_path / "monitor.c", tmp_path, "-O0")
     assert ran.returncode == 1 and re.fullmatch(rf"world \d+: {said}\n", ran.stdout), ran.stdout

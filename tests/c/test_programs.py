@@ -34,6 +34,7 @@ from toolchains import toolchain_for
 
 HERE = Path(__file__).parent
 LOADED_CALLS, RUNS, ROUNDS = 20_000, 2_500, 60
+LOADED_STATES = 6_800   # of which as many differ as have so many calls
 DEMO = at_least(210, re.findall(r"^\w.*", (HERE / "demo.txt").read_text("ascii"), re.M))
 OTHERS = ["s390x", "arm"]   # for which there is only the library from source
 WORDS_OF_32_BITS = ["arm"]
@@ -43,7 +44,7 @@ def loads():
     """Loads into new devices, as lines of scripts. At the end the devices are new again: what comes next may begin with a
     load that is refused."""
     fresh = [("load", bytes.fromhex(Board().save())), ("clock_load", bytes.fromhex(Board().clock_save()))]
-    calls = [*fresh, *[*every_load()][:LOADED_CALLS], *fresh]
+    calls = [*fresh, *at_least(LOADED_CALLS, every_load(LOADED_STATES))[:LOADED_CALLS], *fresh]
     return "".join(f"{line_of(*call)} = {reply}\n" for call, reply in zip(calls, replies_of(Board(), calls)))
 
 

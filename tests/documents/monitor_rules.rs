@@ -177,7 +177,13 @@ fn input_that_does_not_fit_comes_later() {
     spawn(move || source.write_all(&(0..MANY).map(|number| number as u8).collect::<Vec<u8>>()).unwrap());
     trial.put(1, 0x01);
     for number in 0..MANY {
-        while !trial.is_held() {}
+        let mut polls = 0;
+        while !trial.is_held() {
+            polls += 1;
+            if polls % 20 == 0 {
+                sleep(MOMENT / 1000); // otherwise the guest takes the processor, and the lock, from the loop
+            }
+        }
         assert_eq!(trial.monitor.read_access(0), number as u8, "input of {number} bytes before");
     }
     trial.end();

@@ -199,26 +199,33 @@ FORGETFUL += [("a limit is by a clock that can be set", edit) for edit in (
     ("pthread_condattr_setclock(&attributes, CLOCK_MONOTONIC);", ";"))]
 
 
-def watched(program, folder):
+@pytest.fixture(scope="module")
+def watch(tmp_path_factory):
+    """What console_rules.c compiles to, which is the same beside each program."""
+    folder = tmp_path_factory.mktemp("watch")
+    compile_c(folder, "watch", WATCH.read_text(encoding="utf-8"), "-c")
+    return folder / "watch.o"
+
+
+def watched(program, watch, folder):
     """What console_rules.c says of a program like that of the page, and its status."""
-    (folder / "watch.c").write_bytes(WATCH.read_bytes())
-    compile_c(folder, "console", program, "watch.c", LIBRARY, *WRAPPED, "-pthread", "-o", "console")
+    compile_c(folder, "console", program, watch, LIBRARY, *WRAPPED, "-pthread", "-o", "console")
     ran = run([folder / "console"], input=MANY, stdout=subprocess.DEVNULL, stderr=subprocess.PIPE)
     return ran.returncode, ran.stderr
 
 
 @pytest.mark.needs("cc")
-def test_rules_of_the_event_loop(tmp_path):
+def test_rules_of_the_event_loop(watch, tmp_path):
     """It keeps those of superio.h, whatever the interrupt line refuses and however long its reader takes nothing."""
-    assert watched(code("docs/C.md", "c", "int main"), tmp_path) == (0, "held 1, refused 1, dropped 1\n")
+    assert watched(code("docs/C.md", "c", "int main"), watch, tmp_path) == (0, "held 1, refused 1, dropped 1\n")
 
 
 @pytest.mark.needs("cc")
 @pytest.mark.parametrize("rule, edit", FORGETFUL, ids=lambda value: value if isinstance(value, str) else "")
-def test_an_event_loop_that_breaks_a_rule(rule, edit, tmp_path):
+def test_an_event_loop_that_breaks_a_rule(rule, edit, watch, tmp_path):
     program = code("docs/C.md", "c", "int main")
     assert program.count(edit[0]) == 1
-    assert watched(program.replace(*edit), tmp_path) == (3, f"{rule}\n")
+    assert watched(program.replace(*edit), watch, tmp_path) == (3, f"{rule}\n")
 
 
 # How the input and the output fail. 0 is the end of the input.
