@@ -1,5 +1,5 @@
 # SPDX-License-Identifier: Apache-2.0 OR BSD-3-Clause
-"""Linux's own driver of a PL031 over a clock of the C library, in a monitor by docs/USING.md.
+"""Linux's own driver of a PL031 over a clock of the C library, in a monitor by docs/CLOCK.md.
 
 In random exchanges a time that was set goes on, and an alarm interrupts at its time and not before. README.md beside this
 file says what is compiled.

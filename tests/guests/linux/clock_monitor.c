@@ -84,7 +84,7 @@ static void expect_read(unsigned offset, uint32_t value) {
     }
 }
 
-/* ---- the monitor, by docs/USING.md, 'A clock with an interrupt line' */
+/* ---- the monitor, by docs/CLOCK.md, 'The alarm' */
 
 static superio_rtc device;
 static bool line;
