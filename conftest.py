@@ -6,7 +6,6 @@ Debian 12 to install. Only --without leaves tests out. What no package of Debian
 `@pytest.mark.where("kvm")`: such a test runs where that is there. Any other skip, and any expected failure, fails. The
 last lines name all that was not tried, and why.
 """
-import gc
 import os
 import platform
 import random
@@ -78,14 +77,6 @@ def pytest_configure(config):
         raise pytest.UsageError(f"--without: there is no tool {', '.join(sorted(unknown))}")
     if time.localtime(0).tm_gmtoff != 19_800:
         raise pytest.UsageError(f"there is no zone {os.environ['TZ']}, in which local time is not UTC: install tzdata")
-
-
-@pytest.hookimpl(hookwrapper=True)
-def pytest_collection():
-    """What is made meanwhile stays until the end. So the collector of garbage need not look at it again and again."""
-    gc.disable()
-    yield
-    gc.enable()
 
 
 def pytest_collection_modifyitems(items):

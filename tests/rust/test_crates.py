@@ -200,6 +200,24 @@ def test_sansio_is_superio(tmp_path):
     Cargo(tmp_path).check("check")
 
 
+# What a public type derives, so that a user's own type around it can, too. The types of the table derive more or less:
+# devices are no values, and some traits are written by hand.
+VALUE = {"Clone", "Copy", "Debug", "Eq", "PartialEq"}
+DERIVED = {"ArrayFifo": {"Clone", "Debug"}, "Console": {"Clone", "Debug"}, "Error": {"Debug"}, "I8042Device": {"Debug"},
+           "NoEvents": {"Clone", "Copy", "Debug"}, "OutputRing": {"Clone"}, "Pl031": {"Clone", "Debug"}, "Rtc": set(),
+           "RtcSnapshot": VALUE | {"Default"}, "RtcState": VALUE | {"Default"}, "Serial": set(),
+           "SerialEncoding": {"Clone", "Debug"}, "SerialState": VALUE - {"Copy"}, "Uart": {"Clone", "Debug"}}
+
+
+@CRATES
+def test_derived_traits(crate):
+    text = "".join(path.read_text(encoding="utf-8") for path in sorted((crate / "src").rglob("*.rs")))
+    found = re.findall(r"^((?:#\[.*\]\n)*)pub (?:struct|enum) (\w+)", text, re.M)
+    for attributes, name in at_least(10, found):
+        derived = re.findall(r"^#\[derive\((.*)\)\]", attributes, re.M)
+        assert {*", ".join(derived).split(", ")} - {""} == DERIVED.get(name, VALUE), name
+
+
 def test_a_dropped_result_warns(tmp_path):
     """The compiler warns in each line that drops a result which leaves work, and in no other."""
     code = (ROOT / "tests" / "rust" / "dropped.rs").read_text(encoding="utf-8")
