@@ -97,7 +97,8 @@ CLOCK_REFUTED = [clock(entry, fault, outcome="refuted") for entry, fault in [
 # What each check is about. The gate makes the first parts, and judge.py all.
 OF_GATE = [("the code of the page", AS_IT_STANDS), ("a rule of it broken", REFUTED)]
 OF_GATE_OF_CLOCK = [("the clock's driver", CLOCK), ("a rule of the clock broken", CLOCK_REFUTED)]
-PARTS = [*OF_GATE, *OF_GATE_OF_CLOCK,
+QUICK = [*OF_GATE, *OF_GATE_OF_CLOCK]
+PARTS = [*QUICK,
          ("without the poll's limit", WITHOUT_LIMIT), ("other kinds of ports", VARIANTS), ("the code of the page", XEN),
          ("a rule of it broken", XEN_REFUTED), ("without the poll's limit", XEN_WITHOUT_LIMIT),
          ("the clock's driver", CLOCK_OUTSIDE), ("with writes at RTCCR passed on", CLOCK_RESET)]

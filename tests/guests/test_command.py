@@ -10,6 +10,7 @@ import sys
 import tarfile
 import time
 from concurrent.futures import ThreadPoolExecutor
+from types import SimpleNamespace
 
 import cbmc
 import judge
@@ -17,6 +18,7 @@ import proofs
 import pytest
 import sources
 from debian import make_whole, replace_links
+from guest import Monitor
 
 
 def test_sums(monkeypatch, capsys):
@@ -29,22 +31,65 @@ def test_sums(monkeypatch, capsys):
         "By CBMC 6, in 9 s of a processor:\n1 of 2 proved, linux: one\n3 of 3 refuted, linux: two\n")
 
 
-@pytest.mark.parametrize("failing", ["nothing", "an exchange", "the last proof", "a version without sums"])
-def test_status(failing, tmp_path, monkeypatch, capsys):
-    """It ends with 0 only if everything was tried and passed."""
-    def run(words, **_):
+def judged(tmp_path, monkeypatch, words=(), failing="nothing"):
+    """The status of judge.py if this fails, how many exchanges each test made, which checks, and how many at a time."""
+    made = {}
+
+    def run(words, env, **_):
+        made["exchanges"] = env["GUESTS_EXCHANGES"]
         return subprocess.CompletedProcess(words, int(failing == "an exchange"))
 
-    def make(checks, *_):
+    def make(checks, command, jobs):
+        made.update(checks=checks, jobs=jobs)
         return [(True, 1)] * (len(checks) - 1) + [(failing != "the last proof", 1)]
     lacking = "xen" if failing == "a version without sums" else ""
     for module, name, value in [
-            (sys, "argv", ["judge.py"]), (sources, "KEPT", tmp_path), (sources, "told", str),
-            (cbmc, "fetched", lambda: ["cbmc"]), (cbmc, "version", lambda command: "6"), (sources, "is_recorded", lambda name: name != lacking),
-            (subprocess, "run", run), (judge, "make", make)]:
+            (sys, "argv", ["judge.py", *words]), (sources, "KEPT", tmp_path), (sources, "told", str),
+            (cbmc, "fetched", lambda: ["cbmc"]), (cbmc, "version", lambda command: "6"),
+            (sources, "is_recorded", lambda name: name != lacking), (subprocess, "run", run), (judge, "make", make)]:
         monkeypatch.setattr(module, name, value)
-    assert judge.main() == (failing != "nothing")
-    assert ("NOT TRIED: xen, " in capsys.readouterr().out) == bool(lacking)
+    return judge.main(), made["exchanges"], made["checks"], made["jobs"]
+
+
+@pytest.mark.parametrize("failing", ["nothing", "an exchange", "the last proof", "a version without sums"])
+def test_status(failing, tmp_path, monkeypatch, capsys):
+    """It ends with 0 only if everything was tried and passed."""
+    status, *_ = judged(tmp_path, monkeypatch, failing=failing)
+    assert status == (failing != "nothing")
+    assert ("NOT TRIED: xen, " in capsys.readouterr().out) == (failing == "a version without sums")
+
+
+def checks_of(parts):
+    return [check for _, checks in parts for check in checks]
+
+
+@pytest.mark.parametrize("words, exchanges, checks, jobs", [
+    ((), "20000", checks_of(proofs.PARTS), len(os.sched_getaffinity(0))),
+    (("--exchanges", "7"), "7", checks_of(proofs.PARTS), len(os.sched_getaffinity(0))),
+    (("--jobs", "3"), "20000", checks_of(proofs.PARTS), 3),
+    (("--quick",), "20000", checks_of([*proofs.OF_GATE, *proofs.OF_GATE_OF_CLOCK]), len(os.sched_getaffinity(0)))],
+    ids=lambda value: " ".join(value) if isinstance(value, tuple) else "")
+def test_each_option_reaches_its_step(words, exchanges, checks, jobs, tmp_path, monkeypatch):
+    assert judged(tmp_path, monkeypatch, words) == (0, exchanges, checks, jobs)
+
+
+# What CBMC may say: of an assertion, of a loop's end, and of a place, which is reached if it is refuted.
+HOLDS, FAILS = ("some byte is read", True), ("some byte is read", False)
+WHOLE, CUT = ("unwinding assertion loop 0", True), ("unwinding assertion loop 0", False)
+REACHED, NOT_REACHED = ("reached: the end", False), ("reached: the end", True)
+VERDICTS = [("proved", [HOLDS, WHOLE, REACHED], True), ("proved", [HOLDS, FAILS, REACHED], False),
+            ("proved", [HOLDS, CUT, REACHED], False), ("proved", [HOLDS, REACHED, NOT_REACHED], False),
+            ("proved", [HOLDS, WHOLE], False), ("proved", [], False),
+            ("refuted", [HOLDS, FAILS, WHOLE], True), ("refuted", [FAILS, NOT_REACHED], True),
+            ("refuted", [HOLDS, WHOLE, REACHED], False), ("refuted", [FAILS, CUT], False),
+            ("refuted", [HOLDS, CUT], False), ("refuted", [], False)]
+
+
+@pytest.mark.parametrize("outcome, said, is_met", VERDICTS, ids=str)
+def test_what_meets_a_check(outcome, said, is_met):
+    """All is proved and each place reached, of which there is one at least; or, with no loop cut, something is refuted."""
+    driver = SimpleNamespace(verify=lambda *_: said)
+    assert proofs.Check("any", Monitor(proofs.EDGES), outcome=outcome).is_met(driver, ["cbmc"]) == is_met
 
 
 # Seconds since Debian's archive did not give what was needed, if it ever did not, and whether it is asked again.

@@ -191,12 +191,16 @@ const SEEN = {
 /** The start of an element as a text. */
 const start = (one) => one.outerHTML.slice(0, 90);
 
-/** Tries a feature, of a name, steps and what is seen. What is hidden may not be seen. */
+/**
+ * Tries a feature, of a name, steps and what is seen. What is hidden may not be seen, and only a step `hash`, by which
+ * the user changes the address, adds to the browser's history.
+ */
 async function tryFeature(feature) {
   const [name, ...lines] = feature.split("\n");
   const wrong = [];
   [stops, taken] = [[], ""];
   await open(lines[0].startsWith("#") ? lines.shift() : "");
+  const entries = page.history.length + lines.filter((line) => line.startsWith("hash #")).length;
   for (const line of lines) {
     const [, what, sign, wanted] = /^([\w-]+) ([=~]) ?(.*)$/.exec(line) ?? [];
     if (what) {
@@ -208,6 +212,7 @@ async function tryFeature(feature) {
       await STEPS[step](...words);
     }
   }
+  if (page.history.length !== entries) wrong.push(`the history has ${page.history.length} entries, and not ${entries}`);
   wrong.push(...all("[hidden]").filter((one) => one.checkVisibility()).map((one) => `this is seen: ${start(one)}`));
   tell("feature", name, wrong);
 }
