@@ -1,9 +1,11 @@
 /* SPDX-License-Identifier: Apache-2.0 OR BSD-3-Clause */
 /* The clock and the bus of machine.c, which stands at MACHINE. After each step the line has to have the level that the
  * clock gives, and the timer has to go off when the alarm is due. The first step after which one of them does not is
- * named, and ends the program with status 1. */
+ * named, and ends the program with status 1. So does a call of a device, or a moment, without the lock: CALLS has each
+ * call of a machine's devices look for it. */
 #define _GNU_SOURCE
 #include <poll.h>
+#include <pthread.h>
 #include <stdio.h>
 #include <stdlib.h>
 #include <sys/timerfd.h>
@@ -15,18 +17,41 @@
  * CLOCK_BOOTTIME, on which timers really run. */
 enum { TIME_OF_DAY = 1700000000, SLEPT = 5000 };
 
+static bool has_lock; /* the machine's, or nobody else has the machine yet */
+
+static void need_lock(void) {
+    if (has_lock)
+        return;
+    puts("a device is used without the lock");
+    exit(1);
+}
+#define pthread_mutex_lock(mutex) (has_lock = pthread_mutex_lock(mutex) == 0)
+#define pthread_mutex_unlock(mutex) (has_lock = pthread_mutex_unlock(mutex) != 0, go_on((struct machine *)(mutex)))
+CALLS
 static int clock_of_host(clockid_t which, struct timespec *now) {
     int done = clock_gettime(CLOCK_BOOTTIME, now);
+    if (which == CLOCK_BOOTTIME) /* for a moment */
+        need_lock();
     now->tv_sec += which == CLOCK_REALTIME ? TIME_OF_DAY : which == CLOCK_MONOTONIC ? -SLEPT : 0;
     return done;
 }
 #define clock_gettime clock_of_host
 
+/* The event loop polls once. */
+static bool *is_to_stop;
+static int poll_once(struct pollfd *files, nfds_t count, int timeout) {
+    *is_to_stop = true;
+    return poll(files, count, 0 * timeout);
+}
+#define poll poll_once
+
 struct machine;
+static void go_on(struct machine *machine);
 static void set_clock_line(struct machine *machine, bool is_up);
 
 MACHINE
 
+#undef poll
 enum { DAY = 86400 };
 
 static bool line;  /* as the interrupt controller has it */
@@ -79,6 +104,32 @@ static bool is_present(uint64_t moment) {
     return moment + SLEPT / 2 > (uint64_t)now.tv_sec && moment <= (uint64_t)now.tv_sec;
 }
 
+/* Another thread takes the next moment as soon as the lock is free. */
+static bool others_go_on;
+static void go_on(struct machine *machine) {
+    if (others_go_on)
+        machine->now++;
+}
+
+static void open_new(struct machine *machine) {
+    has_lock = true;
+    open_machine(machine, STDIN_FILENO, STDOUT_FILENO);
+    has_lock = false;
+}
+
+/* As others do that take the lock first. */
+static void with_lock(struct machine *machine, void (*call)(struct machine *)) {
+    pthread_mutex_lock(&machine->lock);
+    call(machine);
+    pthread_mutex_unlock(&machine->lock);
+}
+
+static void go_round(struct machine *machine) {
+    is_to_stop = &machine->is_stopped;
+    event_loop(machine);
+    machine->is_stopped = false;
+}
+
 static void check_alarm(struct machine *machine) {
     write_word(machine, RTCIMSC, 1);
     expect(goes_off_in(machine) == -1 && levels == 0, "no alarm is set");
@@ -93,10 +144,10 @@ static void check_alarm(struct machine *machine) {
     expect(read_word(machine, RTCLR) != 0, "two bytes are written");
 
     machine->ahead += 3 * DAY; /* as if the days had gone by */
-    take_moment(machine);
-    follow_clock(machine);
+    with_lock(machine, take_moment);
+    with_lock(machine, follow_clock);
     expect(goes_off_in(machine) == 0 && levels == 0, "the alarm is due");
-    alarm_is_due(machine);
+    go_round(machine);
     expect(goes_off_in(machine) == -1 && line && levels == 1, "the alarm is found");
     expect(read_word(machine, RTCMIS) == 1 && levels == 1, "RTCMIS is read");
 
@@ -127,7 +178,7 @@ static void check_line_again(struct machine *machine) {
     for (int was_up = 0; was_up < 2; was_up++) {
         machine->clock_was_up = was_up;
         levels = 0;
-        follow_clock_again(machine);
+        with_lock(machine, follow_clock_again);
         expect(levels == 1 && !line, "the line is set again");
     }
 }
@@ -140,9 +191,13 @@ static int64_t restored(struct machine *machine, int64_t ahead, const char *step
     int64_t timer, today = seconds(CLOCK_REALTIME);
     write_word(machine, RTCMR, read_word(machine, 0) + DAY);
     write_access(machine, 7, 0x5A);
+    uint64_t last = machine->now;
+    others_go_on = true;
     save(machine, &saved);
+    others_go_on = false;
+    expect(saved.now == last, "the clock is saved");
     saved.now = (uint64_t)(today + ahead);
-    open_machine(&other, STDIN_FILENO, STDOUT_FILENO);
+    open_new(&other);
     levels = 0;
     expect(restore(&other, &saved), step);
     expect(read_access(&other, 7) == 0x5A, "the console is restored");
@@ -157,14 +212,14 @@ static void check_refusals(struct machine *machine) {
     static struct snapshot good, bad[3], before, after;
     static struct machine other, forged;
     save(machine, &good);
-    open_machine(&forged, STDIN_FILENO, STDOUT_FILENO);
+    open_new(&forged);
     forged.console.port.interrupt_identification = 0x04; /* RDA is pending, and no byte is held */
     save(&forged, &bad[0]);
     bad[1] = bad[2] = good;
     bad[1].count--;
     bad[2].clock[0] ^= 1;
     for (int i = 0; i < 3; i++) {
-        open_machine(&other, STDIN_FILENO, STDOUT_FILENO);
+        open_new(&other);
         other.console.port.scratch = 0xA5;
         other.clock.mr = 1;
         save(&other, &before);
@@ -181,8 +236,8 @@ static bool is_about(int64_t number, int64_t other) {
 
 int main(void) {
     static struct machine machine;
-    open_machine(&machine, STDIN_FILENO, STDOUT_FILENO);
-    take_moment(&machine);
+    open_new(&machine);
+    with_lock(&machine, take_moment);
     expect(is_present(machine.now), "the clock is opened");
     check_alarm(&machine);
     check_ports(&machine);

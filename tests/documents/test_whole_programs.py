@@ -316,8 +316,16 @@ def test_other_accesses(line, old, new, said, tmp_path):
     assert accesses(line, program.replace(old, new), tmp_path) == f"{said}\n"
 
 
+WITHOUT_LOCK = "a device is used without the lock"
 # Edits of machine.c, and the first step of clock.c that goes wrong.
-OTHER_CLOCKS = at_least(14, [
+OTHER_CLOCKS = at_least(18, [
+    ("    pthread_mutex_lock(&machine->lock);\n    take_moment(machine);\n    superio_rtc_write",
+     "    take_moment(machine);\n    pthread_mutex_lock(&machine->lock);\n    superio_rtc_write", WITHOUT_LOCK),
+    ("    follow_clock(machine);\n    pthread_mutex_unlock(&machine->lock);\n    for",
+     "    pthread_mutex_unlock(&machine->lock);\n    follow_clock(machine);\n    for", WITHOUT_LOCK),
+    ("    saved->now = machine->now;\n    /* step 7 */\n    pthread_mutex_unlock(&machine->lock);\n",
+     "    pthread_mutex_unlock(&machine->lock);\n    saved->now = machine->now;\n", "the clock is saved"),
+    ("if (files[3].revents)", "if (files[2].revents)", "the alarm is found"),
     ("if (due != SUPERIO_RTC_NEVER)\n", "if (due != 0)\n", "no alarm is set"),
     ("seconds(CLOCK_REALTIME) - seconds(CLOCK_BOOTTIME);", "seconds(CLOCK_MONOTONIC) - seconds(CLOCK_BOOTTIME);",
      "the clock is opened"),
@@ -357,7 +365,10 @@ def clock(machine, folder):
     program = (ROOT / "tests/documents/clock.c").read_text(encoding="utf-8")
     machine = edited(machine, [("int main(", "int main_of_the_page("),
                                ("static void set_clock_line(", "static void set_clock_line_of_the_page(")])
-    compile_c(folder, "clock", edited(program, [("MACHINE\n\n", machine)]), LIBRARY, "-pthread", "-o", "clock")
+    calls = at_least(14, sorted({*re.findall(r"\b(superio_\w+)\(&machine->", machine)}))
+    calls = "".join(f"#define {call}(...) (need_lock(), {call}(__VA_ARGS__))\n" for call in calls)
+    program = edited(program, [("CALLS\n", calls), ("MACHINE\n\n", machine)])
+    compile_c(folder, "clock", program, LIBRARY, "-pthread", "-o", "clock")
     return run([folder / "clock"]).stdout
 
 
