@@ -28,6 +28,7 @@ static void need_lock(void) {
 #define pthread_mutex_lock(mutex) (has_lock = pthread_mutex_lock(mutex) == 0)
 #define pthread_mutex_unlock(mutex) (has_lock = pthread_mutex_unlock(mutex) != 0, go_on((struct machine *)(mutex)))
 CALLS
+
 static int clock_of_host(clockid_t which, struct timespec *now) {
     int done = clock_gettime(CLOCK_BOOTTIME, now);
     if (which == CLOCK_BOOTTIME) /* for a moment */
@@ -40,8 +41,9 @@ static int clock_of_host(clockid_t which, struct timespec *now) {
 /* The event loop polls once. */
 static bool *is_to_stop;
 static int poll_once(struct pollfd *files, nfds_t count, int timeout) {
+    (void)timeout;
     *is_to_stop = true;
-    return poll(files, count, 0 * timeout);
+    return poll(files, count, 0);
 }
 #define poll poll_once
 

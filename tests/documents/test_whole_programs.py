@@ -6,9 +6,10 @@ import platform
 import re
 import subprocess
 import time
+from pathlib import Path
 
 import pytest
-from documents import Document
+from documents import CODE, Document
 from harness import LIMIT, ROOT, at_least, check, run
 
 PACKAGE = '[package]\nname = "hi"\nversion = "0.1.0"\nedition = "2021"\n\n'
@@ -82,11 +83,64 @@ SET_LINE = """static void set_line(bool is_up) {
 SET_BOTH = "static void set_line(bool is_up) { eventfd_write(irq, is_up ? 2 : 1); }\n"
 
 
-def code(document, language, of=""):
+# The blocks of code that a test here takes, by their document and language: of each a text that no other one has.
+TAKEN = {
+    ("README.md", "c"): ["int main"], ("README.md", "rust"): ["Console"],
+    ("README.md", "toml"): ["rust/superio", "rust/vm-superio"],
+    ("docs/C.md", "c"): ["int main", "static void port_write", "serve_exit", "STRIDE", "set_line", "bool wakes",
+                         "set_polled"],
+    ("docs/CLOCK.md", "c"): ["struct machine {", "take_moment(struct", "memory_read", "timerfd_create", "files[3]",
+                             "uint64_t host"],
+    ("docs/PORT.md", "c"): ["write_access", "set_line"],
+    ("docs/PORT.md", "rust"): ["Cell", "from_snapshot", "L: Trigger"],
+    ("docs/RATTLE.md", "rust"): ["ghost link"],
+    ("docs/RUST.md", "rust"): ["fn event_loop", "was_up.swap", "set_polled", "CONSOLE_SAVED_MAX", "RtcState",
+                               "is_reset_command"],
+    ("docs/RUST.md", "toml"): ["rust/superio", "rust/vm-superio"],
+    ("docs/SNAPSHOTS.md", "c"): ["static void save("],
+    ("rust/superio/README.md", "rust"): ["fn make_turn"],
+}
+# Those that another file of tests takes, which then has the only one of their document and language.
+TAKEN_ELSEWHERE = {
+    ("docs/C.md", "cmake"): "packages/test_installation_of_c.py",
+    ("docs/C.md", "meson"): "packages/test_installation_of_c.py",
+    ("docs/CLAIMS.md", "rust"): "documents/test_paste.py", ("docs/RELEASE.md", "toml"): "packages/test_manifests.py",
+}
+# What is no code: test_paste.py runs commands, and other tests compare what is printed.
+NO_CODE = {"console", "sh", "text"}
+PAGES = ["README.md", *sorted(f"docs/{path.name}" for path in (ROOT / "docs").glob("*.md"))]
+
+
+def blocks_of(document, language):
+    return ["\n".join([*block.lines, ""]) for block in Document(document).blocks if block.language == language]
+
+
+def code(document, language, of):
     """The one block of a document that is in a language and has a text."""
-    blocks = ["\n".join([*block.lines, ""]) for block in Document(document).blocks if block.language == language]
-    [block] = [block for block in blocks if of in block]
+    assert of in TAKEN[document, language]
+    [block] = [block for block in blocks_of(document, language) if of in block]
     return block
+
+
+@pytest.mark.parametrize("page", at_least(20, PAGES))
+def test_each_block_of_code_is_taken(page):
+    """So none stands on a page that nothing compiles or compares."""
+    for language in {block.language for block in Document(page).blocks} - NO_CODE:
+        if (page, language) in TAKEN_ELSEWHERE:
+            text = (ROOT / "tests" / TAKEN_ELSEWHERE[page, language]).read_text(encoding="utf-8")
+            assert Path(page).stem in text and f'"{language}"' in text and len(blocks_of(page, language)) == 1
+        else:
+            taken = [code(page, language, of) for of in TAKEN.get((page, language), [])]
+            assert sorted(taken) == sorted(blocks_of(page, language)), f"{page}: a block of {language} is not in TAKEN"
+
+
+def test_each_text_of_a_block_is_used():
+    """A row of TAKEN is there for a test."""
+    here = Path(__file__).read_text(encoding="utf-8")
+    for (page, _), texts in TAKEN.items():
+        for of in texts:
+            rows = sum(other == of for texts in TAKEN.values() for other in texts)
+            assert here.count(f'"{of}"') > rows, f"no test takes the block of {page} that has {of}"
 
 
 def compile_c(folder, name, source, *words):
@@ -96,7 +150,7 @@ def compile_c(folder, name, source, *words):
 
 @pytest.mark.needs("cc")
 def test_c(tmp_path):
-    compile_c(tmp_path, "hi", code("README.md", "c"), LIBRARY, "-o", "hi")
+    compile_c(tmp_path, "hi", code("README.md", "c", "int main"), LIBRARY, "-o", "hi")
     check(["./hi"], HI, cwd=tmp_path)
 
 
@@ -367,7 +421,7 @@ def clock(machine, folder):
                                ("static void set_clock_line(", "static void set_clock_line_of_the_page(")])
     calls = at_least(14, sorted({*re.findall(r"\b(superio_\w+)\(&machine->", machine)}))
     calls = "".join(f"#define {call}(...) (need_lock(), {call}(__VA_ARGS__))\n" for call in calls)
-    program = edited(program, [("CALLS\n", calls), ("MACHINE\n\n", machine)])
+    program = edited(program, [("CALLS\n\n", calls), ("MACHINE\n\n", machine)])
     compile_c(folder, "clock", program, LIBRARY, "-pthread", "-o", "clock")
     return run([folder / "clock"]).stdout
 
@@ -417,6 +471,48 @@ def test_clock_alone(tmp_path):
 @pytest.mark.parametrize("old, new, said", OTHER_CLOCKS_ALONE)
 def test_other_clocks_alone(old, new, said, tmp_path):
     assert clock_alone(tmp_path, (old, new)) == f"{said}\n"
+
+
+def machine_that_follows():
+    """machine.c with the edits of docs/CLOCK.md for guest time that follows the host's clock."""
+    named = CODE.findall(Document(CLOCK_PAGE).prose)
+    [timer], [restored] = ({text for text in named if of in text}
+                           for of in ("timerfd_create(CLOCK_REALTIME", "= saved->now;"))
+    [step] = re.findall(r"^ {8}/\* step 4 \*/\n(.*\n.*\n) {8}/\* step 5 \*/$", MACHINE, re.M)
+    return edited(MACHINE, [
+        ("    machine->now = (uint64_t)(seconds(CLOCK_BOOTTIME) + machine->ahead);\n",
+         code(CLOCK_PAGE, "c", "uint64_t host")),
+        ("timerfd_create(CLOCK_BOOTTIME, TFD_NONBLOCK)", timer), (step, f"        {restored}\n"),
+        ("    machine->ahead = seconds(CLOCK_REALTIME) - seconds(CLOCK_BOOTTIME);\n", "")])
+
+
+# Edits of that machine, and the first step of clock_follows.c that goes wrong.
+OTHER_CLOCKS_THAT_FOLLOW = at_least(4, [
+    ("    if (host > machine->now)\n    ", "", "the host's clock is set back"),
+    ("if (host > machine->now)", "if (machine->now == 0)", "the host's clock is set forward"),
+    ("timerfd_create(CLOCK_REALTIME", "timerfd_create(CLOCK_BOOTTIME", "the timer is of the host's clock"),
+    ("        machine->now = saved->now;\n", "", "a machine is restored whose time is ahead"),
+])
+
+
+def clock_that_follows(folder, *edits):
+    """What clock_follows.c says of the machine."""
+    program = (ROOT / "tests/documents/clock_follows.c").read_text(encoding="utf-8")
+    machine = edited(machine_that_follows(), [("int main(", "int main_of_the_page("), *edits])
+    compile_c(folder, "clock", edited(program, [("MACHINE\n\n", machine)]), LIBRARY, "-pthread", "-o", "clock")
+    return run([folder / "clock"]).stdout
+
+
+@pytest.mark.needs("cc")
+def test_clock_that_follows(tmp_path):
+    """Moments follow the host's clock, and never go back, even if it does."""
+    assert clock_that_follows(tmp_path) == "each step is right\n"
+
+
+@pytest.mark.needs("cc")
+@pytest.mark.parametrize("old, new, said", OTHER_CLOCKS_THAT_FOLLOW)
+def test_other_clocks_that_follow(old, new, said, tmp_path):
+    assert clock_that_follows(tmp_path, (old, new)) == f"{said}\n"
 
 
 # The handler of KVM's exits, with the lines for a serial port in memory.
@@ -474,13 +570,20 @@ def test_other_exits(old, new, said, tmp_path):
     assert exits(edited(HANDLER, [(old, new)]), tmp_path) == f"{said}\n"
 
 
-@pytest.mark.parametrize("document, of", at_least(6, [
+@pytest.mark.parametrize("document, of", at_least(5, [
     ("docs/C.md", "static void port_write"), *(("docs/CLOCK.md", of) for of in ("take_moment(struct", "files[3]", "memory_read")),
-    *(("docs/SNAPSHOTS.md", of) for of in ("static void save(", "static bool restore("))]))
+    ("docs/SNAPSHOTS.md", "static void save(")]))
 def test_code_of_the_machine(document, of):
     """The pages show machine.c as it stands: each part of a block between two empty lines is in it."""
     for part in code(document, "c", of).strip("\n").split("\n\n"):
         assert f"\n{part}\n" in MACHINE, part
+
+
+def test_trigger_of_the_example():
+    """The page shows the trigger of triggers.rt as it stands, but for comments and clauses."""
+    example = (ROOT / "crates/superio_examples/src/triggers.rt").read_text(encoding="utf-8")
+    shown = re.sub(r"^ *(?:///|ensures\b).*\n(?: {8,}.*\n)*", "", example, flags=re.M)
+    assert code("docs/RATTLE.md", "rust", "ghost link") in shown
 
 
 @pytest.mark.needs("cc")
@@ -517,10 +620,10 @@ def built(tmp_path_factory):
             "CARGO_INCREMENTAL": "0"}
 
 
-def run_rust(program, printed, typed, built, folder):
-    """Runs a program by the lines for Cargo.toml in README.md. The `Machine` of docs/PORT.md is around a guest."""
+def run_rust(program, printed, typed, built, folder, page="docs/RUST.md"):
+    """Runs a program by the lines for Cargo.toml of a page. The `Machine` of docs/PORT.md is around a guest."""
     (folder / "src").mkdir()
-    manifest = code("README.md", "toml", "rust/superio" if "use superio::" in program else "patch")
+    manifest = code(page, "toml", "rust/superio" if "use superio::" in program else "rust/vm-superio")
     words = FROM_DEBIAN if "libc::" in program else []
     manifest += LIBC if words else ""
     (folder / "Cargo.toml").write_text(PACKAGE + manifest.replace("CLONE", str(ROOT)), encoding="utf-8")
@@ -537,7 +640,9 @@ def run_rust(program, printed, typed, built, folder):
     ("docs/RUST.md", "CONSOLE_SAVED_MAX", "h"), ("docs/RUST.md", "is_reset_command", BUS),
     ("docs/RUST.md", "RtcState", "the line is up: true\n"), ("docs/PORT.md", "L: Trigger", "all came back\n")])
 def test_rust(document, of, printed, built, tmp_path):
-    run_rust(code(document, "rust", of), printed, "", built, tmp_path)
+    """README.md has lines for Cargo.toml too. Those for vm-superio serve a program of docs/PORT.md."""
+    page = "README.md" if of in ("Console", "Cell") else "docs/RUST.md"
+    run_rust(code(document, "rust", of), printed, "", built, tmp_path, page)
 
 
 def rust_program_for(line):
