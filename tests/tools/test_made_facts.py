@@ -1,11 +1,13 @@
 # SPDX-License-Identifier: Apache-2.0 OR BSD-3-Clause
 """Each file that repeats a fact of interface.toml has it as tools/generate writes it, and nothing else of it changes."""
 import re
+import sys
 
 import pytest
-from common.facts import CLOCK, ERRORS, word_of
+from common.facts import CLOCK, ERRORS, VERSION, word_of
+from documents import copy_repository, files
 from generators import facts, facts_of_pages, facts_of_tests
-from harness import ROOT, at_least
+from harness import ROOT, at_least, check
 
 FLOOD, NUMBER = {"case": "Flood", "holds": "u8", "text": "A flood"}, len(ERRORS) + 1
 RUST = f"        SavedStateError::Flood(_) => {NUMBER},\n"
@@ -54,6 +56,32 @@ def test_place(name, form, value):
     text = text_of(name)
     other = facts.replaced(text, form, "7")
     assert other != text and facts.replaced(other, form.replace(r"(\d+)", "(7)"), str(value)) == text
+
+
+# The kinds of manifests and sources. One of them is a copy that the step interface makes.
+KINDS = {".abi", ".c", ".cfg", ".cjs", ".h", ".js", ".json", ".mjs", ".mts", ".py", ".pyi", ".rs", ".toml", ".ts"}
+COPY = "bindings/c/from-source/superio.h"
+
+
+def stating(version):
+    """The manifests and sources that state a version, without those of tests."""
+    form = re.compile(rf"(?<![\d.]){re.escape(version)}(?!\.?\d)")
+    read = (path for path in files() if path.suffix in KINDS and path.parts[0] != "tests")
+    return {str(path) for path in read if form.search((ROOT / path).read_text("utf-8"))}
+
+
+def test_another_version(tmp_path):
+    """In a copy, the step writes another version into each manifest and source that states this one, and changes no
+    other file. Pages tell of releases, so they have theirs by hand."""
+    copy_repository(tmp_path)
+    (tmp_path / "VERSION").write_text("98.76.5\n", "ascii")
+    check([sys.executable, "-m", "generators.facts"], cwd=tmp_path / "tools")
+    made = {name: (tmp_path / name).read_text("utf-8") for name in MADE}
+    named = stating(VERSION) - {COPY}
+    assert {name for name in MADE if made[name] != MADE[name]} == {*at_least(6, named)}
+    for name in named:
+        assert VERSION not in made[name], name
+    assert re.findall(r"^#define SUPERIO_VERSION_[A-Z]+ (\d+)$", made[facts.C_HEADER], re.M) == ["98", "76", "5"]
 
 
 @pytest.mark.parametrize("text", ["none\n", 2 * '  | SavedStateError_TooShort => 1\n\n'])
