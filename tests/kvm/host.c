@@ -69,13 +69,16 @@ static void fail(const char *what) {
     _exit(3);
 }
 
-static void need_lock(bool is_held) {
+static void check_lock(const char *call, bool is_held) {
     bool is_free = pthread_mutex_trylock(&lock) == 0;
-    if (is_free == is_held)
-        fail(is_held ? "a call without the lock" : "a wait with the lock");
+    if (is_free == is_held) {
+        SEE("  %s, %s\n", call + strlen("__wrap_"), is_held ? "a call without the lock" : "a wait with the lock");
+        _exit(3);
+    }
     if (is_free)
         pthread_mutex_unlock(&lock);
 }
+#define need_lock(is_held) check_lock(__func__, is_held)
 
 /* Whether a call is to fail, which the environment names. */
 static bool fails(const char *call) {
