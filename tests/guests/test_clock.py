@@ -68,6 +68,11 @@ def test_an_alarm_that_the_driver_clears(program, fault):
     assert "a program waits for ever" in wrong(program, fault, exchanges=max(EXCHANGES, 40000))
 
 
+def test_an_alarm_that_the_monitor_clears(program):
+    """Also if the driver had lost another alarm before, which it may."""
+    assert {"a program waits for ever", "another alarm is lost"} <= wrong(program, "CLEARS", exchanges=20000).keys()
+
+
 CLOCK = (HERE / "monitor/clock_device.c").read_text(encoding="utf-8")
 
 

@@ -37,7 +37,7 @@ void KASSERT(bool is_good) {
 
 #include "clock_monitor.c"
 static const char *const NAMES[] = {"PASSES_CONTROL", "NO_LINE", "NO_TIMER", "NO_READ", "NOT_AT_ONCE", "NOT_RESTORED",
-                                    "LATE", "STOPS", "EXPECTS_RESET"};
+                                    "CLEARS", "LATE", "STOPS", "EXPECTS_RESET"};
 
 /* Whether guest time counts from now on for so many seconds. */
 static bool counts(uint64_t seconds) {
@@ -86,6 +86,7 @@ static irqreturn_t (*handler)(int, void *);
 static void *handler_of;
 static bool in_handler;
 static bool is_lost; /* the alarm: the driver has cleared it itself, or it had fired when the kernel found it */
+static bool was_lost; /* another alarm in this exchange */
 static unsigned pauses, spare; /* how seldom time goes on in the middle of a call, and for how long at most */
 static uint32_t last_time;     /* that the guest read */
 static uint64_t accessed;      /* the moment of the last access */
@@ -242,6 +243,7 @@ static void set_alarm(void) {
         return;
     alarm = time;
     has_alarm = request.enabled;
+    was_lost |= is_lost;
     is_lost = false;
 }
 
@@ -352,7 +354,7 @@ static void settle(void) {
             break;
     }
     check(!(guest.is_raised && guest.is_enabled), "an interrupt never comes");
-    check(is_direct || !has_alarm || is_lost, "a program waits for ever");
+    check(is_direct || !has_alarm || is_lost, was_lost ? "another alarm is lost" : "a program waits for ever");
 }
 
 static void exchange(void) {
@@ -363,7 +365,7 @@ static void exchange(void) {
     device = superio_rtc_new();
     memset(&guest, 0, sizeof guest);
     timer = NEVER;
-    line = is_lost = false;
+    line = is_lost = was_lost = false;
     spare = 0;
     pauses = PAUSES[choose(3)];
     is_direct = choose(2);

@@ -13,6 +13,7 @@ enum fault {
     NO_READ,        /* reads no RTCMIS when the timer goes off */
     NOT_AT_ONCE,    /* sets a timer to 0, which stops it */
     NOT_RESTORED,   /* sets neither after a restore */
+    CLEARS,         /* clears half of the alarms when the timer goes off */
     LATE,           /* sets a timer that is up to a second late */
     STOPS,          /* stops the guest for up to ten seconds in the middle of a call, and not for one */
     EXPECTS_RESET,  /* and the guest expects that a write of RTCCR takes the clock back to the host's time */
@@ -105,6 +106,10 @@ static void read_status(void) {
     if (!has[NO_READ]) {
         superio_rtc_read(&device, RTC_MIS, now);
         expect_access();
+    }
+    if (has[CLEARS] && choose(2)) {
+        superio_rtc_write(&device, RTC_ICR, 1, now);
+        expect_write(RTC_ICR, 1);
     }
     follow();
 }
