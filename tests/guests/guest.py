@@ -30,6 +30,7 @@ FAULTS = {
                           "    superio_serial_enqueue_effects offered")],
     "SENDS_ANOTHER": [("queue_output(value)", "queue_output(value ^ 1)")],
     "HIDES_DATA": [("    remove_input(", "    port.line_status &= 0xfe;\n    remove_input(")],
+    "MAKES_UP_INPUT": [("    read_input();\n", "    read_input();\n    mon.waiting += offered == 0;\n")],
     "CHANGES_IER": [("superio_serial_write(&port, offset, value)",
                      "superio_serial_write(&port, offset, offset == 1 && value == 5 ? 1 : value)")],
 }

@@ -102,7 +102,8 @@ def test_broken_rule_in_another_version(other_driver, fault, line):
     assert stalls(other_driver, Monitor(line, ("NO_LIMIT", fault)), 1) == 1
 
 
-@pytest.mark.parametrize("fault, what", {**WRONG, "HIDES_DATA": "does not end", "CHANGES_IER": "IER"}.items())
+@pytest.mark.parametrize("fault, what", {**WRONG, "HIDES_DATA": "does not end", "CHANGES_IER": "IER",
+                                            "MAKES_UP_INPUT": "registers or counts"}.items())
 def test_wrong_monitor(driver, fault, what):
     """An exchange fails if a monitor changes a byte, or a register."""
     ran = run([driver.compiled("run.c", LIBRARY, Monitor(EDGES, (fault,))), EXCHANGES, seed()])
