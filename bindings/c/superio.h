@@ -46,7 +46,7 @@
  *     return done.byte;
  *
  *     // The event loop. The files that it reads and writes do not block, and
- *     // docs/USING.md says what to do when a read or a write fails.
+ *     // docs/INTEGRATION.md says what to do when one of these calls fails.
  *     for (;;) {
  *         lock();
  *         wanted = superio_console_wants(&console);
