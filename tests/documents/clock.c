@@ -241,6 +241,8 @@ int main(void) {
     open_new(&machine);
     with_lock(&machine, take_moment);
     expect(is_present(machine.now), "the clock is opened");
+    eventfd_write(machine.irq, 1);
+    expect(clear(machine.irq) && !clear(machine.irq), "the guest is interrupted once");
     check_alarm(&machine);
     check_ports(&machine);
     check_line_again(&machine);

@@ -7,8 +7,8 @@ there is one before a heading; what follows a prompt there, such as `superio> `,
 shortened: `tools/check` and `tools/recheck` print their help, `tools/generate` takes its steps of a second, and pytest
 only collects. tests/recheck runs the second as a new user does.
 
-The steps of RATTLE.md are carried out beside a link to this repository, with the file that CLAIMS.md shows, up to a
-proved claim. This proves the libraries first, in minutes, unless `rt` proved them here.
+The steps of RATTLE.md are carried out beside a link to this repository, with the file that it shows, up to a proved
+claim. This proves the libraries first, in minutes, unless `rt` proved them here.
 """
 import os
 import re
@@ -22,7 +22,7 @@ from harness import ROOT, at_least, run
 DOCUMENTS = ("README.md", "CONTRIBUTING.md", "docs/*.md", "bindings/*/README.md", "examples/*/README.md",
              "tests/README.md")
 # Their commands are for a folder of the user's own, and for a host with KVM, where tests/kvm runs them.
-ELSEWHERE = ("docs/RATTLE.md", "docs/CLAIMS.md", "docs/MONITOR.md")
+ELSEWHERE = ("docs/RATTLE.md", "docs/MONITOR.md")
 KIT = re.compile(r"^(?:rt|tools/run)\b", re.M)
 # The tools that programs in commands are of, as tests name them.
 PROGRAMS = {"cc": "cc", "cargo": "debian-rust", "git": "git", "make": "make", "npm": "npm", "pkg-config": "pkg-config",
@@ -88,11 +88,11 @@ def test_document(blocks, tmp_path):
 
 @pytest.mark.needs("kit")
 def test_first_crate(tmp_path):
-    """The steps of RATTLE.md and CLAIMS.md."""
-    rattle, claims = (Document(f"docs/{name}.md") for name in ("RATTLE", "CLAIMS"))
-    [claim] = [block.lines for block in claims.blocks if block.language == "rust"]
-    [(where, last, typed, printed)] = commands_of(claims)
-    steps = [*(commands for _, commands, *_ in commands_of(rattle)), "cp ../../own.rt src", last]
+    """The steps of RATTLE.md, the last of which checks the page's last file."""
+    page = Document("docs/RATTLE.md")
+    *_, claim = [block.lines for block in page.blocks if block.language == "rust"]
+    *before, (where, last, typed, printed) = commands_of(page)
+    steps = [*(commands for _, commands, *_ in before), "cp ../../own.rt src", last]
     own = tmp_path / "own"
     own.mkdir()
     (tmp_path / "fimolavand").symlink_to(ROOT)

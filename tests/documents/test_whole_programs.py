@@ -11,6 +11,7 @@ from pathlib import Path
 import pytest
 from documents import CODE, Document
 from harness import LIMIT, ROOT, at_least, check, run
+from test_links import SOURCE
 
 PACKAGE = '[package]\nname = "hi"\nversion = "0.1.0"\nedition = "2021"\n\n'
 LIBRARY = ROOT / "prebuilt" / f"{platform.machine()}-linux" / "libsuperio_c.a"
@@ -19,6 +20,7 @@ HI = ("wake your event loop: the guest takes input now\n2 bytes accepted, 1 inte
       "1 interrupt to raise for the byte that is left\n")
 MONITOR = "fn event_loop"   # which the whole monitor of docs/RUST.md has
 LIBC = 'libc = "0.2"\n'   # which docs/RUST.md adds for it below the crate of ours
+USER = '[dependencies]\nvm-superio = "0.8"\n\n'   # what a user of vm-superio has before
 # Words for Cargo, which then takes crates of others from Debian's folder.
 FROM_DEBIAN = ["--config", 'source.crates-io.replace-with="debian"', "--config",
                'source.debian.directory="/usr/share/cargo/registry"']
@@ -93,18 +95,18 @@ TAKEN = {
                              "uint64_t host"],
     ("docs/PORT.md", "c"): ["write_access", "set_line"],
     ("docs/PORT.md", "rust"): ["Cell", "from_snapshot", "L: Trigger"],
-    ("docs/RATTLE.md", "rust"): ["ghost link"],
     ("docs/RUST.md", "rust"): ["fn event_loop", "was_up.swap", "set_polled", "CONSOLE_SAVED_MAX", "RtcState",
                                "is_reset_command"],
     ("docs/RUST.md", "toml"): ["rust/superio", "rust/vm-superio"],
     ("docs/SNAPSHOTS.md", "c"): ["static void save("],
     ("rust/superio/README.md", "rust"): ["fn make_turn"],
 }
-# Those that another file of tests takes, which then has the only one of their document and language.
+# Those that another file of tests takes.
 TAKEN_ELSEWHERE = {
-    ("docs/C.md", "cmake"): "packages/test_installation_of_c.py",
-    ("docs/C.md", "meson"): "packages/test_installation_of_c.py",
-    ("docs/CLAIMS.md", "rust"): "documents/test_paste.py", ("docs/RELEASE.md", "toml"): "packages/test_manifests.py",
+    ("docs/C.md", "cmake", "project"): "packages/test_installation_of_c.py",
+    ("docs/C.md", "meson", "project"): "packages/test_installation_of_c.py",
+    ("docs/RATTLE.md", "rust", "second_waits"): "documents/test_paste.py",
+    ("docs/RELEASE.md", "toml", ""): "packages/test_manifests.py",
 }
 # What is no code: test_paste.py runs commands, and other tests compare what is printed.
 NO_CODE = {"console", "sh", "text"}
@@ -112,7 +114,9 @@ PAGES = ["README.md", *sorted(f"docs/{path.name}" for path in (ROOT / "docs").gl
 
 
 def blocks_of(document, language):
-    return ["\n".join([*block.lines, ""]) for block in Document(document).blocks if block.language == language]
+    """The blocks of a document that are in a language, without excerpts."""
+    return ["\n".join([*block.lines, ""]) for block in Document(document).blocks
+            if block.language == language and not SOURCE.search(block.before)]
 
 
 def code(document, language, of):
@@ -124,14 +128,15 @@ def code(document, language, of):
 
 @pytest.mark.parametrize("page", at_least(20, PAGES))
 def test_each_block_of_code_is_taken(page):
-    """So none stands on a page that nothing compiles or compares."""
+    """So none stands on a page that nothing compiles or compares. test_links.py takes excerpts."""
     for language in {block.language for block in Document(page).blocks} - NO_CODE:
-        if (page, language) in TAKEN_ELSEWHERE:
-            text = (ROOT / "tests" / TAKEN_ELSEWHERE[page, language]).read_text(encoding="utf-8")
-            assert Path(page).stem in text and f'"{language}"' in text and len(blocks_of(page, language)) == 1
-        else:
-            taken = [code(page, language, of) for of in TAKEN.get((page, language), [])]
-            assert sorted(taken) == sorted(blocks_of(page, language)), f"{page}: a block of {language} is not in TAKEN"
+        taken = [code(page, language, of) for of in TAKEN.get((page, language), [])]
+        for (other, its, of), file in TAKEN_ELSEWHERE.items():
+            if (other, its) == (page, language):
+                text = (ROOT / "tests" / file).read_text(encoding="utf-8")
+                assert Path(page).stem in text and f'"{language}"' in text
+                taken += [block for block in blocks_of(page, language) if of in block]
+        assert sorted(taken) == sorted(blocks_of(page, language)), f"{page}: TAKEN names not each block of {language}"
 
 
 def test_each_text_of_a_block_is_used():
@@ -372,7 +377,7 @@ def test_other_accesses(line, old, new, said, tmp_path):
 
 WITHOUT_LOCK = "a device is used without the lock"
 # Edits of machine.c, and the first step of clock.c that goes wrong.
-OTHER_CLOCKS = at_least(18, [
+OTHER_CLOCKS = at_least(19, [
     ("    pthread_mutex_lock(&machine->lock);\n    take_moment(machine);\n    superio_rtc_write",
      "    take_moment(machine);\n    pthread_mutex_lock(&machine->lock);\n    superio_rtc_write", WITHOUT_LOCK),
     ("    follow_clock(machine);\n    pthread_mutex_unlock(&machine->lock);\n    for",
@@ -380,6 +385,7 @@ OTHER_CLOCKS = at_least(18, [
     ("    saved->now = machine->now;\n    /* step 7 */\n    pthread_mutex_unlock(&machine->lock);\n",
      "    pthread_mutex_unlock(&machine->lock);\n    saved->now = machine->now;\n", "the clock is saved"),
     ("if (files[3].revents)", "if (files[2].revents)", "the alarm is found"),
+    ("return eventfd_read(file, &count) == 0;", "return eventfd_read(file, &count) != 0;", "the guest is interrupted once"),
     ("if (due != SUPERIO_RTC_NEVER)\n", "if (due != 0)\n", "no alarm is set"),
     ("seconds(CLOCK_REALTIME) - seconds(CLOCK_BOOTTIME);", "seconds(CLOCK_MONOTONIC) - seconds(CLOCK_BOOTTIME);",
      "the clock is opened"),
@@ -579,13 +585,6 @@ def test_code_of_the_machine(document, of):
         assert f"\n{part}\n" in MACHINE, part
 
 
-def test_trigger_of_the_example():
-    """The page shows the trigger of triggers.rt as it stands, but for comments and clauses."""
-    example = (ROOT / "crates/superio_examples/src/triggers.rt").read_text(encoding="utf-8")
-    shown = re.sub(r"^ *(?:///|ensures\b).*\n(?: {8,}.*\n)*", "", example, flags=re.M)
-    assert code("docs/RATTLE.md", "rust", "ghost link") in shown
-
-
 @pytest.mark.needs("cc")
 def test_commands(tmp_path):
     """As the page says, in a folder that has what the repository's top has. The page shows the program but for the line
@@ -624,6 +623,7 @@ def run_rust(program, printed, typed, built, folder, page="docs/RUST.md"):
     """Runs a program by the lines for Cargo.toml of a page. The `Machine` of docs/PORT.md is around a guest."""
     (folder / "src").mkdir()
     manifest = code(page, "toml", "rust/superio" if "use superio::" in program else "rust/vm-superio")
+    manifest = manifest if "[dependencies]" in manifest else USER + manifest
     words = FROM_DEBIAN if "libc::" in program else []
     manifest += LIBC if words else ""
     (folder / "Cargo.toml").write_text(PACKAGE + manifest.replace("CLONE", str(ROOT)), encoding="utf-8")
