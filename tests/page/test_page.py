@@ -98,8 +98,8 @@ def test_a_button_says_its_line(line, said):
 
 
 DESCRIBED = (ROOT / "docs" / "PAGE.md").read_text("utf-8")
-ADDRESSES = re.findall(r"add `#([^`]+)` to the end of the page's address and press Enter. The port then holds one byte, "
-                       r"with nothing pending", DESCRIBED)
+ADDRESSES = re.findall(r"add `#([^`]+)` to the end of the demo's address and press Enter\..*So one byte is left, with "
+                       r"nothing pending", DESCRIBED)
 
 
 @pytest.mark.parametrize("address", at_least(1, ADDRESSES))
@@ -114,9 +114,9 @@ def test_an_address_of_the_documents(address):
     assert board.serial.state.interrupt_identification & 0x06
 
 
-@pytest.mark.parametrize("label", at_least(9, sorted({*re.findall(r"'([A-Z](?:[^'\n]|'(?=\w))+)'", DESCRIBED)})))
+@pytest.mark.parametrize("label", at_least(9, sorted({*re.findall(r"(?<!- )\*\*([A-Z][^*\n]+)\*\*", DESCRIBED)})))
 def test_a_label_of_the_documents(label):
-    """It is that of a control, or of a part of the page."""
+    """What stands in bold, apart from the beginning of an item, is the label of a control or of a part of the page."""
     labels = re.findall(r">([^<>]+)<", re.sub(r"\s+", " ", PAGE.read_text("utf-8").partition("<script")[0]))
     assert label in [one.strip() for one in labels]
 
