@@ -197,18 +197,25 @@ def test_loader_that_polls(tmp_path):
 
 
 @pytest.mark.needs("cc")
-def test_files_are_left_as_they_were(tmp_path):
-    compile_c(tmp_path, "console", code("docs/C.md", "c", "int main"), LIBRARY, "-pthread", "-o", "console")
-    check_files_stay(tmp_path / "console")
+@pytest.mark.parametrize("name", ["console", "machine"])
+def test_files_are_left_as_they_were(name, tmp_path):
+    compile_c(tmp_path, "monitor", WITH_FILES[name], LIBRARY, "-pthread", "-o", "monitor")
+    check_files_stay(tmp_path / "monitor")
 
 
 def check_files_stay(program):
-    """The shell uses them, too: at the end each blocks again."""
+    """They do not block while the program runs. The shell uses them, too: at the end each blocks again."""
     (to_program, typed), (printed, from_program) = os.pipe(), os.pipe()
-    os.write(typed, b"hello\n")
-    done = subprocess.run([program], stdin=to_program, stdout=from_program, timeout=LIMIT)
-    assert done.returncode == 0 and os.read(printed, 100) == b"HELLO\n"
-    assert [fcntl.fcntl(file, fcntl.F_GETFL) & os.O_NONBLOCK for file in (to_program, from_program)] == [0, 0]
+
+    def flags():
+        return {fcntl.fcntl(file, fcntl.F_GETFL) & os.O_NONBLOCK for file in (to_program, from_program)}
+
+    with subprocess.Popen([program], stdin=to_program, stdout=from_program) as running:
+        os.write(typed, b"h")
+        first, while_running = os.read(printed, 1), flags()
+        os.write(typed, b"ello\n")
+    assert (first, while_running) == (b"H", {os.O_NONBLOCK})
+    assert running.returncode == 0 and os.read(printed, 100).startswith(b"ELLO\n") and flags() == {0}
     for file in (to_program, typed, printed, from_program):
         os.close(file)
 
