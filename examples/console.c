@@ -117,7 +117,7 @@ static void *guest(void *unused) {
     return unused;
 }
 
-/* Lets standard input and output block, or not. At the end they block again, because the shell uses them too. */
+/* Makes standard input and output block, or not. At the end they block again, because the shell uses them too. */
 static void let_block(bool blocks) {
     for (int file = STDIN_FILENO; file <= STDOUT_FILENO; file++) {
         int flags = fcntl(file, F_GETFL);

@@ -132,7 +132,8 @@ static bool is_clock(uint64_t address) {
     return address >= CLOCK && address - CLOCK < SUPERIO_RTC_WINDOW;
 }
 
-/* The guest reads `count` bytes of memory. A narrow read of the clock shows a part of the four bytes around it. */
+/* The guest reads `count` bytes of memory. A narrower read of the clock gives a part of the
+   aligned four bytes around it. */
 static void memory_read(struct machine *machine, uint64_t address, uint8_t *bytes, unsigned count) {
     unsigned within = count == 4 ? 0 : address % 4;
     memset(bytes, 0xFF, count); /* what a guest reads where no device answers */
@@ -188,7 +189,7 @@ static uint8_t port_read(struct machine *machine, uint16_t port) {
     return is_serial(port) ? read_access(machine, (uint8_t)(port - COM1)) : 0xFF;
 }
 
-/* An access has been served. If it asked for a reset, the machine is reset. The clock goes on. */
+/* Call this after each access. If the access asked for a reset, the machine is reset. The clock goes on. */
 static void access_served(struct machine *machine) {
     pthread_mutex_lock(&machine->lock);
     if (machine->is_reset) {
@@ -308,8 +309,8 @@ static void save(struct machine *machine, struct snapshot *saved) {
     pthread_mutex_unlock(&machine->lock);
 }
 
-/* Steps 2 to 5 of a restore, into a machine whose interrupt controller is restored, and whose processors and event loop
- * do not run yet. Returns false if the snapshot is refused. */
+/* Steps 2 to 5 of a restore, with the locks of steps 1 and 6, into a machine whose interrupt controller is restored,
+ * and whose processors and event loop do not run yet. Returns false if the snapshot is refused. */
 static bool restore(struct machine *machine, const struct snapshot *saved) {
     pthread_mutex_lock(&machine->lock);
     /* step 2: load into temporaries, so that a bad snapshot changes nothing */
@@ -321,7 +322,7 @@ static bool restore(struct machine *machine, const struct snapshot *saved) {
     if (is_good) {
         machine->console = console;
         machine->clock = clock;
-        /* step 3: what was raised before may be lost */
+        /* step 3: earlier pulses may be lost */
         interrupt(machine, superio_console_refuse(&machine->console));
         interrupt(machine, superio_console_turn(&machine->console));
         /* step 4 */
@@ -423,12 +424,12 @@ static void *guest(void *unused) {
     return unused;
 }
 
-/* Moves the guest from a machine to another. `loop` is the thread of the machine's event loop. */
+/* Moves the guest from one machine to another. `loop` is the thread of the machine's event loop. */
 static void move(struct machine *from, struct machine *to, pthread_t *loop) {
     static struct snapshot saved;
     /* step 1 of a stop */
     pthread_mutex_lock(&door);      /* no access begins */
-    pthread_mutex_lock(&processor); /* the last one has ended */
+    pthread_mutex_lock(&processor); /* the last access has ended */
     /* step 2 of a stop */
     pthread_mutex_lock(&from->lock);
     from->is_stopped = true;
@@ -436,7 +437,7 @@ static void move(struct machine *from, struct machine *to, pthread_t *loop) {
     eventfd_write(from->wake_up, 1);
     pthread_join(*loop, NULL);
     save(from, &saved);
-    /* step 1 of a restore: nothing, because a thread and an eventfd stand in for these parts */
+    /* step 1 of a restore: nothing, because there are no processors and no controller here */
     if (!restore(to, &saved))
         errx(1, "the snapshot is refused");
     /* step 6 of a restore */
@@ -447,7 +448,7 @@ static void move(struct machine *from, struct machine *to, pthread_t *loop) {
     pthread_mutex_unlock(&door);
 }
 
-/* Lets standard input and output block, or not. At the end they block again, because the shell uses them too. */
+/* Makes standard input and output block, or not. At the end they block again, because the shell uses them too. */
 static void let_block(bool blocks) {
     for (int file = STDIN_FILENO; file <= STDOUT_FILENO; file++) {
         int flags = fcntl(file, F_GETFL);
