@@ -133,7 +133,7 @@ static bool is_clock(uint64_t address) {
 }
 
 /* The guest reads `count` bytes of memory. A narrower read of the clock gives a part of the
-   aligned four bytes around it. */
+ * aligned four bytes that contain it. */
 static void memory_read(struct machine *machine, uint64_t address, uint8_t *bytes, unsigned count) {
     unsigned within = count == 4 ? 0 : address % 4;
     memset(bytes, 0xFF, count); /* what a guest reads where no device answers */
@@ -193,8 +193,8 @@ static uint8_t port_read(struct machine *machine, uint16_t port) {
 static void access_served(struct machine *machine) {
     pthread_mutex_lock(&machine->lock);
     if (machine->is_reset) {
-        /* If there are several processors, let one thread alone do this. It first stops the others, and meanwhile
-         * releases the lock, because they may wait for it. Ignore resets that they ask for until they have stopped. */
+        /* If there are several processors, let one thread alone do this. It first stops the others. Meanwhile it has
+         * to release the lock, for which they may wait. Ignore resets that they ask for until they have stopped. */
         clear(machine->irq); /* in place of a reset of the interrupt controller */
         if (interrupt(machine, superio_console_reset(&machine->console)))
             eventfd_write(machine->wake_up, 1);

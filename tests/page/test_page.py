@@ -98,8 +98,8 @@ def test_a_button_says_its_line(line, said):
 
 
 DESCRIBED = (ROOT / "docs" / "PAGE.md").read_text("utf-8")
-ADDRESSES = re.findall(r"add `#([^`]+)` to the end of the demo's address and press Enter\..*So one byte is left, with "
-                       r"nothing pending", DESCRIBED)
+ADDRESSES = re.findall(r"add `#([^`]+)` to the end of the demo's address and press Enter\..*so one byte is left, and no "
+                       r"interrupt is pending", DESCRIBED)
 
 
 @pytest.mark.parametrize("address", at_least(1, ADDRESSES))
