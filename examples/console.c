@@ -117,7 +117,7 @@ static void *guest(void *unused) {
     return unused;
 }
 
-/* Makes standard input and output block, or not. At the end they block again, because the shell uses them too. */
+/* Makes standard input and output blocking or not. At the end they are blocking again, for the shell's sake. */
 static void let_block(bool blocks) {
     for (int file = STDIN_FILENO; file <= STDOUT_FILENO; file++) {
         int flags = fcntl(file, F_GETFL);

@@ -132,8 +132,8 @@ static bool is_clock(uint64_t address) {
     return address >= CLOCK && address - CLOCK < SUPERIO_RTC_WINDOW;
 }
 
-/* The guest reads `count` bytes of memory. A narrower read of the clock gives a part of the
- * aligned four bytes that contain it. */
+/* The guest reads `count` bytes of memory. A narrower read gives its bytes of the aligned
+ * four bytes around it. */
 static void memory_read(struct machine *machine, uint64_t address, uint8_t *bytes, unsigned count) {
     unsigned within = count == 4 ? 0 : address % 4;
     memset(bytes, 0xFF, count); /* what a guest reads where no device answers */
@@ -193,8 +193,8 @@ static uint8_t port_read(struct machine *machine, uint16_t port) {
 static void access_served(struct machine *machine) {
     pthread_mutex_lock(&machine->lock);
     if (machine->is_reset) {
-        /* If there are several processors, let one thread alone do this. It first stops the others. Meanwhile it has
-         * to release the lock, for which they may wait. Ignore resets that they ask for until they have stopped. */
+        /* If there are several processors, let one thread alone do this. It first stops the others, and does
+         * not hold the lock meanwhile, because they may need it. Ignore resets that they ask for until they stop. */
         clear(machine->irq); /* in place of a reset of the interrupt controller */
         if (interrupt(machine, superio_console_reset(&machine->console)))
             eventfd_write(machine->wake_up, 1);
@@ -309,8 +309,8 @@ static void save(struct machine *machine, struct snapshot *saved) {
     pthread_mutex_unlock(&machine->lock);
 }
 
-/* Steps 2 to 5 of a restore, with the locks of steps 1 and 6, into a machine whose interrupt controller is restored,
- * and whose processors and event loop do not run yet. Returns false if the snapshot is refused. */
+/* Takes the lock, carries out steps 2 to 5 of a restore, and releases the lock. The interrupt controller is restored,
+ * and neither the processors nor the event loop run yet. Returns false if the snapshot is refused. */
 static bool restore(struct machine *machine, const struct snapshot *saved) {
     pthread_mutex_lock(&machine->lock);
     /* step 2: load into temporaries, so that a bad snapshot changes nothing */
@@ -322,7 +322,7 @@ static bool restore(struct machine *machine, const struct snapshot *saved) {
     if (is_good) {
         machine->console = console;
         machine->clock = clock;
-        /* step 3: earlier pulses may be lost */
+        /* step 3: earlier pulses may have been lost */
         interrupt(machine, superio_console_refuse(&machine->console));
         interrupt(machine, superio_console_turn(&machine->console));
         /* step 4 */
@@ -448,7 +448,7 @@ static void move(struct machine *from, struct machine *to, pthread_t *loop) {
     pthread_mutex_unlock(&door);
 }
 
-/* Makes standard input and output block, or not. At the end they block again, because the shell uses them too. */
+/* Makes standard input and output blocking or not. At the end they are blocking again, for the shell's sake. */
 static void let_block(bool blocks) {
     for (int file = STDIN_FILENO; file <= STDOUT_FILENO; file++) {
         int flags = fcntl(file, F_GETFL);
