@@ -132,8 +132,8 @@ static bool is_clock(uint64_t address) {
     return address >= CLOCK && address - CLOCK < SUPERIO_RTC_WINDOW;
 }
 
-/* The guest reads `count` bytes of memory. A narrower read gives its bytes of the aligned
- * four bytes around it. */
+/* The guest reads `count` bytes of memory. A narrower read gets its part of the four
+ * aligned bytes around it. */
 static void memory_read(struct machine *machine, uint64_t address, uint8_t *bytes, unsigned count) {
     unsigned within = count == 4 ? 0 : address % 4;
     memset(bytes, 0xFF, count); /* what a guest reads where no device answers */
