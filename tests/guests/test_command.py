@@ -17,7 +17,7 @@ import judge
 import proofs
 import pytest
 import sources
-from debian import make_whole, replace_links
+from debian import apt_get, make_whole, replace_links
 from guest import Monitor
 
 
@@ -133,6 +133,29 @@ def test_a_folder_is_made_once(tmp_path):
         return (folder / "file").exists()
     with ThreadPoolExecutor(4) as pool:
         assert [*pool.map(use, range(4))] == [True] * 4 and len(asked) == 1
+
+
+# An apt-get for which this machine's archive is a folder, and what the archive has but a signature.
+OTHER_ARCHIVE = """#!/bin/sh
+[ "$1" != --print-uris ] || exec echo "'file:{0}/dists/bookworm/InRelease' it 0"
+exec /usr/bin/apt-get "$@"
+"""
+RELEASE = f"Codename: trixie\nSHA256:\n {hashlib.sha256().hexdigest()} 0 main/binary-amd64/Packages\n"
+
+
+@pytest.mark.where("CBMC 6")   # where apt-get is
+def test_an_archive_that_is_not_signed(tmp_path, monkeypatch, capfd):
+    """Nothing is taken of it."""
+    files = {"dists/trixie/main/binary-amd64/Packages": "", "dists/trixie/Release": RELEASE, "apt-get": OTHER_ARCHIVE}
+    for name, text in files.items():
+        (tmp_path / name).parent.mkdir(parents=True, exist_ok=True)
+        (tmp_path / name).write_text(text.format(tmp_path), "ascii")
+    (tmp_path / "apt-get").chmod(0o755)
+    monkeypatch.setenv("PATH", f"{tmp_path}:{os.environ['PATH']}")
+    monkeypatch.setenv("LC_ALL", "C")
+    with pytest.raises(subprocess.CalledProcessError):
+        apt_get(tmp_path / "own", "trixie")
+    assert "is not signed" in capfd.readouterr().err
 
 
 def test_links(tmp_path):

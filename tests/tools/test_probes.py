@@ -200,10 +200,11 @@ def path_of_module(name):
 
 @pytest.fixture(scope="module")
 def packaged():
-    """The paths of what tools need that are files of packages of Debian's. The packages are asked once for all."""
+    """Of what tools need, the paths that are files of packages of Debian's, each with its package. These are asked once
+    for all."""
     paths = {path for needed in TOOLS.values() for path in map(path_of, needed) if path}
     said = run(["dpkg-query", "--search", *sorted(paths)]).stdout
-    return {path for path in paths if re.search(rf"^\S+: {re.escape(path)}$", said, re.M)}
+    return {path: package for package, path in re.findall(r"^([^\s:]+)(?::\w+)?: (/.*)$", said, re.M)}
 
 
 @pytest.fixture(scope="module")
@@ -213,13 +214,21 @@ def installed():
     return {name.split(" ")[0] for name in re.split(", |\n", said)}
 
 
+def comes_with(package, names):
+    """Whether a package is one of these or stands in the place of one, or one of these needs it."""
+    said = check(["dpkg-query", "--showformat=${Package}, ${Provides}", "--show", package])
+    return bool({*names} & {name.split(" ")[0] for name in said.split(", ")}) or package in check(
+        ["apt-cache", "depends", "--recurse", "--installed", "--important", *names]).split()
+
+
 @pytest.mark.parametrize("tool", TOOLS)
 def test_a_tool_comes_with_its_package(tool, packaged, installed):
     """Where a package has put what a tool needs, the packages that are named for it are there, or another in their
-    place. One of another architecture is only unpacked."""
+    place, and it is one of them or comes with one. One of another architecture is only unpacked."""
     for what, packages in TOOLS[tool].items():
         if path_of(what) in packaged:
             assert not {package for package in packages.split() if ":" not in package} - installed, what
+            assert comes_with(packaged[path_of(what)], packages.split()), what
 
 
 @pytest.mark.parametrize("line, is_found", [("import os", True), ("import os; assert False", False),
