@@ -221,6 +221,19 @@ def check_files_stay(program):
 
 
 @pytest.mark.needs("cc")
+@pytest.mark.parametrize("name", ["console", "machine"])
+def test_a_reader_that_goes_away(name, tmp_path):
+    """The program goes on without the reader of its output, until its guest is off."""
+    compile_c(tmp_path, "monitor", WITH_FILES[name], LIBRARY, "-pthread", "-o", "monitor")
+    reader, writer = os.pipe()
+    os.close(reader)
+    with subprocess.Popen([tmp_path / "monitor"], stdin=subprocess.PIPE, stdout=writer) as running:
+        os.close(writer)
+        running.communicate(b"hello\n")
+    assert running.returncode == 0
+
+
+@pytest.mark.needs("cc")
 def test_output_that_waits_at_the_end(tmp_path):
     """The reader takes nothing until the guest is long off: its pipe of a page is full. All output then arrives."""
     compile_c(tmp_path, "console", code("docs/C.md", "c", "int main"), LIBRARY, "-pthread", "-o", "console")
