@@ -234,6 +234,16 @@ def test_a_reader_that_goes_away(name, tmp_path):
 
 
 @pytest.mark.needs("cc")
+@pytest.mark.parametrize("name, off", [("console", "    is_off = true;\n"), ("machine", "    here->is_off = true;\n")])
+def test_a_guest_that_is_off_late(name, off, tmp_path):
+    """The event loop has long been asleep, and ends nevertheless."""
+    before = f"    pthread_mutex_lock(&{'lock' if name == 'console' else 'here->lock'});\n"
+    program = edited(WITH_FILES[name], [(before + off, f"    poll(NULL, 0, 200);\n{before}{off}")])
+    compile_c(tmp_path, "monitor", program, LIBRARY, "-pthread", "-o", "monitor")
+    assert check([tmp_path / "monitor"], input="hello\n").startswith("HELLO\n")
+
+
+@pytest.mark.needs("cc")
 def test_output_that_waits_at_the_end(tmp_path):
     """The reader takes nothing until the guest is long off: its pipe of a page is full. All output then arrives."""
     compile_c(tmp_path, "console", code("docs/C.md", "c", "int main"), LIBRARY, "-pthread", "-o", "console")
