@@ -367,7 +367,7 @@ static uint8_t in(uint16_t port) {
 
 static void store(uint16_t offset, uint8_t value) {
     begin();
-    memory_write(here, CLOCK + offset, (uint8_t[4]){value}, 4);
+    memory_write(here, CLOCK + offset, (uint8_t[]){value, 0, 0, 0}, 4);
     end();
 }
 
@@ -416,10 +416,11 @@ static void *guest(void *unused) {
     print(in(COM1 + 1) == 0 ? "the port is a new one, " : "the port is the old one, ");
     print(fetch(RTCLR) == 100 ? "and the clock has gone on\n" : "and the clock is a new one\n");
     begin();
-    pthread_mutex_lock(&here->lock);
-    here->is_off = true;
-    pthread_mutex_unlock(&here->lock);
-    eventfd_write(here->wake_up, 1);
+    struct machine *machine = here;
+    pthread_mutex_lock(&machine->lock);
+    machine->is_off = true;
+    pthread_mutex_unlock(&machine->lock);
+    eventfd_write(machine->wake_up, 1);
     end();
     return unused;
 }
@@ -457,19 +458,19 @@ static void let_block(bool blocks) {
 }
 
 int main(void) {
-    static struct machine machines[2];
+    static struct machine first, second;
     pthread_t loop, thread;
     if (!SUPERIO_ABI_MATCHES())
         errx(1, "the library has another interface than the header");
     signal(SIGPIPE, SIG_IGN); /* a write without a reader then fails, and does not end the program */
     let_block(false);
-    for (int i = 0; i < 2; i++)
-        open_machine(&machines[i], STDIN_FILENO, STDOUT_FILENO);
-    here = &machines[0];
+    open_machine(&first, STDIN_FILENO, STDOUT_FILENO);
+    open_machine(&second, STDIN_FILENO, STDOUT_FILENO);
+    here = &first;
     pthread_create(&loop, NULL, event_loop, here);
     pthread_create(&thread, NULL, guest, NULL);
     poll(NULL, 0, 500); /* half a second */
-    move(&machines[0], &machines[1], &loop);
+    move(&first, &second, &loop);
     pthread_join(thread, NULL);
     pthread_join(loop, NULL);
     let_block(true);

@@ -74,7 +74,7 @@ static void *run_loop(void *argument) {
             {.fd = machine->wakes[0], .events = POLLIN},
         };
         poll(files, 3, wanted.turn ? 5 : -1); /* milliseconds */
-        if (files[2].revents && read(machine->wakes[0], bytes, sizeof bytes) < 0)
+        if (files[2].revents && read(machine->wakes[0], bytes, sizeof bytes) == -1)
             warn("the event loop");
     }
     return NULL;

@@ -15,7 +15,7 @@ LEFT_OPEN = {
     "carry_out(": "carry_out(machine, ",
     "unlock()": "pthread_mutex_unlock(&machine->lock)",
     "lock()": "pthread_mutex_lock(&machine->lock)",
-    "forget_wake()": "if (files[2].revents && read(machine->wakes[0], bytes, sizeof bytes) < 0)\n"
+    "forget_wake()": "if (files[2].revents && read(machine->wakes[0], bytes, sizeof bytes) == -1)\n"
                      "            warn(\"the event loop\")",
     "wake()": "put(machine->wakes[1])",
     "raise_interrupt()": "put(machine->interrupts[1])",

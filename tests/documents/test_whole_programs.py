@@ -234,11 +234,11 @@ def test_a_reader_that_goes_away(name, tmp_path):
 
 
 @pytest.mark.needs("cc")
-@pytest.mark.parametrize("name, off", [("console", "    is_off = true;\n"), ("machine", "    here->is_off = true;\n")])
-def test_a_guest_that_is_off_late(name, off, tmp_path):
+@pytest.mark.parametrize("name, of", [("console", ""), ("machine", "machine->")])
+def test_a_guest_that_is_off_late(name, of, tmp_path):
     """The event loop has long been asleep, and ends nevertheless."""
-    before = f"    pthread_mutex_lock(&{'lock' if name == 'console' else 'here->lock'});\n"
-    program = edited(WITH_FILES[name], [(before + off, f"    poll(NULL, 0, 200);\n{before}{off}")])
+    off = f"    pthread_mutex_lock(&{of}lock);\n    {of}is_off = true;\n"
+    program = edited(WITH_FILES[name], [(off, f"    poll(NULL, 0, 200);\n{off}")])
     compile_c(tmp_path, "monitor", program, LIBRARY, "-pthread", "-o", "monitor")
     assert check([tmp_path / "monitor"], input="hello\n").startswith("HELLO\n")
 
