@@ -1,6 +1,8 @@
 # SPDX-License-Identifier: Apache-2.0 OR BSD-3-Clause
 """The Python package's console, over both C libraries: the calls of tests/c/console.txt, worked out by hand, and random
 ones, whose replies console.py has."""
+import re
+
 import pytest
 from console import OUTPUT_SIZE, PORT_SIZE, REGISTERS, in_ring, random_runs
 from harness import ROOT, at_least
@@ -134,3 +136,16 @@ def test_random_calls(over_library):
 def test_each_call_is_made():
     calls = {row[:2] for row in random_runs(seeds("consoles", RUNS)).splitlines()}
     assert calls == {name for name in vars(Made) if len(name) == 2}
+
+
+def end_of(row):
+    """The name of a call, and why bytes don't load, or what is told of interrupts, of the loop and of dropped bytes."""
+    name, did = row[:2], row.partition(" = ")[2]
+    told = " ".join(re.findall("[TR]|up|wake|output|turn|f{16}", did))
+    return name, did if name == "ll" else "" if name in ("lb", "lo", "lx") else told
+
+
+def test_each_end_is_made():
+    """Random calls end in each way in which the calls by hand do."""
+    made = random_runs(map(str, range(4000))).splitlines()   # the same in each run: the rarest comes in one of 700
+    assert {*map(end_of, BY_HAND)} <= {*map(end_of, made)}

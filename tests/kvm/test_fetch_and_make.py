@@ -108,10 +108,12 @@ def test_a_change_is_built(part, tmp_path):
 
 @pytest.mark.needs("make", "cc")
 @pytest.mark.where("Linux on x86-64")
-def test_a_build_that_fails_leaves_no_monitor(tmp_path):
+@pytest.mark.parametrize("line", ["int unfinished(\n", "static int unused;\n", "int half(int all) { return 1; }\n"])
+def test_a_build_that_fails_leaves_no_monitor(line, tmp_path):
+    """A warning fails it, too."""
     folder = tmp_path / "kvm"
     shutil.copytree(HERE, folder, ignore=shutil.ignore_patterns("monitor"))
     with open(folder / "main.c", "a", encoding="ascii") as file:
-        file.write("int unfinished(\n")
+        file.write(line)
     ran = run(["make", "-s", "-C", folder, f"ROOT={ROOT}"])
     assert ran.returncode == 2 and not (folder / "monitor").exists()

@@ -190,8 +190,10 @@ def installed(tmp_path_factory):
 
 
 @pytest.mark.needs("cc", "pkg-config")
-def test_pkg_config(installed):
-    check(["make", "-s", "installcheck"], "", cwd=ROOT, env=installed)
+def test_pkg_config(installed, tmp_path):
+    """And nothing is left where temporary files go."""
+    check(["make", "-s", "installcheck"], "", cwd=ROOT, env={**installed, "TMPDIR": f"{tmp_path}"})
+    assert not [*tmp_path.iterdir()]
 
 
 @pytest.mark.needs("pkg-config")

@@ -169,6 +169,13 @@ def test_control():
     assert source == SOURCE and packages == PACKAGES
 
 
+@pytest.mark.parametrize("name", ["debian/control", "debian/copyright", "LICENSE", "rust/vm-superio/README.md"])
+def test_replaced_version(name):
+    """A text that names a version of vm-superio means the one in whose place our crate is."""
+    found = re.findall(r"\bvm-superio`?,?\s+(?:version\s+)?(\d+\.\d+\.\d+)", contents(name))
+    assert found and {*found} == {REPLACED}
+
+
 def test_tests():
     assert paragraphs("debian/tests/control") == TESTS
 

@@ -2,10 +2,12 @@
 """Releases by `make dist`, and the packages that Debian's tools build of one: what is in them, the same in any folder,
 and the goals of `make` that Debian's tests are."""
 import gzip
+import json
 import os
 import re
 import shutil
 import tarfile
+import zipfile
 
 import pytest
 from documents import Document, copy_repository
@@ -43,7 +45,9 @@ def releases(tmp_path_factory):
     releases."""
     folder = tmp_path_factory.mktemp("releases")
     own = {**os.environ, "GIT_COMMITTER_DATE": f"{MOMENT} +0000"}
-    other = {**own, "TZ": "Asia/Tokyo", "LC_ALL": "C", "USER": "other", "HOME": str(folder)}
+    other = {**own, "TZ": "Asia/Tokyo", "LC_ALL": "C", "USER": "other", "HOME": str(folder / "home"), "TMPDIR": str(folder / "temporary")}
+    for name in ("home", "temporary"):
+        (folder / name).mkdir()
     for made, user, mask, environment in ("one", [], "022", own), ("two", another_user(), "077", other):
         tree = folder / f"the tree of {made}"
         copy_repository(tree)
@@ -54,6 +58,11 @@ def releases(tmp_path_factory):
 
 def test_the_same_bytes(releases):
     check(["diff", "-r", releases / "one", releases / "two"], "")
+
+
+def test_nothing_is_left(releases):
+    """Neither where temporary files go, nor in the home of the user, where npm and others keep things."""
+    assert not [*releases.glob("home/*"), *releases.glob("temporary/*")]
 
 
 def test_sums(releases):
@@ -107,6 +116,19 @@ def test_archive_of_the_crates(releases, tmp_path):
 def test_page(releases):
     page = releases / "one" / f"superio-{VERSION}.html"
     assert page.read_bytes() == (ROOT / "docs/try.html").read_bytes()
+
+
+def test_packages_for_registries(releases):
+    """That of npm has all that its manifest lists and the licenses, and a wheel the library of its processor."""
+    files = {path.name: path for path in [*(ROOT / "bindings/js").iterdir(), *ROOT.glob("LICENSE"), *ROOT.glob("LICENSES/*")]}
+    with tarfile.open(releases / "one" / f"superio-{VERSION}.tgz") as archive:
+        found = {member.name.partition("/")[2]: archive.extractfile(member).read() for member in archive if member.isfile()}
+    listed = json.loads(files["package.json"].read_text("utf-8"))["files"]
+    assert {name.partition("/")[0] for name in found} == {*listed, "package.json"}
+    assert not [name for name in found if found[name] != files[name.rpartition("/")[2]].read_bytes()]
+    for target in TARGETS:
+        with zipfile.ZipFile(releases / "one" / WHEEL.format(VERSION, target.partition("-")[0])) as wheel:
+            assert wheel.read(f"superio/{SHARED}") == (PREBUILT / target / SHARED).read_bytes()
 
 
 def headed(heading):
@@ -188,12 +210,15 @@ def before(debian):
 
 @pytest.fixture(scope="module")
 def builds(debian, before):
-    """Two builds of the packages, the second in another folder, for another user, without tests. Gives what each said,
-    by its folder."""
+    """Two builds of the packages, the second in another folder, for another user with settings of Cargo, without tests.
+    Gives what each said, by its folder."""
     other, folder = debian.parent / "a" / "longer" / "path", debian.parent
     other.parent.mkdir(parents=True)
     check(["cp", "-a", debian, other])
-    strange = {**OF_DEBIAN, "TZ": "Asia/Tokyo", "LC_ALL": "C", "USER": "other", "DEB_BUILD_OPTIONS": "nocheck"}
+    (folder / "cargo").mkdir()
+    (folder / "cargo/config.toml").write_text("[profile.release]\nopt-level = 0\n", encoding="ascii")
+    strange = {**OF_DEBIAN, "TZ": "Asia/Tokyo", "LC_ALL": "C", "USER": "other", "DEB_BUILD_OPTIONS": "nocheck",
+               "CARGO_HOME": f"{folder / 'cargo'}"}
     return {folder: check(["sh", "-ec", commands_for_debian()[1]], cwd=folder, env=OF_DEBIAN),
             other.parent: check(["sh", "-c", "umask 077 && dpkg-buildpackage -us -uc -b -nc"], cwd=other, env=strange)}
 
@@ -292,6 +317,14 @@ def test_lintian(packages):
 def test_properties_of_the_packaged_library(packages):
     [shared] = packages[1].rglob(SHARED)
     assert_properties(shared, ["memcpy", "memset"], more=HAS_FROM_SOURCE)
+
+
+@needs_debian
+def test_lines_for_a_debugger(packages):
+    """The package of debugging symbols has them, for the functions of C and for each device."""
+    [symbols] = (packages[1] / "usr/lib/debug").rglob("*.debug")
+    found = {*re.findall(r"\s(?:\S*/)?(\w+\.rs)$", check(["readelf", "--debug-dump=line", symbols]), re.M)}
+    assert found >= {"lib.rs", "serial.rs", "rtc_pl031.rs", "i8042.rs", "fifo.rs", "output_ring.rs"}
 
 
 @needs_debian

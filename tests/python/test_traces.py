@@ -223,8 +223,10 @@ def test_bytes_that_linux_leaves():
 
 
 # What pages say of each recording, in its form there: how many calls and pieces it has, and how often its kernel reads
-# the status of the controller in vain.
-SAID = at_least(9, [
+# the status of the controller in vain. Of the first input that goes in whole, and that does not: how much goes in.
+SAID = at_least(11, [
+    (WITH_INPUT, "web/boot.mjs", r"The kernel read its ([\d,]+) bytes in one interrupt", "typed"),
+    (WITH_INPUT, "web/boot.mjs", r"The FIFO accepted ([\d,]+) of them", "fitted"),
     *((recording, "examples/linux-boot/README.md", rf"^\| Size {form} ([\d,]+) calls in (\d+) pieces", "calls pieces")
       for recording, form in ((RECORDING, r"\|"), (WITH_INPUT, r"\|[^|]*\|"))),
     *((RECORDING, page, form, "reads") for page, form in (
@@ -242,7 +244,11 @@ def counts_of(recording):
     lines = [line_of(step.call.command) for step in steps]
     asked = lines.index("kw 04 20") if "kw 04 20" in lines else len(lines)
     resets = lines[asked:].count("kw 04 fe")   # before each of which it reads the status once
-    return {"calls": len(steps), "pieces": steps[-1].piece, "reads": lines[asked:].count("kr 04") - resets}
+    offered = [(len(call.command.values[0]), call.reply) for _, call, _ in steps if call.command.name == "sq"]
+    typed, fitted = (next((int(reply, 16) for size, reply in offered if (int(reply, 16) == size) == is_whole), 0)
+                     for is_whole in (True, False))
+    return {"calls": len(steps), "pieces": steps[-1].piece, "reads": lines[asked:].count("kr 04") - resets,
+            "typed": typed, "fitted": fitted}
 
 
 @pytest.mark.parametrize("recording, page, form, kinds", SAID, ids=lambda value: str(value)[-30:])

@@ -121,6 +121,16 @@ def test_what_is_refused(crate, tmp_path):
         assert ran.returncode and f"error: {why}" in re.sub(r"error\[\w+\]", "error", ran.stdout), ran.stdout
 
 
+def test_what_the_c_library_refuses(tmp_path):
+    """In a function that is unsafe, too, each place that is has a block of its own, whose comment says why it is sound."""
+    shutil.copytree(DEVICES, tmp_path / "rust/superio", ignore=shutil.ignore_patterns("target", "Cargo.lock"))
+    cargo = copied_crate(tmp_path / "bindings/c", crate=ROOT / "bindings/c/from-source")
+    cargo.check("check")
+    with open(cargo.folder / "src/lib.rs", "a", encoding="utf-8") as library:
+        library.write("pub unsafe fn a(place: *mut u8) {\n    *place = 0;\n}\n")
+    assert "is unsafe and requires unsafe" in cargo.run("check").stdout
+
+
 @CRATES
 def test_no_warning(crate, tmp_path):
     copied_crate(tmp_path, crate=crate).check("check", RUSTFLAGS="-D warnings")

@@ -1,6 +1,7 @@
 # SPDX-License-Identifier: Apache-2.0 OR BSD-3-Clause
 """What makes the cases of several tests loses none of them, at either end."""
 import lzma
+import random
 import re
 from itertools import product
 
@@ -10,7 +11,7 @@ import script_tests
 from board import OFTEN, Board
 from common.facts import ERRORS, word_of
 from harness import at_least
-from made import any_call, broken_lines, every_load
+from made import any_call, broken_lines, every_load, random_calls
 from recorded import Recorder, every_answer, random_recorded, recordings, rows_of
 from script import BYTES, FURTHER_LINES, LINES, call_of, replies_of
 from script_tests import (FURTHER_TESTS, TESTS, Script, board_scripts, kept_scripts, load_scripts, made_scripts,
@@ -146,6 +147,22 @@ def test_random_calls_have_each_kind():
         did |= {reply[-1]} & {*"ij"} if call[0] == "c" else {word[0] for word in recorder.did}
     assert did == {*"TRWFboleij"}
     assert said == {kind_of(*row) for text in recordings().values() for row in rows_of(text)}
+
+
+ENDS = {"serial_write": ["ok", "io", "trigger"], "enqueue": ["full", "trigger"], "timeout": ["ok", "trigger"],
+        "restore": ["ok", "trigger"], "load": ["ok", "trigger"], "clock_write": ["ok", "invalid"]}
+
+
+def test_random_scripts_have_each_end():
+    """Each end of a call, and of its numbers: both of 32 bits and, for moments, also with higher bits."""
+    calls, ended, ends = [], set(), {*range(4), *range(2**32 - 4, 2**32)}
+    for some in (random_calls(random.Random(str(seed))) for seed in range(400)):   # the same in each run of the tests
+        calls += some
+        ended |= {*zip((name for name, *_ in some if name != "refuse"), replies_of(Board(model), some))}
+    assert {(name, end) for name in ENDS for end in ENDS[name]} <= ended
+    rows = [call for call in calls if call[0] == "clock_write"]
+    assert all(ends <= {number % 2**32 for number in column} for column in list(zip(*rows))[1::2])
+    assert {0, 1} < {moment >> 32 for _, moment, *_ in rows}
 
 
 def test_every_answer():
