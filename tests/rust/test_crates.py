@@ -172,12 +172,12 @@ def test_compiles_for(target, tmp_path):
 @pytest.mark.parametrize("target", [pytest.param(target, marks=pytest.mark.needs(tools[0]))
                                     for target, tools in TARGETS.items() if tools[1:]])
 def test_on(target, crate, tmp_path):
-    """The tests pass in qemu's user mode, with fewer random calls: what differs here are the order of bytes and the width of
-    words, which each call has."""
+    """The tests pass in qemu's user mode."""
     _, compiler, emulator = TARGETS[target]
     name = f"CARGO_TARGET_{target.upper().replace('-', '_')}"
     settings = {f"{name}_LINKER": compiler, f"{name}_RUNNER": f"{emulator} -L /usr/{compiler[:-len('-gcc')]}",
-                "CONSOLE_WORLDS": "150", "RANDOM_ROUNDS": "2000"}
+                "CARGO_PROFILE_DEV_OPT_LEVEL": "1",   # else the emulator takes long
+                "CARGO_PROFILE_DEV_CODEGEN_UNITS": "1"}   # several are optimized twice, each alone and together
     cargo = copied_crate(tmp_path, toolchain_for(target), crate)
     assert cargo.test("--lib", "--tests", "--target", target, **settings) == number_of_tests(crate)
 

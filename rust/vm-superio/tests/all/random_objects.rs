@@ -1,7 +1,7 @@
 // SPDX-License-Identifier: Apache-2.0 OR BSD-3-Clause
 //! Random calls of the devices with random objects, which all borrow what they log to. The writer fails with errors of
 //! every kind, the trigger refuses with errors that borrow, and the devices begin in any state. The devices without I/O
-//! say what has to come. `RANDOM_ROUNDS=1000000` in the environment makes so many calls of each kind.
+//! say what has to come.
 use std::cell::{Cell, RefCell};
 use std::collections::HashSet;
 use std::error::Error as StdError;
@@ -17,13 +17,9 @@ use vm_superio::serial::timeout::CharacterTimeout;
 use vm_superio::serial::{Error, SerialEvents};
 use vm_superio::{I8042Device, Rtc, RtcState, Serial, SerialState, Trigger};
 
+const ROUNDS: u64 = 20_000;
 const THRE: u8 = 0x02;
 const OFFSETS: u64 = 9; // one more than there are registers
-
-/// How many calls of a kind are made.
-fn rounds() -> u64 {
-    std::env::var("RANDOM_ROUNDS").map_or(20_000, |count| count.parse().expect("a number"))
-}
 
 /// Random numbers, by the generator splitmix64.
 struct Random(u64);
@@ -407,7 +403,7 @@ fn call(random: &mut Random, port: &mut Port, model: &mut Model) -> (String, Str
 fn a_port_calls_its_objects_as_the_device_without_io_says_and_returns_their_errors() {
     let mut random = Random::of(1);
     let world = World { name: "a line that is borrowed".into(), ..World::default() };
-    for _ in 0..rounds() / 5 {
+    for _ in 0..ROUNDS / 5 {
         let state = random.port();
         world.begin(&mut random);
         let mut model = Model::of(&state, &world);
@@ -449,7 +445,7 @@ fn a_port_calls_its_objects_as_the_device_without_io_says_and_returns_their_erro
 fn a_clock_reports_invalid_accesses_and_nothing_else() {
     let mut random = Random::of(2);
     let world = World::default();
-    for _ in 0..rounds() {
+    for _ in 0..ROUNDS {
         let snapshot = random.clock();
         let mut clock = Rtc::from_snapshot(&snapshot, Object(&world));
         let mut model = Pl031::from_state(&vm_superio::sansio::RtcState::from_bytes(&snapshot.to_bytes()).unwrap());
@@ -482,7 +478,7 @@ fn moment() -> u64 {
 fn a_clock_takes_the_hosts_time_in_each_call_that_needs_it() {
     let mut random = Random::of(3);
     let world = World::default();
-    for _ in 0..rounds() / 4 {
+    for _ in 0..ROUNDS / 4 {
         let mut snapshot = random.clock();
         let before = moment();
         // Guest times that are near the match, and alarms that are due or not yet.
@@ -513,7 +509,7 @@ fn a_clock_takes_the_hosts_time_in_each_call_that_needs_it() {
 fn a_controller_resets_once_for_the_reset_command_and_returns_a_refusal() {
     let mut random = Random::of(4);
     let world = World { name: "reset".into(), ..World::default() };
-    for _ in 0..rounds() {
+    for _ in 0..ROUNDS {
         world.begin(&mut random);
         let mut controller = I8042Device::new(Object(&world));
         let (offset, value) = (random.below(8) as u8, 0xFE - random.below(2) as u8);
@@ -531,7 +527,7 @@ fn a_controller_resets_once_for_the_reset_command_and_returns_a_refusal() {
 #[test]
 fn any_state_goes_there_and_back() {
     let mut random = Random::of(5);
-    for _ in 0..rounds() {
+    for _ in 0..ROUNDS {
         let (state, snapshot) = (random.port(), random.clock());
         let (bytes, of_clock) = (state.to_bytes().unwrap(), snapshot.to_bytes());
         assert_eq!((bytes.len(), of_clock.len()), (17 + state.in_buffer.len(), SAVED_SIZE));
