@@ -126,7 +126,7 @@ def date_of(seconds: int) -> str:
 
 
 def _clock_access(call: Call) -> str:
-    _, offset, *value = call.command.values
+    moment, offset, *value = call.command.values
     if call.reply == "invalid":
         place = f"{offset:#06x}" + (f", {call.register.name}" if call.register else "")
         return f"invalid: nothing can be {'written' if value else 'read'} at {place}"
@@ -136,7 +136,7 @@ def _clock_access(call: Call) -> str:
         return "ok"
     if call.after.clock.armed:
         return f"alarm set for guest time {value[0]:#010x}  {date_of(value[0])} UTC"
-    if call.after.clock.ris & 1:
+    if Rtc.from_state(call.after.clock).read("DR", moment).value == value[0]:   # RIS may have been up before
         return "ok: guest time is there, so the alarm is up"
     return f"ok, and no alarm: guest time {value[0]:#010x}, {date_of(value[0])} UTC, is past"
 
