@@ -45,9 +45,10 @@ def releases(tmp_path_factory):
     releases."""
     folder = tmp_path_factory.mktemp("releases")
     own = {**os.environ, "GIT_COMMITTER_DATE": f"{MOMENT} +0000"}
-    other = {**own, "TZ": "Asia/Tokyo", "LC_ALL": "C", "USER": "other", "HOME": str(folder / "home"), "TMPDIR": str(folder / "temporary")}
-    for name in ("home", "temporary"):
+    other = {**own, "TZ": "Asia/Tokyo", "LC_ALL": "C", "USER": "other"}
+    for variable, name in ("HOME", "home"), ("TMPDIR", "temporary"):
         (folder / name).mkdir()
+        other[variable] = str(folder / name)
     for made, user, mask, environment in ("one", [], "022", own), ("two", another_user(), "077", other):
         tree = folder / f"the tree of {made}"
         copy_repository(tree)
@@ -120,9 +121,11 @@ def test_page(releases):
 
 def test_packages_for_registries(releases):
     """That of npm has all that its manifest lists and the licenses, and a wheel the library of its processor."""
-    files = {path.name: path for path in [*(ROOT / "bindings/js").iterdir(), *ROOT.glob("LICENSE"), *ROOT.glob("LICENSES/*")]}
+    sources = [*(ROOT / "bindings/js").iterdir(), *ROOT.glob("LICENSE"), *ROOT.glob("LICENSES/*")]
+    files = {path.name: path for path in sources}
     with tarfile.open(releases / "one" / f"superio-{VERSION}.tgz") as archive:
-        found = {member.name.partition("/")[2]: archive.extractfile(member).read() for member in archive if member.isfile()}
+        found = {member.name.partition("/")[2]: archive.extractfile(member).read()
+                 for member in archive if member.isfile()}
     listed = json.loads(files["package.json"].read_text("utf-8"))["files"]
     assert {name.partition("/")[0] for name in found} == {*listed, "package.json"}
     assert not [name for name in found if found[name] != files[name.rpartition("/")[2]].read_bytes()]
