@@ -11,7 +11,8 @@ import script_tests
 from board import OFTEN, Board
 from common.facts import ERRORS, word_of
 from harness import at_least
-from made import any_call, broken_lines, every_load, random_calls
+from made import (CLOCK, CLOCK_CONTENTS, CLOCK_FIELDS, SHOWN, any_call, broken_lines, clock_state, every_load,
+                  random_calls, saved)
 from recorded import Recorder, every_answer, random_recorded, recordings, rows_of
 from script import BYTES, FURTHER_LINES, LINES, call_of, replies_of
 from script_tests import (FURTHER_TESTS, TESTS, Script, board_scripts, kept_scripts, load_scripts, made_scripts,
@@ -163,6 +164,26 @@ def test_random_scripts_have_each_end():
     rows = [call for call in calls if call[0] == "clock_write"]
     assert all(ends <= {number % 2**32 for number in column} for column in list(zip(*rows))[1::2])
     assert {0, 1} < {moment >> 32 for _, moment, *_ in rows}
+
+
+def test_random_clocks_have_each_end():
+    """Numbers at both ends, offsets in each quarter of their range, near 0 and near the highest, and both bits."""
+    states = [clock_state(random.Random(str(seed))) for seed in range(400)]
+    ends = {"I": {0, 2**32 - 1}, "q": {-1, 0, 2**63 - 1 >> 40}, "b": {0, 1}}
+    for name, kind in CLOCK_FIELDS.items():
+        assert ends[kind] <= {state[name] >> 40 * (kind == "q") for state in states}, name
+    assert {state["offset"] >> 62 for state in states} == {*range(-2, 2)}
+
+
+@pytest.mark.parametrize("name", CLOCK_FIELDS)
+def test_each_field_of_a_clock_is_shown(name):
+    """By the calls at the end of a random script, the last of which come after an alarm: if clocks differ in one field,
+    their replies do."""
+    state = {**{other: {"I": 4, "q": -3, "b": 0}[kind] for other, kind in CLOCK_FIELDS.items()}, "IMSC": 1}
+
+    def shown(clock):
+        return replies_of(Board(model), [("clock_load", saved(CLOCK, CLOCK_CONTENTS.pack(*clock.values()))), *SHOWN])
+    assert shown(state) != shown({**state, name: state[name] ^ 1})
 
 
 def test_every_answer():
