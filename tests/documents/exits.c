@@ -111,7 +111,7 @@ int main(void) {
     check_port_in_memory();
     data[0] = 0xFE;
     access_ports(KVM_EXIT_IO_OUT, SUPERIO_I8042_COMMAND_PORT, 1, 1);
-    expect(machine.console.port.interrupt_enable == 0, "the machine is reset");
+    expect(machine.is_reset && machine.console.port.interrupt_enable == 0x01, "a reset is left to the caller");
     shared.run.exit_reason = KVM_EXIT_HLT;
     expect(!serve_exit(&machine, &shared.run), "another exit is left to the caller");
     puts("each step is right");
