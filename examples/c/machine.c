@@ -438,7 +438,7 @@ static void move(struct machine *from, struct machine *to, pthread_t *loop) {
     eventfd_write(from->wake_up, 1);
     pthread_join(*loop, NULL);
     save(from, &saved);
-    /* step 1 of a restore: nothing, because there are no processors and no controller here */
+    /* step 1 of a restore: nothing to restore, because this example has no real processor and no controller */
     if (!restore(to, &saved))
         errx(1, "the snapshot is refused");
     /* step 6 of a restore */
