@@ -310,7 +310,7 @@ static void save(struct machine *machine, struct snapshot *saved) {
 }
 
 /* Takes the lock, carries out steps 2 to 5 of a restore, and releases the lock. The interrupt controller is restored,
- * and neither the processors nor the event loop run yet. Returns false if the snapshot is refused. */
+ * and neither the processors nor the event loop run yet. Returns false if the snapshot is invalid. */
 static bool restore(struct machine *machine, const struct snapshot *saved) {
     pthread_mutex_lock(&machine->lock);
     /* step 2: load into temporaries, so that a bad snapshot changes nothing */
