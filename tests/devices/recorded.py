@@ -16,8 +16,8 @@ CALLS = ROOT / "tests" / "data" / "calls"
 # The names of its recordings, and one of what `every_answer` makes.
 RECORDINGS, EVERY_ANSWER = [path.name for path in sorted(CALLS.glob("*.txt*"))], "every answer"
 RUN = 40   # calls of a random run
-# Words after a random call, which say how the objects behave in it.
-BEHAVIOURS = [*[""] * 6, *"12nfui", "1 2", "1 f", "1 u", "2 n"]
+# Words after a random call, which say how the trigger behaves in it, and how the writer does.
+OF_TRIGGER, OF_WRITER = [*[""] * 5, "1", "2", "1 2"], [*[""] * 6, *"nfui"]
 # The lines of scripts that recorded calls share.
 SHARED = ("sr", "sw", "sq", "si", "sc", "cr", "cw", "kr", "kw")
 # A call, and the words after it.
@@ -134,7 +134,7 @@ def random_run(source):
     start = [f"sl {port_text(*port_state(source))}"] if kind == "s" else []
     if kind == "s":
         calls = [source.choice([*further, f"sl {port_text(*port_state(source))}", *[call] * 24]) for call in calls]
-    return [*start, *(f"{call} {source.choice(BEHAVIOURS)}".rstrip() for call in calls)]
+    return [*start, *(" ".join([call, *filter(None, map(source.choice, (OF_TRIGGER, OF_WRITER)))]) for call in calls)]
 
 
 def random_recorded(seeds):

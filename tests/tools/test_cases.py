@@ -3,6 +3,7 @@
 import lzma
 import random
 import re
+from functools import cache
 from itertools import product
 
 import model
@@ -10,10 +11,11 @@ import pytest
 import script_tests
 from board import OFTEN, Board
 from common.facts import ERRORS, word_of
+from documents import CODE, Document, table
 from harness import at_least
 from made import (CLOCK, CLOCK_CONTENTS, CLOCK_FIELDS, SHOWN, any_call, broken_lines, clock_state, every_load,
                   random_calls, saved)
-from recorded import Recorder, every_answer, random_recorded, recordings, rows_of
+from recorded import Recorder, every_answer, random_recorded, read, recordings, rows_of
 from script import BYTES, FURTHER_LINES, LINES, call_of, replies_of
 from script_tests import (FURTHER_TESTS, TESTS, Script, board_scripts, kept_scripts, load_scripts, made_scripts,
                           refused_scripts, scripts_of)
@@ -127,6 +129,12 @@ def test_numbers_that_come_often(call, kinds, often):
             assert sum(number not in numbers for number in found) > draws / (len(numbers) + 1) * 0.9
 
 
+@cache
+def runs():
+    """Random recorded calls, the same in each run of the tests: a rare kind comes in one of 150."""
+    return random_recorded(map(str, range(1000)))
+
+
 def kind_of(call, reply):
     """The name of a recorded call, and whether it succeeded or why not, if its reply begins with that."""
     return call[:2], *({reply.split(" ")[0]} & {"ok", "trigger", "io", "full"})
@@ -135,8 +143,7 @@ def kind_of(call, reply):
 def test_random_calls_have_each_kind():
     """Each call of a recording, with each way in which it ends there, each behaviour of the objects, and each call of
     them."""
-    runs = random_recorded(map(str, range(1000)))   # the same in each run of the tests: a rare kind comes in one of 150
-    calls = [call for run in runs for call in run]
+    calls = [call for run in runs() for call in run]
     assert {call[:2] for call in calls} == {row[:2] for text in recordings().values() for row in text.splitlines()
                                             if " = " in row}
     words = {word for call in calls if call[0] != "c" for word in call.split() if len(word) == 1}
@@ -148,6 +155,24 @@ def test_random_calls_have_each_kind():
         did |= {reply[-1]} & {*"ij"} if call[0] == "c" else {word[0] for word in recorder.did}
     assert did == {*"TRWFboleij"}
     assert said == {kind_of(*row) for text in recordings().values() for row in rows_of(text)}
+
+
+def behaviours():
+    """The words of each behaviour, by the table of tests/README.md: those of the trigger, alone and together, with each
+    one of the writer, and none."""
+    rows = [(CODE.findall(words), of) for words, of in table(Document("tests/README.md").text, "Word | The objects")]
+    [first, second] = [word for words, of in rows for word in words if "trigger" in of]
+    others = [word for words, of in rows for word in words if "trigger" not in of]
+    return {" ".join(filter(None, words)) for words in product(["", first, second, f"{first} {second}"], ["", *others])}
+
+
+def test_random_calls_have_each_behaviour():
+    """After each call in which objects can be called."""
+    found = {}
+    for name, *_, words in (read(call) for run in runs() for call in run):
+        found.setdefault(name, set()).add(words.strip())
+    wanted = {*at_least(20, behaviours())}
+    assert found == {name: {""} if name[0] == "c" else wanted for name in found}
 
 
 ENDS = {"serial_write": ["ok", "io", "trigger"], "enqueue": ["full", "trigger"], "timeout": ["ok", "trigger"],
