@@ -1,10 +1,12 @@
 # SPDX-License-Identifier: Apache-2.0 OR BSD-3-Clause
 """The examples of examples/c compare what they receive: each says so if one byte is another, at the first place, at the
 last, or between. monitor.c serves a line that takes and gives little, and only after a poll, and breaks no rule of
-superio.h on threads, files and a time that rules.c makes. machine.c moves in the middle of its input and output."""
+superio.h on threads, files and a time that rules.c makes. machine.c moves in the middle of its input and output, and
+takes its locks as locks.c says."""
 import fcntl
 import os
 import platform
+import re
 import resource
 import subprocess
 import time
@@ -124,6 +126,38 @@ def test_rules_of_a_monitor(tmp_path):
     assert ran.returncode == 0, ran.stdout
 
 
+MACHINE = (ROOT / "examples/c/machine.c").read_text("utf-8")
+# What the lock of a machine is of, but where the guest is in place of the interrupt controller.
+OF_LOCK = re.compile(r"\b(machine|from|to)->(console|clock|ahead|now|clock_was_up|is_\w+|irq|clock_line)\b(?! = must)")
+HERE = "static struct machine *here;\n"
+CALLS_OF_LOCKS = at_least(32, re.findall(r"\bpthread_mutex_((?:un)?lock\([^()]+\))", MACHINE))
+
+
+@pytest.fixture(scope="module")
+def locks(tmp_path_factory):
+    """A program that watches the locks of machine.c."""
+    folder = tmp_path_factory.mktemp("locks")
+    assert MACHINE.count(HERE) == 1
+    machine = OF_LOCK.sub(r"locked(\1)->\2", MACHINE)
+    machine = machine.replace(HERE, f'{HERE}#define here (*(need(&processor, "to use `here`"), &here))\n')
+    text = (ROOT / "tests/c/locks.c").read_text("ascii").replace("MACHINE\n\n", machine, 1)
+    (folder / "locks.c").write_text(text, "ascii")
+    check(["cc", "-Wall", "-Wextra", "-Werror", "-I", ROOT / "bindings/c", folder / "locks.c",
+           PREBUILT / f"{platform.machine()}-linux" / STATIC, "-pthread", "-o", folder / "locks"], "")
+    return folder / "locks"
+
+
+def test_locks_of_a_machine(locks):
+    check([locks], (ROOT / "examples/c/expected").read_text("ascii"), input="hello\n")
+
+
+@pytest.mark.parametrize("number", range(len(CALLS_OF_LOCKS)), ids=lambda number: f"{number} {CALLS_OF_LOCKS[number]}")
+def test_a_machine_without_one_lock(locks, number):
+    """Whichever call takes a lock, and releases it after that, or only releases it."""
+    ran = run([locks, number], input="hello\n")
+    assert ran.returncode == 1 and "may not do this" in ran.stdout, ran.stdout
+
+
 SET_PIPE_SIZE = 1031   # of Linux, which Python 3.9 does not name
 # How machine.c is edited so that nothing depends on who comes first. Its guest is held until the reader of its output
 # takes some, and is moved once it is held, with all that the port can hold. A line on standard error then has the
@@ -173,7 +207,7 @@ MOVES = {
 
 def came_back(edits, typed, folder):
     """What a machine sends whose guest is held before it moves."""
-    machine = (ROOT / "examples/c/machine.c").read_text("utf-8")
+    machine = MACHINE
     for old, new in [*PATIENT.items(), *edits.items()]:
         assert machine.count(old) == 1, old
         machine = machine.replace(old, new)
