@@ -13,6 +13,7 @@ import re
 import socket
 import subprocess
 import threading
+from collections import deque
 from contextlib import contextmanager
 from pathlib import Path
 
@@ -130,16 +131,19 @@ def browse(folder, tried):
     page.write_text(f'<!doctype html><body><script type="application/json" id="tried">{text}</script>'
                     f'<script type="module" src="{(HERE / "frames.mjs").as_uri()}"></script>', "ascii")
     words = [*BROWSER, f"--user-data-dir={folder}", page.as_uri()]
+    last = deque(maxlen=5)   # lines
     with subprocess.Popen(words, stdout=subprocess.DEVNULL, stderr=subprocess.PIPE, encoding="utf-8") as browser:
         timer = threading.Timer(LIMIT, browser.kill)
         timer.start()
         try:
-            for found in filter(None, map(TOLD.search, browser.stderr)):
-                what = json.loads(found[1]) if found[1].startswith("{") else {"kind": "console", "wrong": found[1]}
-                if "end" in what:
-                    return
-                yield what
-            yield {"kind": "console", "wrong": f"the browser ended, or took more than {LIMIT} seconds"}
+            for line in browser.stderr:
+                last.append(line)
+                if found := TOLD.search(line):
+                    what = json.loads(found[1]) if found[1].startswith("{") else {"kind": "console", "wrong": found[1]}
+                    if "end" in what:
+                        return
+                    yield what
+            yield {"kind": "console", "wrong": f"the browser ended, or took more than {LIMIT} seconds: {[*last]}"}
         finally:
             timer.cancel()
             browser.terminate()

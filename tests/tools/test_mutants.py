@@ -229,7 +229,8 @@ def test_an_entry_lists_one_mutant(sample):
 def test_tests_that_fail_are_no_tests(sample, tmp_path):
     with open(tmp_path / "test_sample.py", "a", encoding="utf-8") as file:
         file.write("\n\ndef test_wrong():\n    assert False\n")
-    with pytest.raises(SystemExit, match="(?s)^sample: these tests refuse the code as it is\n[^\n]*::test_wrong$"):
+    with pytest.raises(SystemExit, match="(?s)^sample: these tests refuse the code as it is\n[^\n]*::test_wrong\n"
+                                         "  failed\n.*    >       assert False\n"):
         sample()
 
 
@@ -258,7 +259,8 @@ def test_lines_that_are_reached(language, tmp_path):
     [test] = TOOL.split(command, copy, False)
     found = TOOL.measured(test, copy, language, [name], None).lines[name]
     assert {line: found[line] for line in lines} == lines
-    assert TOOL.measured(test._replace(command="false"), copy, language, [name], None) is None
+    refuses = TOOL.measured(test._replace(command="bash -c 'seq 100 >&2; false'"), copy, language, [name], None)
+    assert refuses.refusal.split() == ["failed", *map(str, range(81, 101))]
 
 
 # A source whose third line runs in some runs.
@@ -337,6 +339,21 @@ def test_a_command_can_do_no_harm(copy, tmp_path):
     assert copy.run("setsid sleep 1000 & mkdir /tmp/left; echo > /tmp/left/file; echo > /dev/shm/left").how == "passed"
     assert copy.run("! pgrep sleep && test ! -e /tmp/left -a ! -e /dev/shm/left -a -e here").how == "passed"
     assert [copy.run(command).how for command in ("kill -9 $PPID", "true")] == ["failed", "passed"]
+
+
+@pytest.mark.needs("mutants")
+def test_a_command_has_a_temporary_folder(copy, monkeypatch):
+    """Also if the caller has one that no command may write into."""
+    monkeypatch.setenv("TMPDIR", str(ROOT))
+    assert copy.run("mktemp").how == "passed"
+
+
+def test_a_browser_that_ends_is_not_waited_for(tmp_path):
+    (tmp_path / "chromium").write_text("#!/bin/sh\nhead -c 1 <&3\n", "ascii")
+    (tmp_path / "chromium").chmod(0o700)
+    ran = run([ROOT / "tools" / "mutation" / "chromium", "about:blank"],
+              env={**os.environ, "PATH": f"{tmp_path}{os.pathsep}{os.environ['PATH']}"})
+    assert ran.returncode and ran.stdout.endswith("the browser ended\n"), ran.stdout
 
 
 # Commands that have no end, and the seconds that they get, of time and of a processor: each is late for another reason.

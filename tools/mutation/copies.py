@@ -14,9 +14,11 @@ from typing import NamedTuple
 from common.cargo import Cargo
 
 IGNORED = shutil.ignore_patterns(".git", "out", "target", "Cargo.lock", "node_modules", "__pycache__")
-# No command writes outside its copy: /dev and /tmp are its own. It has no network, and what it starts ends with it.
+# No command writes outside its copy: /dev and /tmp are its own, and another temporary folder of the caller could not be
+# written. It has no network, and what it starts ends with it.
 SANDBOX = ["bwrap", "--ro-bind", "/", "/", "--dev", "/dev", "--dev-bind-try", "/dev/kvm", "/dev/kvm", "--proc", "/proc",
-           "--tmpfs", "/tmp", "--unshare-pid", "--unshare-net", "--die-with-parent", "--new-session"]
+           "--tmpfs", "/tmp", "--setenv", "TMPDIR", "/tmp", "--unshare-pid", "--unshare-net", "--die-with-parent",
+           "--new-session"]
 RUNNER = ["/usr/bin/python3", "-c", Path(__file__).with_name("runner.py").read_text(encoding="utf-8")]
 COMPILERS = ["cc", "gcc"]
 PYTEST = "/usr/bin/python3 -m pytest -q -x"   # the runner has pytest imported already, and takes the words after this

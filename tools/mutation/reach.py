@@ -16,6 +16,7 @@ from typing import NamedTuple
 from mutation.copies import PYTEST
 
 MOST_NEAREST = 2   # tests that come first, since they refused another mutant
+MOST_SAID = 20     # lines that are told of a test that refuses the code as it is
 # What a command does while it tells what it reaches, in the folder $REACH of a copy.
 BEGINS = {
     "python": """export HOME=$REACH COVERAGE_PROCESS_START=$REACH/rc
@@ -40,12 +41,14 @@ ENDS = {
 
 class Test(NamedTuple):
     """A test: a command or, with a name, one of the names that a command takes. `lines` has the lines of files about
-    which something is known, each with whether the test reaches it."""
+    which something is known, each with whether the test reaches it. A test that refuses the code as it is has a
+    `refusal`: how it ended, and what it said last."""
     command: str
     name: str
     seconds: float = 0     # how long the test takes
     processor: float = 0   # how many seconds of a processor it takes: as many on a busy machine
     lines: dict = {}
+    refusal: str = ""
 
     def __str__(self):
         return joined([self])
@@ -127,16 +130,20 @@ LINES = {"python": lambda folder, _: lines_of_python(folder), "node": lines_of_n
 
 
 def measured(test, copy, language, sources, memory):
-    """A test with its time and what it reaches, or None if it refuses the code as it is."""
+    """A test with its time and what it reaches, or with its refusal of the code as it is."""
     folder = copy.folder / "reach"
     shutil.rmtree(folder, ignore_errors=True)
     folder.mkdir()
-    command = f"export REACH={folder}\n{BEGINS[language]}\n{test}\nstatus=$?\n{ENDS[language]}\nexit $status"
+    said = folder / "said"
+    said.touch()
+    command = (f"export REACH={folder}\n{BEGINS[language]}\n{test} > {said} 2>&1\nstatus=$?\n{ENDS[language]}\n"
+               "exit $status")
     began = time.monotonic()
-    ended = copy.run(command if language else f"{test}", memory)
+    ended = copy.run(command, memory)
     seconds = time.monotonic() - began
     if ended.how != "passed":
-        return None
+        last = said.read_text(encoding="utf-8", errors="replace").splitlines()[-MOST_SAID:]
+        return test._replace(refusal="\n    ".join([ended.how, *last]))
     lines = LINES[language](folder, sources)
     return test._replace(seconds=seconds, processor=ended.processor,
                          lines={source: lines[source] for source in sources if source in lines})
