@@ -140,7 +140,7 @@ pub fn history()
 /// So a byte that has i bytes before it in its direction is through after i + 1 such runs, whatever arrives meanwhile.
 /// The law does not say that these runs come. That is up to the monitor and the guest. The monitor makes a turn while
 /// `wants` names one, raises each interrupt that a call tells it to raise, and calls `refuse` if it cannot. The guest
-/// runs its handler when it is interrupted. docs/DRIVERS.md has all that this rests on.
+/// runs its handler when it is interrupted. docs/EVERY-BYTE.md has all that this rests on.
 pub fn each_byte_is_through()
     ensures { EachByteIsThroughLaw }
 {
