@@ -19,8 +19,8 @@ from contracts import code_of, end_of_braces, functions_of
 from harness import ROOT, at_least
 
 CRATES = ROOT / "crates"
-PROVED = ["superio_core", "superio_laws", "superio_console", "vm_superio", "superio_c", "superio_script", "superio",
-          "superio_examples"]
+PROVED = ["superio_core", "superio_laws", "superio_console", "vm_superio", "superio_c", "board_objects", "superio_script",
+          "superio", "superio_examples"]
 SOURCES = {path.relative_to(CRATES).as_posix(): path.read_text(encoding="utf-8")
            for crate in PROVED for path in sorted((CRATES / crate / "src").rglob("*.rt"))}
 # The crates whose traits a user's objects have.

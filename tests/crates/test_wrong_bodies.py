@@ -15,7 +15,7 @@ from documents import CODE, Document
 from harness import ROOT, at_least
 from common.rattle import number_of_edits
 
-CRATES = ["superio_core", "superio_console", "vm_superio", "superio_c", "superio_script"]
+CRATES = ["superio_core", "superio_console", "vm_superio", "superio_c", "board_objects", "superio_script"]
 
 
 def places(edit):
@@ -151,7 +151,7 @@ def test_likely_bug(name):
         assert any(f"#[test]\nfn {test}(" in source for source in sources)
 
 
-@pytest.mark.parametrize("edit", at_least(5, shared()))
+@pytest.mark.parametrize("edit", at_least(6, shared()))
 def test_named(edit):
     """A line `# FUNCTION` or `# FUNCTION: what it does` stands above each wrong body."""
     for comment, changed in groupby(places(edit), key=itemgetter(0)):

@@ -23,7 +23,7 @@ from harness import ROOT, at_least, check
 CLAIMS = ["docs/CONTRACTS.md", "docs/SCRIPT.md", "crates/superio_examples/README.md"]
 OF_A_DEVICE = re.compile(r"^### What is proved of .*\n((?:(?!#).*\n)*)", re.M)   # in docs/DEVICES.md
 LIBRARIES = ["superio_core", "superio_laws", "superio_console", "vm_superio"]
-CRATES = [*LIBRARIES, "superio_c", "superio_script", "superio_examples"]
+CRATES = [*LIBRARIES, "superio_c", "board_objects", "superio_script", "superio_examples"]
 CITATION = re.compile(r"(\w+(?:::\w+)*(?:, \w+(?:::\w+)*)*): ([a-z]\w*(?:, \w+)*)")
 COMMAND = re.compile(r"\b((?:tools|tests)/[\w./-]+) ([^#]*)")
 FILE = re.compile(r"(?<![\w/.~$:*-])(?:\.{1,2}/)*(?!\.{1,2}/)([\w.-]+(?:/[\w.-]+)+|[\w-]+\."
@@ -150,7 +150,7 @@ SECTIONS = OF_A_DEVICE.findall(Document("docs/DEVICES.md").prose)
 CITED = cited_in([*(Document(name).prose for name in CLAIMS), *SECTIONS])
 # The functions of devices that have a section of their own, each with a clause. A board is no device.
 OF_DEVICES = [(function, clause) for function, clause in sorted(cited_in(SECTIONS))
-              if clause and not function.startswith("superio_script::")]
+              if clause and not function.startswith(("board_objects::", "superio_script::"))]
 # The calls of a console, which docs/USING.md tells of.
 CONSOLE = {function.name for function in SOURCES.functions if function.is_public and function.path[-2] == "Console"
            and function.path[0] == "superio_console" and " for " not in function.header}

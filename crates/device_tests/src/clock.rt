@@ -4,9 +4,9 @@
 //! program uses them, so that a change of a signature is a compile error.
 use crate::clock::Access::{Read, Write};
 use crate::serial_calls::is_compared_and_printed;
+use board_objects::Counts;
 use std::alloc::Global;
 use std::process::Abort;
-use superio_script::Counts;
 use vm_superio::rtc_pl031::{NoEvents, RtcEvents};
 use vm_superio::{Rtc, RtcState};
 

@@ -1,7 +1,7 @@
 // SPDX-License-Identifier: Apache-2.0 OR BSD-3-Clause
 //! The i8042 controller: it resets at one command, and reads 0. A test that vm-superio has too gives its name there. At
 //! the end stand its calls as a program uses them, so that a change of a signature is a compile error.
-use superio_script::{Line, LineRefused};
+use board_objects::{Line, LineRefused};
 use vm_superio::{I8042Device, Trigger};
 
 /// A controller whose reset line refuses the calls of this mask.
@@ -29,7 +29,7 @@ fn another_value_or_offset_resets_nothing(rt: HostRuntime) {
     assert!(rt; device.reset_evt().calls() == 0);
 }
 
-/// Fails if this is wrong: superio_script/src/objects.rt Line::trigger error 1
+/// Fails if this is wrong: board_objects/src/lib.rt Line::trigger error 1
 #[test]
 fn a_refusal_of_the_reset_line_is_returned(rt: HostRuntime) {
     let mut device = controller(0b01);

@@ -6,11 +6,11 @@ use crate::runs::Shown::{Byte, Enqueued, NotRestored, Restored, TimedOut, Wrote}
 use crate::serial_objects::{
     Fields, IER, IIR, LSR, Narrow, RBR, THR, TestSerial, is_fresh, made, remade, state_with,
 };
+use board_objects::{Counts, Line, LineRefused};
 use std::alloc::{AllocError, Global};
 use std::io;
 use std::io::ErrorKind;
 use std::process::Abort;
-use superio_script::{Counts, Line, LineRefused};
 use vm_superio::run::{Act, Asked, Call, Done, Reply, Sent, run};
 use vm_superio::serial::Error;
 

@@ -1,11 +1,11 @@
 // SPDX-License-Identifier: Apache-2.0 OR BSD-3-Clause
 //! The public calls, types and cases of the serial port that a program uses, with their names, the types of their
 //! arguments and the bounds that they ask for. A change of one is a compile error here.
+use board_objects::{Counts, Line, LineRefused};
 use std::alloc::{AllocError, Global};
 use std::fmt::Debug;
 use std::io;
 use std::process::Abort;
-use superio_script::{Counts, Line, LineRefused};
 use vm_superio::run::{Act, Asked, Call, Done, Reply, Sent, run};
 use vm_superio::serial::{Error, Refused, SerialEvents};
 use vm_superio::{Serial, SerialState, Trigger, serial};

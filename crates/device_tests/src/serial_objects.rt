@@ -1,10 +1,10 @@
 // SPDX-License-Identifier: Apache-2.0 OR BSD-3-Clause
 //! Serial ports for the tests, and the steps that a test takes with one.
+use board_objects::{Counts, Line, LineRefused, Output};
 use std::alloc::{AllocError, Global};
 use std::io;
 use std::io::{ErrorKind, Write};
 use std::process::Abort;
-use superio_script::{Counts, Line, LineRefused, Output};
 use vm_superio::serial::{Error, Refused};
 use vm_superio::{Serial, SerialState};
 

@@ -4,10 +4,10 @@ use crate::serial_objects::Step::{
     Calls, Enqueue, Events, Read, Write, WriteFails, WriteRefused, Written,
 };
 use crate::serial_objects::{IER, IIR, Narrow, RBR, THR, TestSerial, fresh_over_shows, made};
+use board_objects::LineRefused;
 use std::alloc::{AllocError, Global};
 use std::io;
 use std::io::ErrorKind;
-use superio_script::LineRefused;
 use vm_superio::serial::Error;
 
 /// Whether each of these bytes is sent, IIR then shows this, and the vector has them all.

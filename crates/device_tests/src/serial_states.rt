@@ -6,9 +6,9 @@ use crate::serial_objects::{
     Fields, IER, IIR, LSR, RBR, THR, TestSerial, fresh_shows, has_state, is_fresh, made, remade,
     restored_shows, state_of, state_with,
 };
+use board_objects::{Counts, Line, LineRefused};
 use std::alloc::Global;
 use std::process::Abort;
-use superio_script::{Counts, Line, LineRefused};
 use vm_superio::serial::Error;
 use vm_superio::{Serial, SerialState};
 

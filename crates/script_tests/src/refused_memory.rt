@@ -1,10 +1,15 @@
 // SPDX-License-Identifier: Apache-2.0 OR BSD-3-Clause
-//! What is left if memory is refused to a board or to a script. `tests/devices/test_refused_memory.py` runs each of
-//! these tests without its first allocation, without its second, and so on, until a run has them all. Each run goes
-//! without at most one allocation, so a call that was refused memory has to succeed when it is made again.
+//! What is left if memory is refused to a board or to a script, and that a driver takes none.
+//! `tests/devices/test_refused_memory.py` runs each of these tests without its first allocation, without its second, and
+//! so on, until a run has them all. Each run goes without at most one allocation, so a call that was refused memory has
+//! to succeed when it is made again.
 use std::alloc::Global;
 use std::test::Fail;
-use superio_script::{Board, LineFault, Output, ScriptFault, run_script};
+use superio_script::{
+    Board, Counts, Line, LineFault, LineRefused, Output, ScriptFault, drain, run_script,
+};
+use vm_superio::Serial;
+use vm_superio::serial::{Error, Refused};
 
 /// Whether these lines have these replies.
 fn replies(alloc: Global, board: &mut Board, lines: &[(&[u8], &[u8])]) -> bool {
@@ -86,4 +91,22 @@ fn a_script_prints_the_replies_before_its_restore_or_nothing(rt: HostRuntime) {
     }
     assert!(rt; end == Ok(()));
     assert!(rt; printed.bytes() == b"ok\n03\nok\n0000000000000002\nc4\n61\n3e\n".as_slice());
+}
+
+/// A new port, which is made again if memory was refused.
+fn port(alloc: Global) -> Result<Serial<Line, Counts, Output>, Error<LineRefused>> {
+    match Serial::with_events(alloc, Line::new(0), Counts::new(), Output::new()) {
+        Ok(serial) => Ok(serial),
+        Err(_) => Serial::with_events(alloc, Line::new(0), Counts::new(), Output::new()).map_err(
+            Refused::into_error,
+        ),
+    }
+}
+
+#[test]
+fn a_driver_takes_no_memory(rt: HostRuntime) -> Result<(), Fail> {
+    let mut serial = port(rt.alloc())?;
+    assert!(rt; serial.enqueue_raw_bytes(&[b'b'; 100]).ok() == Some(64));
+    assert!(rt; drain(&mut serial).len() == 64);
+    Ok(())
 }

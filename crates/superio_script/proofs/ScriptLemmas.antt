@@ -13,7 +13,9 @@ use Rattle.superio_laws.specs.Rtc.{Access}
 use Rattle.vm_superio.specs.Serial.{SerialView, Trace}
 use Rattle.vm_superio.proofs.Lemmas.{Appends-nothing, Appends-append}
 use Rattle.superio_laws.proofs.Lemmas.Rtc.{fresh_clock-history}
-use Rattle.superio_script.specs.Objects.{Line, Counts, Output}
+use Rattle.board_objects.specs.declared.Line.{Line}
+use Rattle.board_objects.specs.declared.Counts.{Counts}
+use Rattle.board_objects.specs.declared.Output.{Output}
 use Rattle.superio_script.specs.SerialScript.{SerialCommand, Outcome, outcomes_of, all_short, trace_after_line, prints_after_loss, IsAfter, IsSerialLineStep}
 use Rattle.superio_script.specs.Devices.{ClockCommand, clock_after, access_of_line, clock_replies, IsClockLineStep, controller_replies, Command, Serial, Clock, Controller, command_of, Devices, IsBetweenLines, IsFresh, IsLineStep, serial_lines, clock_lines, controller_lines, replies_in_order, text_from}
 use Rattle.superio_script.specs.Script.{has_syntax, until_bad, good_commands, first_bad_line, script_text, PrintsLines, StopsWithoutMemory}

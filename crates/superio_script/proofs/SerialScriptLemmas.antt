@@ -20,7 +20,11 @@ use Rattle.vm_superio.proofs.Lemmas.{known_output_law}
 use Rattle.vm_superio.specs.declared.serial.errors.Error.{Error}
 use Rattle.vm_superio.specs.declared.serial.errors.Error.TheVariants.{Trigger, IOError, FullFifo, Memory}
 use Rattle.vm_superio.specs.Links.ForAnyObject.{FoldsCalls}
-use Rattle.superio_script.specs.Objects.{fresh_interrupt_line, InterruptLineLink, is_call_refused, saturated, no_counts, counts_after_event, written_bytes, Line, Counts, Output, LineRefused}
+use Rattle.board_objects.specs.Objects.{fresh_interrupt_line, InterruptLineLink, is_call_refused, saturated, no_counts, counts_after_event, written_bytes}
+use Rattle.board_objects.specs.declared.Line.{Line}
+use Rattle.board_objects.specs.declared.Counts.{Counts}
+use Rattle.board_objects.specs.declared.Output.{Output}
+use Rattle.board_objects.specs.declared.LineRefused.{LineRefused}
 use Rattle.superio_script.specs.Reply.{with_lf, digits_reply}
 use Rattle.superio_script.specs.SerialScript.{SerialCommand, response_reply, calls_of_entry, calls_made, interrupt_line_after, events_reported, is_event, counts_of, Outcome, Out, Lost, out_before_loss, outcome_of_sent, outcomes_of, next_outcome, next_printed, trigger_answers, sends, sent_with, call_entry, entry_reply, rbr_read_entry, after_rbr_reads, drained_bytes, restore_entry, is_restore_refused, serial_reply, trace_after_line, line_sends, prints_after_loss, serial_replies, shown, IsAfter, SerialLineStep, IsSerialLineStep}
 use Rattle.superio_script.specs.Driver.{ReadsWhileReady, TakesAll}

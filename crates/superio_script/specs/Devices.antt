@@ -9,7 +9,10 @@ use Rattle.vm_superio.specs.Serial.{SerialView, Trace, fresh_state}
 use Rattle.vm_superio.specs.Rtc.{ClockDevice}
 use Rattle.superio_laws.specs.Rtc.{RtcState, Access, read, write, clock_register_at, is_writable, fresh_clock, clock_of_history, clock_history_response}
 use Rattle.superio_script.specs.Fields.{Syntax, by_syntax, number, end, fields_of}
-use Rattle.superio_script.specs.Objects.{fresh_interrupt_line, no_counts, Line, Counts, Output}
+use Rattle.board_objects.specs.Objects.{fresh_interrupt_line, no_counts}
+use Rattle.board_objects.specs.declared.Line.{Line}
+use Rattle.board_objects.specs.declared.Counts.{Counts}
+use Rattle.board_objects.specs.declared.Output.{Output}
 use Rattle.superio_script.specs.Reply.{with_lf, digits_reply}
 use Rattle.superio_script.specs.SerialScript.{SerialCommand, Outcome, serial_syntaxes, serial_replies, IsAfter, IsSerialLineStep}
 pub use Rattle.superio_script.specs.declared.devices.ClockCommand.{ClockCommand}

@@ -2,7 +2,6 @@
 pub mod Devices
 pub mod Driver
 pub mod Fields
-pub mod Objects
 pub mod Reply
 pub mod Script
 pub mod SerialScript

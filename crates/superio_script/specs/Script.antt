@@ -5,7 +5,7 @@ use Rattle.std.specs.Int.{w64}
 use Rattle.std.specs.List.{list_all}
 use Rattle.std.specs.Io.KnownBytes.{Appends, Consumes, IsAtEnd}
 use Rattle.superio_script.specs.Fields.{number, end, fields_of, lines_of}
-use Rattle.superio_script.specs.Objects.{output_limit}
+use Rattle.board_objects.specs.Objects.{output_limit}
 use Rattle.superio_script.specs.SerialScript.{Outcome, out_before_loss, all_short}
 use Rattle.superio_script.specs.Devices.{Command, command_of, text_from_fresh}
 

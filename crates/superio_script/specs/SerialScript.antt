@@ -8,7 +8,10 @@ use Rattle.vm_superio.specs.Serial.{fifo_size, SerialView, State, Asked, Sent, O
 use Rattle.superio_core.specs.Serial.Operations.{Response, ByteRead, WriteOk, EnqueueOk, TimeoutOk, TriggerRefused, WriterFailed, FifoFull, OutOfMemory, NoResponse}
 use Rattle.superio_laws.specs.Serial.History.{decode_at, dlab_after, held_bytes, guest_read, none_lost, output, history_events, history_response, calls_due, conditions_due_after, state_of_history, is_fitting}
 use Rattle.superio_script.specs.Fields.{Syntax, number, bytes, end}
-use Rattle.superio_script.specs.Objects.{is_call_refused, output_limit, written_bytes, saturated, Line, Counts, Output}
+use Rattle.board_objects.specs.Objects.{is_call_refused, output_limit, written_bytes, saturated}
+use Rattle.board_objects.specs.declared.Line.{Line}
+use Rattle.board_objects.specs.declared.Counts.{Counts}
+use Rattle.board_objects.specs.declared.Output.{Output}
 use Rattle.superio_script.specs.Reply.{with_lf, digits_reply, count_digits}
 pub use Rattle.superio_script.specs.declared.serial_lines.SerialCommand.{SerialCommand}
 use Rattle.superio_script.specs.declared.serial_lines.SerialCommand.TheVariants as serial

@@ -3,15 +3,15 @@
 ghost use Rattle.std.specs.Prelude.{◌≡◌, ◌↔◌, codes, IfOk, IfErr, IsSomeAnd, IsErrOf, OnErr};
 ghost use Rattle.superio_script.specs.Fields.{by_syntax, remaining_fields};
 ghost use Rattle.superio_laws.specs.Rtc.{fresh_clock};
-ghost use Rattle.superio_script.specs.Objects.{fresh_interrupt_line, no_counts};
+ghost use Rattle.board_objects.specs.Objects.{fresh_interrupt_line, no_counts};
 ghost use Rattle.superio_script.specs.Devices.{command_of, clock_syntaxes, IsClockLineStep, controller_syntaxes, controller_reply};
 ghost use Rattle.superio_script.specs.declared.devices.ClockCommand.TheVariants.{Read, Write};
 ghost use Rattle.superio_script.specs.declared.replies.LineFault.TheVariants.{Bad, Memory};
 
 use crate::fields::Fields;
-use crate::objects::{Counts, Line, Output};
 use crate::replies::{LineFault, ReplyText, ScriptFault, reply_digits, reply_text};
 use crate::serial_lines::{BoardSerial, SerialCommand, serial_line, serial_syntax};
+use board_objects::{Counts, Line, Output};
 use std::alloc::Global;
 use std::marker::Model;
 use vm_superio::{I8042Device, Rtc, Serial};

@@ -5,13 +5,12 @@
 mod devices;
 mod driver;
 mod fields;
-mod objects;
 mod replies;
 mod script;
 mod serial_lines;
 
+pub use board_objects::{Counts, Line, LineRefused, Output};
 pub use devices::Board;
 pub use driver::drain;
-pub use objects::{Counts, Line, LineRefused, Output};
 pub use replies::{LineFault, ReplyText, ScriptFault};
 pub use script::run_script;

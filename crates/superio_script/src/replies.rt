@@ -3,7 +3,7 @@
 //! early.
 ghost use Rattle.std.specs.Prelude.{◌≡◌, ◌+◌, ◌*◌, ◌<◌, ◌≤◌, [], ◌∷◌, ◌++◌, length};
 ghost use Rattle.hex.specs.Hex.{encode_lower};
-ghost use Rattle.superio_script.specs.Objects.{output_limit};
+ghost use Rattle.board_objects.specs.Objects.{output_limit};
 ghost use Rattle.superio_script.specs.Reply.{with_lf, digits_reply, count_digits};
 
 use arrayvec::ArrayVec;

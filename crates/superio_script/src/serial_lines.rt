@@ -8,8 +8,8 @@ ghost use Rattle.superio_script.specs.declared.serial_lines.SerialCommand.TheVar
 
 use crate::driver::drain;
 use crate::fields::{FieldBytes, Fields};
-use crate::objects::{Counts, Line, LineRefused, Output};
 use crate::replies::{LineFault, ReplyText, push_digits, reply_count, reply_digits, reply_text};
+use board_objects::{Counts, Line, LineRefused, Output};
 use std::alloc::Global;
 use std::mem;
 use vm_superio::Serial;

@@ -2,6 +2,7 @@
 //! What is left if memory is refused. `tests/devices/test_refused_memory.py` runs each of these tests without its first
 //! allocation, without its second, and so on, until a run has them all. Each run goes without at most one allocation,
 //! so a call that was refused memory has to succeed when it is made again.
+use board_objects::{Counts, Line, LineRefused, Output};
 use std::alloc::{AllocError, Global};
 use std::io::Write;
 use std::test::Fail;
@@ -11,7 +12,6 @@ use superio_examples::many_calls::make_by_run;
 use superio_examples::monitor::{MachineEvent, Monitor};
 use superio_examples::queues::OutputQueue;
 use superio_examples::saved_monitor::{move_monitor, restore_monitor, save_monitor};
-use superio_script::{Counts, Line, LineRefused, Output, drain};
 use vm_superio::object_laws::saved::{
     serial_read_then_written, serial_written_then_read, state_to_uart_and_back,
     uart_to_state_and_back,
@@ -161,7 +161,10 @@ fn calls_of_a_port_take_no_memory(rt: HostRuntime) -> Result<(), Fail> {
     let alloc = rt.alloc();
     let mut serial = port(alloc, &state(alloc)?)?;
     assert!(rt; serial.enqueue_raw_bytes(&[b'b'; 100]).ok() == Some(63));
-    assert!(rt; drain(&mut serial).len() == 64);
+    for _ in 0..64u8 {
+        serial.read(0);
+    }
+    assert!(rt; serial.fifo_capacity() == 64);
     assert!(rt; serial.write(0, b'c').is_ok());
     assert!(rt; serial.write(4, 0x10).is_ok());
     for value in 0..64u8 {

@@ -6,7 +6,10 @@ use Rattle.vm_superio.specs.declared.serial.errors.Error.TheVariants.{Memory}
 use Rattle.vm_superio.specs.Saved.{state_of}
 use Rattle.vm_superio.specs.Serial.Step.{RefusesRestore}
 use Rattle.vm_superio.specs.Links.{all_ok}
-use Rattle.superio_script.specs.Objects.{InterruptLineLink, Line, Counts, Output}
+use Rattle.board_objects.specs.Objects.{InterruptLineLink}
+use Rattle.board_objects.specs.declared.Line.{Line}
+use Rattle.board_objects.specs.declared.Counts.{Counts}
+use Rattle.board_objects.specs.declared.Output.{Output}
 use Rattle.superio_script.proofs.SerialScriptLemmas.{restore-accepts, restore-refuses}
 use Rattle.superio_script.proofs.serial_lines.restore.Goals as goal
 

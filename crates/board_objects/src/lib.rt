@@ -1,5 +1,7 @@
 // SPDX-License-Identifier: Apache-2.0 OR BSD-3-Clause
 //! The objects that the devices of a board own: the interrupt line, the counts of events and the output.
+#![tactic(auto)]
+
 ghost use Rattle.std.specs.Prelude.{◌≡◌, ◌≤◌, ◌-◌, Some, [], codes, length, min};
 ghost use Rattle.std.specs.Io.KnownBytes.{WriteAppends, Keeps};
 ghost use Rattle.std.specs.Io.{WritesAtMost};
@@ -39,7 +41,7 @@ pub struct Line {
 }
 
 impl Line {
-    ghost use Rattle.superio_script.specs.Objects.{fresh_interrupt_line};
+    ghost use Rattle.board_objects.specs.Objects.{fresh_interrupt_line};
 
     /// An interrupt line that was never called. Bit k of `mask` names call number k. A mask of 0 refuses no call.
     pub fn new(mask: u64) -> Line
@@ -66,7 +68,7 @@ impl Line {
 impl Trigger for Line {
     type E = LineRefused;
 
-    ghost use Rattle.superio_script.specs.Objects.{InterruptLineLink, InterruptLineLink-append};
+    ghost use Rattle.board_objects.specs.Objects.{InterruptLineLink, InterruptLineLink-append};
 
     ghost link = { InterruptLineLink };
 
@@ -99,7 +101,7 @@ pub struct Counts {
 }
 
 impl Counts {
-    ghost use Rattle.superio_script.specs.Objects.{no_counts, saturating_increment};
+    ghost use Rattle.board_objects.specs.Objects.{no_counts, saturating_increment};
 
     /// Counts of 0.
     pub fn new() -> Counts
@@ -167,7 +169,7 @@ impl Counts {
 
 impl SerialEvents for Counts {
     ghost use Rattle.vm_superio.specs.Links.ForAnyObject.{FoldsCalls, FoldsCalls-nil, FoldsCalls-append};
-    ghost use Rattle.superio_script.specs.Objects.{counts_after_event};
+    ghost use Rattle.board_objects.specs.Objects.{counts_after_event};
 
     ghost link = { FoldsCalls counts_after_event };
 
@@ -194,7 +196,7 @@ impl SerialEvents for Counts {
 
 impl RtcEvents for Counts {
     ghost use Rattle.vm_superio.specs.Links.ForAnyObject.{FoldsCalls, FoldsCalls-nil, FoldsCalls-append};
-    ghost use Rattle.superio_script.specs.Objects.{counts_after_clock_event};
+    ghost use Rattle.board_objects.specs.Objects.{counts_after_clock_event};
 
     ghost link = { FoldsCalls counts_after_clock_event };
 
@@ -224,7 +226,7 @@ pub struct Output {
 }
 
 impl Output {
-    ghost use Rattle.superio_script.specs.Objects.{written_bytes};
+    ghost use Rattle.board_objects.specs.Objects.{written_bytes};
 
     /// An empty output.
     pub fn new() -> Output
@@ -244,7 +246,7 @@ impl Output {
 }
 
 impl Write for Output {
-    ghost use Rattle.superio_script.specs.Objects.{output_limit, written_bytes};
+    ghost use Rattle.board_objects.specs.Objects.{output_limit, written_bytes};
 
     ghost contents = { λ output. Some (written_bytes output) };
 

@@ -1,15 +1,15 @@
 -- SPDX-License-Identifier: Apache-2.0 OR BSD-3-Clause
--- The objects that the devices of a script own: what calls make of the interrupt line, of the counts of events and of
+-- The objects that the devices of a board own: what calls make of the interrupt line, of the counts of events and of
 -- the output.
 use Rattle.std.specs.Prelude.{◌≡◌, ℕ, ◌+◌, ◌-◌, ◌^◌, Bool, ◌&&◌, ◌==◌, nat_lt, min, if◌then◌else◌, List, [], ◌∷◌, ◌++◌, Result, Ok, Err}
 use Rattle.std.specs.Int.{bit_at}
 use Rattle.std.proofs.Common.{subst, sym}
 use Rattle.superio_core.specs.Serial.Operations.{Event, buffer_read, out_byte, tx_lost_byte, in_buffer_empty}
 use Rattle.vm_superio.specs.Rtc.{RtcEvent, invalid_read, invalid_write}
-pub use Rattle.superio_script.specs.declared.objects.Line.{Line}
-pub use Rattle.superio_script.specs.declared.objects.LineRefused.{LineRefused}
-pub use Rattle.superio_script.specs.declared.objects.Counts.{Counts}
-pub use Rattle.superio_script.specs.declared.objects.Output.{Output}
+use Rattle.board_objects.specs.declared.Line.{Line}
+use Rattle.board_objects.specs.declared.LineRefused.{LineRefused}
+use Rattle.board_objects.specs.declared.Counts.{Counts}
+use Rattle.board_objects.specs.declared.Output.{Output}
 
 -- an interrupt line that was never called
 abbrev pub fresh_interrupt_line : (mask : ℕ) → Line
