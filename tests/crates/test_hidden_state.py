@@ -12,7 +12,7 @@ import pytest
 from contracts import code_of, end_of_braces, functions_of
 from harness import ROOT, at_least
 
-TESTS = {"device_tests", "long_run", "object_tests", "script_tests", "superio_tests"}
+TESTS = {"device_tests", "failing_objects", "long_run", "object_tests", "script_tests", "superio_tests"}
 LIBRARIES = {"arrayvec", "circular_buffer", "hex", "staticlib"}
 # What code has: what it is, a pattern that reads it where blanks stand between words alone, and the words that are good.
 # Of the last none is: state or code outside of what a contract sees, and what copies or looks into an object.

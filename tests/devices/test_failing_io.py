@@ -3,8 +3,8 @@
 
 The system makes the faults, after each part of a script of every line and of its replies, and over scripts that are bad
 or too long. docs/SCRIPT.md says how each run has to end, and shows what a failure of standard error does. It promises
-nothing of what was printed before a failed write; here that is what the file has room for. The tests of `object_calls`
-in crates/object_tests have faults of every kind, and interruptions, over objects of their own.
+nothing of what was printed before a failed write; here that is what the file has room for. The tests of
+crates/script_tests/src/streams.rt have faults of every kind, and interruptions, over objects of their own.
 """
 import contextlib
 import os

@@ -86,7 +86,7 @@
  *
  * As long as the machine is neither reset nor suspended, no byte waits for ever
  * with such a loop, neither one that the console has accepted nor one that the
- * guest has to send. We conclude this in docs/DRIVERS.md, from the law
+ * guest has to send. We conclude this in docs/EVERY-BYTE.md, from the law
  * each_byte_is_through and from assumptions about the guest, its driver and
  * your interrupt controller. By our reading, the drivers of Linux and Xen keep
  * the law's rules.

@@ -6,8 +6,6 @@
 #[cfg(test)]
 mod object_calls;
 #[cfg(test)]
-mod objects;
-#[cfg(test)]
 mod printed;
 #[cfg(test)]
 mod sessions;

@@ -1,20 +1,20 @@
 // SPDX-License-Identifier: Apache-2.0 OR BSD-3-Clause
 //! The calls that objects get, and the faults with which they answer, where no contract says so. A data write,
 //! whichever call makes it, calls `write` once, and `flush` once if that succeeded, and returns their fault unchanged.
-//! The same holds for an event, for an output that is drained, and for a script, which calls its streams no more often
-//! than it has to. A call that takes objects and drops them does not call them first.
-use crate::objects::{
+//! The same holds for an event and for an output that is drained. A call that takes objects and drops them does not call
+//! them first.
+use board_objects::LineRefused;
+use failing_objects::{
     FAULTS, Log, Object, SerialCall, TestSerial, Then, Writing, by_std, drawn, drawn_clock,
     drawn_state, fault_of, in_order, is_same, port, port_over, writings,
 };
 use std::alloc::Global;
 use std::io;
-use std::io::{Read, Write};
+use std::io::Write;
 use std::test::Fail;
 use superio_examples::bus::{Bus, BusError, COM1, Keyboard};
 use superio_examples::queues::OutputQueue;
 use superio_examples::triggers::EventFd;
-use superio_script::{LineRefused, ScriptFault, run_script};
 use vm_superio::run::{Call, Reply, run};
 use vm_superio::serial::{Error, Refused};
 use vm_superio::{I8042Device, Rtc, Serial, Trigger};
@@ -384,77 +384,6 @@ fn a_drained_output_is_one_write_and_returns_its_fault(rt: HostRuntime) -> Resul
         }
     }
     Ok(())
-}
-
-// ---- scripts
-
-/// Gives its bytes, then fails, or ends if it has no fault.
-#[derive(Drop)]
-struct Input<'a> {
-    bytes: &'a [u8],
-    fault: Option<io::Error>,
-    reads: u64,
-}
-
-impl Read for Input<'_> {
-    fn read(&mut self, buf: &mut [u8]) -> io::Result<usize> {
-        self.reads = self.reads.saturating_add(1);
-        match self.fault {
-            Some(fault) if self.bytes.is_empty() => Err(fault),
-            _ => self.bytes.read(buf),
-        }
-    }
-}
-
-/// How a script ends, and how often it calls `read`, `write` and `flush`.
-type Run = (Result<(), ScriptFault>, [u64; 3]);
-
-/// Runs a script that a reader gives, and then perhaps fails, over a writer that does this.
-fn run_over(alloc: Global, bytes: &[u8], fault: Option<io::Error>, writing: Writing) -> Run {
-    let log = Log::new();
-    log.start(writing);
-    let mut reader = Input {
-        bytes,
-        fault,
-        reads: 0,
-    };
-    let end = run_script(alloc, &mut reader, &mut Object(&log));
-    (end, [reader.reads, log.writes.get(), log.flushes.get()])
-}
-
-#[test]
-fn a_script_calls_its_streams_no_more_than_it_has_to(rt: HostRuntime) -> Result<(), Fail> {
-    let too_long = vec![in rt.alloc(); b'\n'; 70_000]?;
-    let runs: [(&[u8], Run); 5] = [
-        (b"kw 04 fe\nkr 04\n", (Ok(()), [2, 2, 1])),
-        (b"", (Ok(()), [1, 0, 1])),
-        (b"refuse 0000000000000001\n", (Ok(()), [2, 0, 1])),
-        (b"kr 04\nkr 5\n", (Err(ScriptFault::Bad(2)), [2, 1, 0])),
-        (&too_long, (Err(ScriptFault::TooLong), [1, 0, 0])),
-    ];
-    for (bytes, expected) in runs {
-        assert_eq!(rt;
-            run_over(rt.alloc(), bytes, None, Writing::takes()),
-            expected
-        );
-    }
-    Ok(())
-}
-
-/// A script writes each reply as std's `write_all` does, and then flushes all.
-#[test]
-fn a_fault_of_a_stream_is_io(rt: HostRuntime) {
-    for number in 0..FAULTS {
-        let fault = fault_of(number);
-        let unread = run_over(rt.alloc(), b"kr 04\n", Some(fault), Writing::takes());
-        assert_eq!(rt; unread, (Err(ScriptFault::Io), [2, 0, 0]));
-        for writing in writings(number) {
-            let (result, [writes, flushes]) = by_std(writing, &[b"00\n", b"reset\n"], true);
-            let end = result.map_err(|_| ScriptFault::Io);
-            let run = run_over(rt.alloc(), b"kr 04\nkw 04 fe\n", None, writing);
-            assert_eq!(rt; run, (end, [2, writes, flushes]), "{number}");
-        }
-    }
 }
 
 // ---- objects that are dropped

@@ -1,10 +1,10 @@
 // SPDX-License-Identifier: Apache-2.0 OR BSD-3-Clause
 //! Errors print their texts, which contracts state, to a caller that knows only std's `Error`.
-use crate::objects::{FAULTS, fault_of};
+use board_objects::LineRefused;
+use failing_objects::{FAULTS, fault_of};
 use std::alloc::{AllocError, Global};
 use std::error::Error as StdError;
 use std::test::Fail;
-use superio_script::LineRefused;
 use vm_superio::saved::{LoadError, SavedStateError};
 use vm_superio::serial::Error;
 

@@ -2,7 +2,7 @@
 //! The programs to copy at work, with values from data sheets, from PCs and from guests: parts of a monitor, a whole
 //! one, and one that moves.
 
-use crate::objects::{Log, Object, port};
+use failing_objects::{Log, Object, port};
 use std::test::Fail;
 use superio_examples::bus::{Bus, BusError, COM1, COM2, COM3, COM4, Keyboard};
 use superio_examples::mmio::ClockWindow;

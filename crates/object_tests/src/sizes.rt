@@ -1,7 +1,7 @@
 // SPDX-License-Identifier: Apache-2.0 OR BSD-3-Clause
 //! Calls that may return that memory was refused do not do so while there is memory. No contract says this: a body that
 //! gives up at some size meets each of them.
-use crate::objects::{
+use failing_objects::{
     Log, Object, SIZES, SerialCall, TestSerial, drawn, drawn_state, port_over, port_over_vector,
     size_of,
 };

@@ -1,16 +1,17 @@
 // SPDX-License-Identifier: Apache-2.0 OR BSD-3-Clause
-//! The objects that the tests give to a device: a trigger, an events object and a writer, which share a log; the faults
-//! of writers; and what is drawn, each by its number.
+//! The objects that tests give to a device: a trigger, an events object and a writer, which share a log; the faults of
+//! writers; and what is drawn, each by its number.
+#![tactic(auto)]
+
 ghost use Rattle.std.specs.Prelude.{IfOk};
 ghost use Rattle.vm_superio.specs.Claims.{dlab_clear, not_in_loopback};
 ghost use Rattle.vm_superio.specs.Links.ForAnyObject.{AnyCalls, AnyCalls-nil, AnyCalls-append};
 
+use board_objects::LineRefused;
 use std::alloc::{AllocError, Global};
 use std::cell::Cell;
 use std::io;
 use std::io::{ErrorKind, Write};
-use std::test::Fail;
-use superio_script::LineRefused;
 use vm_superio::rtc_pl031::RtcEvents;
 use vm_superio::run::Call;
 use vm_superio::serial::{Error, NoEvents, Refused, SerialEvents};
