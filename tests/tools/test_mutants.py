@@ -372,12 +372,16 @@ def test_a_command_has_an_end(copy, command):
 
 @pytest.mark.needs("mutants", "pytest")
 def test_words_of_pytest(copy, monkeypatch):
-    """Each run finds the code as it is then, and tells what has failed, or what it has found, and what it took."""
+    """Each run finds the code as it is then, also where Python keeps what it has compiled, and tells what has failed, or
+    what it has found, and what it took."""
     monkeypatch.setenv("PYTEST_DISABLE_PLUGIN_AUTOLOAD", "1")
+    monkeypatch.delenv("PYTHONDONTWRITEBYTECODE", raising=False)
+    [compiles] = TOOL.PARTS["python"].compiles
     test = "import code_of\n\ndef test_it():\n    assert code_of.sum_of(range({})) {}\n"
     for value, how in ((1, "failed"), (2, "passed"), (3, "failed")):
         (copy.folder / "code_of.py").write_text(f"def sum_of(numbers):\n    return {value}\n", "ascii")
         (copy.folder / "test_one.py").write_text(test.format("5", "== 2"), "ascii")
+        assert copy.run(compiles.format(file="code_of.py")).how == "passed"
         assert copy.run(f"{TOOL.PYTEST} -p no:cacheprovider test_one.py")[::2] == (
             how, ["test_one.py::test_it"] if how == "failed" else [])
     found = copy.run(f"{TOOL.PYTEST} test_one.py --collect-only")
