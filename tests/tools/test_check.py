@@ -153,6 +153,13 @@ def test_all_pass(tool, machine):
     assert machine.handed_over.exists()
 
 
+def test_what_is_compiled_is_kept(machine):
+    """For the other workers of pytest, also on a machine that otherwise keeps nothing."""
+    machine.pytest("4 passed in 1s", "sys.dont_write_bytecode")
+    status, said, _ = machine.run("tools/check")
+    assert (status, said.splitlines()[-1]) == (0, PASSED), said
+
+
 FAILING = {
     **{f"{part} ends by `{end}`, and says that all passed": lambda machine, part=part, end=end: machine.stand_in(
         part, f"{STAND_INS[part]}; {end}") for part in ("rt", "cargo") for end in ("exit 1", "exit 255", "kill -9 $$")},
