@@ -259,8 +259,6 @@ def test_lines_that_are_reached(language, tmp_path):
     [test] = TOOL.split(command, copy, False)
     found = TOOL.measured(test, copy, language, [name], None).lines[name]
     assert {line: found[line] for line in lines} == lines
-    refuses = TOOL.measured(test._replace(command="bash -c 'seq 100 >&2; false'"), copy, language, [name], None)
-    assert refuses.refusal.split() == ["failed", *map(str, range(81, 101))]
 
 
 # A source whose third line runs in some runs.
@@ -339,6 +337,13 @@ def test_a_command_can_do_no_harm(copy, tmp_path):
     assert copy.run("setsid sleep 1000 & mkdir /tmp/left; echo > /tmp/left/file; echo > /dev/shm/left").how == "passed"
     assert copy.run("! pgrep sleep && test ! -e /tmp/left -a ! -e /dev/shm/left -a -e here").how == "passed"
     assert [copy.run(command).how for command in ("kill -9 $PPID", "true")] == ["failed", "passed"]
+
+
+@pytest.mark.needs("mutants")
+@pytest.mark.parametrize("language", TOOL.LINES)
+def test_a_refusal_has_what_was_said_last(language, copy):
+    test = TOOL.Test("bash -c 'seq 100 >&2; false'", "")
+    assert TOOL.measured(test, copy, language, [], None).refusal.split() == ["failed", *map(str, range(81, 101))]
 
 
 @pytest.mark.needs("mutants")
