@@ -58,6 +58,7 @@ function make(line, refuses = id("refuses").checked) {
   if (command.name === "refuse") {
     list.calls = [];
     list.start.reply(command);
+    clearFaults();
     return { command };
   }
   const before = list.board;

@@ -200,6 +200,11 @@ async function tryFeature(feature) {
   const wrong = [];
   [stops, taken] = [[], ""];
   await open(lines[0].startsWith("#") ? lines.shift() : "");
+  // How often the last step has marked a field as wrong, also one that was so before.
+  let marked = 0;
+  new page.MutationObserver((changes) => {
+    marked += changes.filter(({ target }) => target.hasAttribute("aria-invalid")).length;
+  }).observe(page.document, { attributeFilter: ["aria-invalid"], subtree: true });
   const entries = page.history.length + lines.filter((line) => line.startsWith("hash #")).length;
   for (const line of lines) {
     const [, what, sign, wanted] = /^([\w-]+) ([=~]) ?(.*)$/.exec(line) ?? [];
@@ -207,8 +212,10 @@ async function tryFeature(feature) {
       const seen = SEEN[what]?.() ?? (by(what).value || by(what).textContent);
       const isGood = sign === "~" ? new RegExp(wanted).test(seen) : seen === wanted.replaceAll("\\n", "\n");
       if (!isGood) wrong.push(`${what} is ${seen}, and not ${wanted}`);
+      if (["invalid", "described", "fault"].includes(what) && seen && !marked) wrong.push(`${what} is ${seen} by an earlier step`);
     } else {
       const [step, ...words] = line.replaceAll("\\n", "\n").split(" ");
+      marked = 0;
       await STEPS[step](...words);
     }
   }
