@@ -10,17 +10,20 @@
 #include <stdbool.h>
 #include <stdio.h>
 #include <string.h>
+#include <superio.h>
 #include <unistd.h>
 
+superio_console_wanted __real_superio_console_wants(const superio_console *console);
 int __real_poll(struct pollfd *files, nfds_t count, int timeout);
 
-enum { INPUT = 1, OUTPUT = 2, BYTE = -1, COUNT = 7 };
+enum { INPUT = 1, OUTPUT = 2, BYTE = -1, CLOSED = -2, COUNT = 8 };
 /* What the event loop finds ready, and how the read or write ends. The byte is the only one that the guest sends back. */
 static const struct {
     int file, end;
-} STEPS[COUNT] = {{INPUT, EAGAIN}, {INPUT, EINTR}, {INPUT, BYTE}, {OUTPUT, EAGAIN}, {OUTPUT, EINTR}, {OUTPUT, WRITE_ERROR},
+} STEPS[COUNT] = {{INPUT, EAGAIN}, {INPUT, EINTR}, {INPUT, CLOSED}, {INPUT, BYTE}, {OUTPUT, EAGAIN}, {OUTPUT, EINTR}, {OUTPUT, WRITE_ERROR},
                   {INPUT, READ_ERROR}};
 static size_t step; /* the next one */
+static bool is_closed; /* the port, from a poll that finds input on: the console takes none, until it is asked again */
 
 static void need(bool is_kept, const char *rule) {
     if (is_kept)
@@ -33,7 +36,7 @@ static void need(bool is_kept, const char *rule) {
 /* After a step, its file is polled or not. */
 static void look(const struct pollfd *files) {
     int file = STEPS[step - 1].file, end = STEPS[step - 1].end;
-    if (end == EAGAIN || end == EINTR)
+    if (end == EAGAIN || end == EINTR || end == CLOSED)
         need(files[file].fd >= 0, "a file is not ready, and polled no more");
     else if (file == OUTPUT)
         need(files[file].fd < 0, "output is kept that nobody can take");
@@ -59,7 +62,18 @@ int __wrap_poll(struct pollfd *files, nfds_t count, int timeout) {
         return __real_poll(files, 1, timeout);
     files[0].revents = 0;
     ready->revents = ready->events;
+    is_closed = STEPS[step].end == CLOSED;
     return 1;
+}
+
+superio_console_wanted __wrap_superio_console_wants(const superio_console *console) {
+    superio_console_wanted wanted = __real_superio_console_wants(console);
+    if (is_closed) {
+        wanted.input = 0;
+        step++;
+    }
+    is_closed = false;
+    return wanted;
 }
 
 static ssize_t end_step(int file) {
@@ -69,6 +83,7 @@ static ssize_t end_step(int file) {
 }
 
 ssize_t __wrap_read(int file, void *bytes, size_t count) {
+    need(count > 0, "a read of no byte is taken for the end of the input");
     if (step < COUNT && STEPS[step].end == BYTE && file == STDIN_FILENO && count > 0) {
         memset(bytes, 'a', 1);
         return step++, 1;

@@ -339,7 +339,7 @@ WITH_FILES = {"console": code("docs/C.md", "c", "int main"),
 def said_of_files(program, failure, folder):
     """What failing_files.c says of a program like that of the page."""
     flags = [f"-D{name}_ERROR={error}" for name, error in zip(("READ", "WRITE"), failure)]
-    wrapped = [f"-Wl,--wrap={name}" for name in ("poll", "read", "write")]
+    wrapped = [f"-Wl,--wrap={name}" for name in ("poll", "read", "write", "superio_console_wants")]
     compile_c(folder, "console", program, ROOT / "tests/documents/failing_files.c", *flags, LIBRARY, *wrapped,
               "-pthread", "-o", "console")
     return run([folder / "console"], stdin=subprocess.DEVNULL).stdout

@@ -510,3 +510,18 @@ def test_made_files_have_no_mutants():
     made = {facts.MODULE: facts.made(lambda name: (ROOT / name).read_text("utf-8"))[facts.MODULE],
             lines.PAGE_LINES.relative_to(ROOT).as_posix(): lines.for_page()}
     assert {file: (ROOT / file).read_text("utf-8") for file in left_out} == made
+
+
+@pytest.mark.parametrize("how", ["failed", "late"])
+@pytest.mark.parametrize("place, end", [(0, "do not compile"), (1, "killed"), (2, "killed")])
+def test_each_command_may_end_a_mutant(place, end, how, monkeypatch, tmp_path):
+    """Also one that reaches its end only in a limit. None comes after it, and the seconds until then count."""
+    part = TOOL.Part("a.c", ["compile {file}"], ["one", "other"])
+    tests = [TOOL.Test(name, "", 1, 1, {"a.c": {1: name == "one"}}) for name in part.tests]
+    reach, copy = TOOL.Reach(tests), Recording(tmp_path)
+    monkeypatch.setattr(copy, "run", lambda command, *limits: Recording.run(copy, command, *limits)._replace(
+        how=how if len(copy.ran) == place + 1 else "passed"))
+    wanted = "late" if (end, how) == ("killed", "late") else end
+    assert TOOL.end_of(TOOL.Mutant("a.c", 0, "", ""), part, reach, copy) == (wanted, place + 1)
+    assert len(copy.ran) == place + 1
+    assert [f"{test}" for _, test in reach.refusals] == [f"{test}" for test in tests if test.command == copy.ran[-1][0]]
