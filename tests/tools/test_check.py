@@ -404,18 +404,3 @@ def test_a_list_of_packages_cannot_be_read(machine):
     status, said, called = machine.run("tools/check")
     assert (status, said.splitlines()[-1]) == (0, PASSED), said
     assert [line for line in called if "--print-uris" in line and line.endswith(" cargo")]
-
-
-@pytest.mark.parametrize("user", [0, 1000])
-@pytest.mark.parametrize("named", NAMED)
-def test_lists_that_lack_a_package(named, user, machine):
-    """If they cannot be read anew, each package that is named has to be in the old ones, whatever its architecture.
-    Otherwise nothing is installed, nor unpacked."""
-    machine.stand_in("id", f"[ $1 != -u ] && echo somebody || echo {user}")
-    machine.lacks("cargo")
-    for lacking in named.split():
-        machine.stand_in("apt-get", f'case " $* " in *" update "* | *" download "*" {lacking} "*) exit 100; esac\n'
-                         + STAND_INS["apt-get"])
-        status, said, called = machine.run("tools/install-packages", *named.split())
-        assert status == 1 and said.endswith("so nothing was installed\n"), said
-        assert not [line for line in called if " install " in line or line.startswith("dpkg-deb ")]
