@@ -47,7 +47,8 @@ case "$words" in
 *" download "*) for package in ${words##* download }; do touch "$package.deb"; done ;;
 *" install "*) cp "$AWAY"/* "$HERE" ;;
 esac""",
-    "dpkg-deb": 'mkdir -p "$3/usr/bin"; cp "$AWAY"/* "$3/usr/bin"',
+    # Into the copy alone: a faulty tool must not reach the programs of the machine that tests it.
+    "dpkg-deb": 'case "$3" in "$TOP"/*) mkdir -p "$3/usr/bin"; cp "$AWAY"/* "$3/usr/bin" ;; esac',
 }
 PYTEST = """import sys
 if __name__ == "__main__":
@@ -128,8 +129,8 @@ class Machine:
         """Its status, what it printed, and what it called, apart from Python."""
         self.log.write_text("", "utf-8")
         ran = run([self.top / tool, *words], env={
-            "PATH": str(self.bin), "PYTHONPATH": str(self.stubs), "TEST_SEED": "1", "HERE": str(self.bin),
-            "AWAY": str(self.away), "PYTHONDONTWRITEBYTECODE": "1", "HOME": os.devnull})
+            "PATH": str(self.bin), "PYTHONPATH": str(self.stubs), "TEST_SEED": "1", "TOP": str(self.top),
+            "HERE": str(self.bin), "AWAY": str(self.away), "PYTHONDONTWRITEBYTECODE": "1", "HOME": os.devnull})
         called = [line for line in self.log.read_text("utf-8").splitlines() if not line.startswith("python3 ")]
         return ran.returncode, ran.stdout, called
 
@@ -404,3 +405,18 @@ def test_a_list_of_packages_cannot_be_read(machine):
     status, said, called = machine.run("tools/check")
     assert (status, said.splitlines()[-1]) == (0, PASSED), said
     assert [line for line in called if "--print-uris" in line and line.endswith(" cargo")]
+
+
+@pytest.mark.parametrize("user", [0, 1000])
+@pytest.mark.parametrize("named", NAMED)
+def test_lists_that_lack_a_package(named, user, machine):
+    """If they cannot be read anew, each package that is named has to be in the old ones, whatever its architecture.
+    Otherwise nothing is installed, nor unpacked."""
+    machine.stand_in("id", f"[ $1 != -u ] && echo somebody || echo {user}")
+    machine.lacks("cargo")
+    for lacking in named.split():
+        machine.stand_in("apt-get", f'case " $* " in *" update "* | *" download "*" {lacking} "*) exit 100; esac\n'
+                         + STAND_INS["apt-get"])
+        status, said, called = machine.run("tools/install-packages", *named.split())
+        assert status == 1 and said.endswith("so nothing was installed\n"), said
+        assert not [line for line in called if " install " in line or line.startswith("dpkg-deb ")]
