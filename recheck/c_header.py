@@ -35,6 +35,7 @@ NUMBERS = {"SUPERIO_ABI": "ABI", "SUPERIO_SERIAL_FIFO_SIZE": "FIFO_SIZE", "SUPER
 STRUCT = re.compile(r"typedef struct (\w+) \{(.*?)\} \1;", re.S)
 PROTOTYPE = re.compile(r"^([a-z]\w+)\s+(superio_\w+)\(((?:[^()]|\([^()]*\))*)\)"
                        r"(?:\s+SUPERIO_[A-Z_]+(?:\([^()]*\))?)*;", re.M)
+PARAMETER = re.compile(r"((?:const )?\w+) (\*?)(\w+)(\[[^][]*\])?")   # its type, `*`, its name, and a size
 ENUM = re.compile(r"enum superio_saved_state_error \{(?:\s*SUPERIO_LOAD_\w+ = \d+,?)*\s*\};")
 SIZE = re.compile(r"typedef char superio_\w+\s*\[sizeof\([^;]*\];")   # which has no value if a struct has another size
 DEFINED = re.compile(r"^ *#(?:.*\\\n)*.*", re.M)   # a line for the preprocessor
@@ -142,14 +143,16 @@ def fields(crate: Any, types: dict[str, str], name: str) -> Iterator[Member]:
 
 
 def parameters_of(given: str) -> list[tuple[str, str]]:
+    """The name and type of each parameter of a prototype. An array is a pointer here, and nothing points to a pointer."""
     found = []
     for part in " ".join(given.split()).split(", "):
         if part == "void":
             continue
-        array = re.sub(r"\[.*\]$", "", part)
-        type_, _, name = array.rpartition(" ")
-        pointer = name.startswith("*") or array != part
-        found.append((name.lstrip("*"), type_ + (" *" if pointer else "")))
+        parameter = PARAMETER.fullmatch(part)
+        if not parameter or (parameter[2] and parameter[4]):
+            raise Refused(f"{HEADER}: the parameter {part}")
+        pointer = parameter[2] or parameter[4]
+        found.append((parameter[3], parameter[1] + (" *" if pointer else "")))
     return found
 
 

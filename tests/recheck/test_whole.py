@@ -92,6 +92,12 @@ def in_header(old, new):
     return [(header, old, new) for header in HEADERS]
 
 
+CAPACITY = "superio_serial_fifo_capacity(const superio_serial "
+CHANGES |= {f"a parameter of C that is {of}": (in_header(f"{CAPACITY}*port)", f"{CAPACITY}{parameter})"),
+                                              f"superio.h: the parameter const superio_serial {parameter}")
+            for of, parameter in {"a pointer to a pointer": "**port", "an array of pointers": "*port[2]",
+                                  "an array of arrays": "port[2][3]", "constant itself": "*const port"}.items()}
+
 # Changes of text that nobody reads, of what stands around the text, and of names that then mean something else.
 CHANGES |= {
     "a condition of a whole crate": ([(CORE + "lib.rs", "#![no_std]", "#![no_std]\n#![cfg(any())]")], "lib.rs:LINE: the attribute cfg(any())"),
