@@ -25,7 +25,7 @@ static bool is_off;   /* the guest has switched its machine off */
 /* Raises the interrupts that a call asks for. Returns whether to wake the event loop. */
 static bool interrupt(superio_console_work work) {
     for (int i = 0; i < work.interrupts; i++)
-        if (eventfd_write(irq, 1) != 0) /* it is refused: a later call asks for it again */
+        if (eventfd_write(irq, 1) != 0) /* it failed: a later call asks for the interrupt again */
             return superio_console_refuse(&console).wakes || work.wakes;
     return work.wakes;
 }
@@ -74,7 +74,7 @@ static void event_loop(int input, int output) {
             eventfd_read(wake_up, &(eventfd_t){0});
 
         pthread_mutex_lock(&lock);
-        size_t wanted = superio_console_wants(&console).input; /* it may be another number by now */
+        size_t wanted = superio_console_wants(&console).input; /* may have changed during the poll */
         if (files[1].revents && wanted > 0) {
             ssize_t count = read(input, bytes, wanted);
             if (count > 0)

@@ -51,7 +51,7 @@ static bool clear(int file) {
 /* Raises the interrupts that a call asks for. Returns whether to wake the event loop. */
 static bool interrupt(struct machine *machine, superio_console_work work) {
     for (int i = 0; i < work.interrupts; i++)
-        if (eventfd_write(machine->irq, 1) != 0) /* it is refused: a later call asks for it again */
+        if (eventfd_write(machine->irq, 1) != 0) /* it failed: a later call asks for the interrupt again */
             return superio_console_refuse(&machine->console).wakes || work.wakes;
     return work.wakes;
 }
@@ -193,8 +193,8 @@ static uint8_t port_read(struct machine *machine, uint16_t port) {
 static void access_served(struct machine *machine) {
     pthread_mutex_lock(&machine->lock);
     if (machine->is_reset) {
-        /* If there are several processors, let one thread alone do this. It first stops the others, and does
-         * not hold the lock meanwhile, because they may need it. Ignore resets that they ask for until they stop. */
+        /* If there are several processors, only one thread may do this. It first stops the others, without holding
+         * the lock, which they may need. Until they have stopped, it ignores the resets that they ask for. */
         clear(machine->irq); /* in place of a reset of the interrupt controller */
         if (interrupt(machine, superio_console_reset(&machine->console)))
             eventfd_write(machine->wake_up, 1);
@@ -207,7 +207,7 @@ static void access_served(struct machine *machine) {
 /* Input has come. The caller holds the lock. */
 static void read_input(struct machine *machine) {
     uint8_t bytes[SUPERIO_SERIAL_FIFO_SIZE];
-    size_t wanted = superio_console_wants(&machine->console).input; /* it may be another number by now */
+    size_t wanted = superio_console_wants(&machine->console).input; /* may have changed during the poll */
     if (wanted == 0)
         return;
     ssize_t count = read(machine->input, bytes, wanted);
