@@ -7,7 +7,6 @@ import fcntl
 import os
 import platform
 import re
-import resource
 import subprocess
 import time
 
@@ -241,9 +240,11 @@ def test_a_machine_sleeps(tmp_path):
     """Its guest until it is interrupted, and its event loop until there is something to do."""
     check(["cc", "-I", ROOT / "bindings/c", ROOT / "examples/c/machine.c",
            PREBUILT / f"{platform.machine()}-linux" / STATIC, "-pthread", "-o", tmp_path / "machine"], "")
-    before = resource.getrusage(resource.RUSAGE_CHILDREN)
     with subprocess.Popen([tmp_path / "machine"], stdin=subprocess.PIPE, stdout=subprocess.DEVNULL) as process:
         time.sleep(3)
         process.stdin.write(b"hello\n")
-    after = resource.getrusage(resource.RUSAGE_CHILDREN)
-    assert process.returncode == 0 and after.ru_utime + after.ru_stime - before.ru_utime - before.ru_stime < 0.5
+        process.stdin.close()
+        # Its own time alone: other children of this process may end meanwhile.
+        _, status, used = os.wait4(process.pid, 0)
+        process.returncode = os.waitstatus_to_exitcode(status)
+    assert process.returncode == 0 and used.ru_utime + used.ru_stime < 0.5
