@@ -120,6 +120,16 @@ def _bars(heights: Sequence[float], base: int) -> str:
     return "".join(parts)
 
 
+# A character that XML cannot have.
+_NO_XML = re.compile(r"[^\t\n\r -\ud7ff\ue000-\ufffd\U00010000-\U0010ffff]")
+
+
+def _in_xml(text: str) -> str:
+    """A text in XML, which may be the name of a file: what is not UTF-8, or what XML cannot have, is an escape."""
+    text = text.encode("utf-8", "surrogateescape").decode("utf-8", "backslashreplace")
+    return escape(_NO_XML.sub(lambda match: match[0].encode("unicode_escape").decode("ascii"), text))
+
+
 def picture(steps: Sequence[Step], title: str) -> str:
     """The picture of steps, at least one, as a text in SVG: a lane for all that they have. From left to right are the
     calls, several in a column if they are many, and a bar is as high as the column's share of such calls."""
@@ -135,10 +145,10 @@ def picture(steps: Sequence[Step], title: str) -> str:
                       f'<path d="M{_LEFT} {base}.5h{_WIDTH}" stroke="#c8d0d8"/>',
                       f'<path d="{_bars(heights, base)}" fill="{colour}"/>']
             base += _GAP
-    total = _LEFT + _WIDTH + 20
+    total, title = _LEFT + _WIDTH + 20, _in_xml(title)
     head = [f'<svg xmlns="http://www.w3.org/2000/svg" width="{total}" height="{base}" viewBox="0 0 {total} {base}" '
             'font-family="sans-serif" font-size="13" fill="#223" role="img">',
-            f"<title>{escape(title)}</title>",
+            f"<title>{title}</title>",
             f'<rect width="{total}" height="{base}" fill="#fff"/>',
-            f'<text x="{_LEFT}" y="24" font-size="15">{escape(title)}: {len(steps):,} calls, from left to right</text>']
+            f'<text x="{_LEFT}" y="24" font-size="15">{title}: {len(steps):,} calls, from left to right</text>']
     return "\n".join([*head, *parts, "</svg>", ""])

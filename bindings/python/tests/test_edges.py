@@ -3,13 +3,17 @@
 import calendar
 import io
 import os
+import re
 import shlex
 import unittest
+from itertools import product
 from unittest import mock
+from xml.etree import ElementTree
 
-from support import FolderTest
+from support import ENVIRONMENT, FolderTest, run
 
 from superio import Board, Console, ConsoleState, Rtc, RtcState, Serial, SerialState, parse
+from superio.__main__ import _parser, _viewer_parser
 from superio.board import Counts
 from superio.recording import replay
 from superio.session import Session
@@ -31,14 +35,30 @@ BYTES = [0, 1, 0x7F, 0x80, 0xFE, 0xFF]
 COUNTS = [0, 1, 2, *MOST.values(), *(most + 1 for bits, most in MOST.items() if bits != 64)]
 # Names of files that a shell, a format or a pattern would take for something else.
 NAMES = ["$HOME", "${HOME}", "a $x b", "$", "~", "~root", "a*b", "a[1]", "?", "a'b", 'a"b', "a\\b", "#a", "%s", "{0}",
-         "-a", "--svg", "a;b", "a|b", "a&b", "`a`", " a ", "a\tb", "é", "on ", "a" * 200]
+         "-a", "--svg", "a;b", "a|b", "a&b", "`a`", " a ", "a\tb", "é", "on ", "a" * 200, "a\x01\x1b\x7f", "\ufffe",
+         "\udcff", "é\udce9"]
+
+# Each place of the shell where a file can be named: arguments and lines, in which {} is its name. `a script` is there.
+READ = {"file": [(["{}"], ""), (["--shell", "{}"], "")],
+        "trace": [(["view", "{}"], "next\n"), (["view", "{}", "--table"], ""), (["view", "{}", "--table", "out"], ""),
+                  (["view", "{}", "--svg", "out"], "")],
+        **{name: [(["--shell"], f"{name} {{}}\n")] for name in ("load", "source")}}
+WRITTEN = {**{name: [(["view", "a script", f"--{name}", "{}"], "")] for name in ("table", "svg")},
+           **{name: [(["--shell"], f"kr 04\n{name} {{}}\n")] for name in ("save", "script", "trace")}}
+# The characters of `NAMES` that a picture's title has as escapes.
+TITLES = {"\x01": r"\x01", "\x1b": r"\x1b", "\ufffe": r"\ufffe", "\udcff": r"\xff", "\udce9": r"\xe9"}
+PLAIN, LATIN_1 = "cafe", "caf\udce9"   # which is no UTF-8
+SHOWN = re.compile(r"caf(?:\\udc|\\x)e9")
+# Locales: one of UTF-8, where Python refuses what is none in standard input, and one of ASCII.
+LOCALES = [{"PYTHONUTF8": "1", "PYTHONIOENCODING": "utf-8:strict"},
+           {"PYTHONUTF8": "0", "PYTHONCOERCECLOCALE": "0", "LC_ALL": "C"}]
 
 
 def session_at(now, *lines):
     """A session whose host has this time, after lines."""
     session = Session(io.StringIO(), host_time=lambda: now)
     for line in lines:
-        session.carry_out(line.encode())
+        session.carry_out(os.fsencode(line))
     return session
 
 
@@ -280,8 +300,43 @@ class Names(FolderTest):
     def test_the_viewer_takes_a_name_as_it_is(self):
         for name in NAMES:
             (self.folder / name).write_bytes(b"sr 05\n")
-            view(name, f"{name}.table", f"{name}.svg") if len(name) < 200 else view(name, "a.table", "a.svg")
+            short = name if len(name) < 200 else "a"
+            view(name, f"{short}.table", f"{short}.svg")
             files = self.files()
-            self.assertEqual(3, len(files), name)
-            self.assertEqual({name, *(f"{name if len(name) < 200 else 'a'}.{ending}" for ending in ("table", "svg"))},
-                             {*files})
+            self.assertEqual({name, f"{short}.table", f"{short}.svg"}, {*files})
+            # XML takes neither control characters nor what is not UTF-8, so the title has escapes for them.
+            title = ElementTree.fromstring(files[f"{short}.svg"])[0].text
+            self.assertEqual("".join(TITLES.get(one, one) for one in name), title)
+
+    def test_a_name_that_is_not_utf_8(self):
+        """It does what any other name does: as that of a file that is there, of one that is not, and of one to write.
+        Where it is shown, it has an escape."""
+        for kind, places in (("there", READ), ("missing", READ), ("new", WRITTEN)):
+            for (arguments, lines), locale in product([way for ways in places.values() for way in ways], LOCALES):
+                with self.subTest(kind, arguments=arguments, lines=lines, locale=locale):
+                    status, *done = self.ended(PLAIN, kind, arguments, lines, locale)
+                    self.assertEqual(kind != "missing", status == 0, done)
+                    self.assertEqual([status, *done], self.ended(LATIN_1, kind, arguments, lines, locale))
+
+    def ended(self, name, kind, arguments, lines, locale):
+        """How a run with this name ends, and what it leaves, in which the name is then the plain one."""
+        (self.folder / "a script").write_bytes(b"kr 04\n")
+        if kind == "there":
+            (self.folder / name).write_bytes(b"kr 04\n")
+        status, *said = run(*(word.format(name) for word in arguments), script=os.fsencode(lines.format(name)),
+                            env={**ENVIRONMENT, **locale})
+        files = {path.replace(name, PLAIN): data.decode() for path, data in self.files().items()}
+        return [status, *(SHOWN.sub(PLAIN, text) for text in said),
+                {path: SHOWN.sub(PLAIN, data) for path, data in files.items()}]
+
+    def test_each_place_where_a_file_can_be_named_is_tried(self):
+        named = {action.dest for parser in (_parser("it"), _viewer_parser("it")) for action in parser._actions
+                 if action.metavar}
+        named |= {entry.name for entry in session_at(0).help.values() if "FILE" in entry.usage}
+        self.assertEqual(named, {*READ, *WRITTEN})
+
+    def test_a_picture_is_in_utf_8_in_each_locale(self):
+        for locale in LOCALES:
+            (self.folder / "é").write_bytes(b"kr 04\n")
+            self.assertEqual((0, "", ""), run("view", "é", "--svg", "out", env={**ENVIRONMENT, **locale}))
+            self.assertIn("<title>é</title>".encode(), self.files()["out"])
