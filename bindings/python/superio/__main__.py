@@ -90,6 +90,8 @@ def _run(arguments: List[str], name: str) -> int:
 
 def main(arguments: List[str], name: str = "python3 -m superio") -> int:
     """Runs the command line of a command that was called by this name. Returns the exit status."""
+    if sys.stdin is not None:
+        sys.stdin.reconfigure(errors="surrogateescape")  # type: ignore[union-attr]  # also takes what is not UTF-8
     if sys.stdout is not None:  # which is closed otherwise
         sys.stdout.reconfigure(errors="backslashreplace")  # type: ignore[union-attr]
         if not sys.stdout.isatty():

@@ -286,7 +286,7 @@ class Terminal(FolderTest):
         return self.shown_until(prompt)
 
     def type(self, text):
-        os.write(self.end, text.encode())
+        os.write(self.end, os.fsencode(text))
 
     def shown_until(self, text):
         """What is shown up to this text, and the text, without colours and cursor movements."""
@@ -350,6 +350,16 @@ class Terminal(FolderTest):
             self.assertNotIn("Try:", shown)
         self.assertEqual("SCR = 0x07\n", self.answer("read SCR"))
         self.leave()
+
+    def test_what_is_typed_need_not_be_utf_8(self):
+        """Also the name of a file that Tab completes. Nothing is lost, even if standard input would refuse it."""
+        (self.folder / "caf\udcff").write_text("kr 04\n")
+        for arguments, prompt in ([], PROMPT), (["view", "caf\udcff"], "view> "):
+            self.start(*arguments, prompt=prompt, PYTHONUTF8="1", PYTHONIOENCODING="utf-8:strict")
+            self.assertEqual("no command is called caf\\xff: help lists them\n", self.answer("caf\udcff", prompt))
+            if prompt == PROMPT:
+                self.assertEqual("00\n", self.answer("load ca\t"))
+            self.leave()
 
     def test_a_python_without_readline(self):
         (self.folder / "readline.py").write_text("raise ImportError\n")
