@@ -275,6 +275,7 @@ OWN, HERE = library.ABI, LIBRARY
 
 @pytest.mark.parametrize("said, named, constants", [
     ("/nowhere/lib.so cannot be loaded", "/nowhere/lib.so", {}),
+    ("/nowhere/\udcff.so cannot be loaded", "/nowhere/\udcff.so", {}),
     ("none.so cannot be loaded: .* set SUPERIO_LIBRARY", "", {"FILE_NAME": "none.so"}),
     ("libc.so.6 cannot be loaded", "libc.so.6", {}),
     *((f"interface {OWN}, .* needs {other}:", HERE, {"ABI": other})   # newer than the package, or older
@@ -284,4 +285,12 @@ def test_a_library_is_refused(said, named, constants, monkeypatch):
     for name, value in constants.items():
         monkeypatch.setattr(library, name, value)
     with pytest.raises(LibraryError, match=said):
+        library.open_library()
+
+
+def test_a_library_is_refused_for_a_reason_that_is_not_utf_8(monkeypatch):
+    """Some versions of Python then fail to decode it, and others have an empty one."""
+    monkeypatch.setattr(ctypes, "PyDLL", lambda path: os.fsencode(f"{path}: no such file").decode("utf-8"))
+    monkeypatch.setenv(library.VARIABLE, "/nowhere/\udcff.so")
+    with pytest.raises(LibraryError, match=r"cannot be loaded: /nowhere/\\xff.so: no such file"):
         library.open_library()

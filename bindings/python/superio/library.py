@@ -75,8 +75,10 @@ def _loaded(path: str) -> ctypes.PyDLL:
     try:
         library = ctypes.PyDLL(path)
         found = library.superio_abi()
-    except (OSError, AttributeError) as error:
-        raise LibraryError(f"{path} cannot be loaded: {error}") from None
+    except (OSError, AttributeError, UnicodeDecodeError) as error:
+        # ctypes decodes a reason that has a path which is not UTF-8, and fails.
+        reason = error.object.decode("utf-8", "backslashreplace") if isinstance(error, UnicodeDecodeError) else error
+        raise LibraryError(f"{path} cannot be loaded: {reason}") from None
     if found != ABI:
         raise LibraryError(f"{path} has the binary interface {found}, and this package needs {ABI}: "
                            "take package and library from the same version")
