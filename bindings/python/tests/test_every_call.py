@@ -5,6 +5,7 @@ back by every way, and a session's trace makes it again. The variable TEST_SEED 
 import copy
 import ctypes
 import dataclasses
+import inspect
 import io
 import json
 import os
@@ -104,6 +105,19 @@ def drawn_call(source, kind, only=None):
 def made(device, name, arguments):
     member = getattr(device, name)
     return member(*arguments) if callable(member) else member
+
+
+# What each class method that makes a device or a state takes, of another one.
+TAKEN = {"from_bytes": lambda device: device.to_bytes(), "from_state": lambda device: device.state,
+         "from_vm_superio": lambda state: state.to_vm_superio()}
+
+
+def makers(kind):
+    """The class methods that give one of this class, or of a subclass."""
+    found = {name: inspect.getattr_static(kind, name) for name in dir(kind) if name[0] != "_"}
+    given = {name: typing.get_type_hints(member.__func__)["return"] for name, member in found.items()
+             if isinstance(member, classmethod)}
+    return [name for name, each in given.items() if each is kind or isinstance(each, typing.TypeVar)]
 
 
 class Watched:
@@ -212,6 +226,17 @@ class EveryCall(unittest.TestCase):
                 self.assertEqual((kind, pickle.dumps(device)), (type(other), pickle.dumps(other)))
                 self.assertEqual([made(other, *call) for call in calls], [made(device, *call) for call in calls])
                 self.assertEqual(pickle.dumps(device), pickle.dumps(other))
+
+    def test_a_subclass_makes_its_own(self):
+        """Each class method that gives a device or a state gives one of the class for which it is called."""
+        source, tried = Drawn("subclasses"), set()
+        for kind in (*DEVICES, *STATES.values()):
+            one, own = source.device(kind) if kind in DEVICES else kind(), type("Own", (kind,), {})
+            for name in makers(kind):
+                tried.add(name)
+                with self.subTest(kind, name=name):
+                    self.assertIs(own, type(getattr(own, name)(TAKEN[name](one))))
+        self.assertEqual({*TAKEN}, tried)
 
     def test_an_enqueue_takes_the_first_64_bytes_of_any_number(self):
         for count in (63, 64, 65, 1 << 16, (1 << 24) + 1):
