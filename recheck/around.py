@@ -45,7 +45,7 @@ def check_manifests(root: Path, build_script: Any) -> None:
     for above in (root, root / "rust", root / "bindings", root / "bindings/c"):
         if any((above / setting).exists() for setting in SETTINGS):
             raise Refused(f"{above} has settings of Cargo")
-    Parser((root / BUILD_SCRIPT).read_text(), BUILD_SCRIPT, build_script).file_items()
+    Parser((root / BUILD_SCRIPT).read_text("utf-8"), BUILD_SCRIPT, build_script).file_items()
 
 
 def compare(where: str, found: Any, expected: Any) -> None:

@@ -71,8 +71,8 @@ def name_in_c(name: str) -> str:
 
 def header(root: Path) -> str:
     """The header without its comments."""
-    text = (root / HEADER).read_text()
-    if (root / "bindings/c/from-source/superio.h").read_text() != text:
+    text = (root / HEADER).read_text("utf-8")
+    if (root / "bindings/c/from-source/superio.h").read_text("utf-8") != text:
         raise Refused("bindings/c/from-source/superio.h is not that of bindings/c")
     text = re.sub(r"/\*.*?\*/", " ", text, flags=re.S)
     for line in re.findall(r"^ *#.*", text, re.M):

@@ -31,7 +31,8 @@ def requirements(folder: Path) -> dict[str, set[str]]:
     """For each file, those that it requires."""
     found = {}
     for file in folder.glob("*.v"):
-        required = " ".join(re.findall(r"^Require (?:Import |Export )?([^.]*(?:\.\w+[^.]*)*)\.$", file.read_text(), re.M))
+        text = file.read_text("utf-8")
+        required = " ".join(re.findall(r"^Require (?:Import |Export )?([^.]*(?:\.\w+[^.]*)*)\.$", text, re.M))
         found[file.stem] = {name[8:] for name in required.split() if name.startswith("Recheck.")}
     return found
 

@@ -56,7 +56,7 @@ CRATES = {"core": "rust/superio/src", "c": "bindings/c/from-source/src", "shell"
 
 def left_out() -> tuple[dict[str, dict[Path, Any]], Any]:
     """What is not translated of the files of each crate."""
-    listed = left_out_items((HERE / "recheck/left-out.rs").read_text())
+    listed = left_out_items((HERE / "recheck/left-out.rs").read_text("utf-8"))
     found = {name: {Path(path).relative_to(folder): listed.pop(path) for path in [*listed] if path.startswith(f"{folder}/")}
              for name, folder in CRATES.items()}
     return found, listed.pop(BUILD_SCRIPT)
@@ -88,7 +88,7 @@ def audit(folder: Path, functions: list[str]) -> list[str]:
     """The theorems, if they cover everything and rest on nothing."""
     files = statements.theorems_of(folder)
     theorems = [f"Recheck.{file}.{name}" for name, file in files.items()]
-    text = "\n".join((folder / f"{file}.v").read_text() for file in dict.fromkeys(files.values()))
+    text = "\n".join((folder / f"{file}.v").read_text("utf-8") for file in dict.fromkeys(files.values()))
     of_law = {law: f"Recheck.{files[name]}.{name}"
               for name, law in re.findall(r"^Theorem (\w+) : (\w+)\.(?: |$)", text, re.M)}
     laws = []
@@ -99,7 +99,7 @@ def audit(folder: Path, functions: list[str]) -> list[str]:
     lines += [f"Definition proved_{law} : Recheck.Definitions.{law} := {of_law[law]}." for law in laws if law in of_law]
     lines += [f"Check @{name}." for name in theorems]
     lines += rests_on(theorems)
-    (folder / "Audit.v").write_text("\n".join(lines) + "\n")
+    (folder / "Audit.v").write_text("\n".join(lines) + "\n", "utf-8")
     answers = coqc(folder, "Audit")
     named = set(re.findall(r"\b(?:rs|vm)_\w+", answers))
     faults = [f"no theorem is {law}" for law in laws if law not in of_law]
@@ -131,7 +131,7 @@ def main(said: str | None) -> None:
                 for crate, count in expanded.compare(arguments.root, arguments.rustc, CRATES, left_out()[0], temporary):
                     print(f"{arguments.rustc} reads the same {count} tokens of {crate}")
             for name, text in generated.items():
-                (folder / f"{name}.v").write_text(text)
+                (folder / f"{name}.v").write_text(text, "utf-8")
             for file in [*HERE.glob("recheck/*.v"), *HERE.glob("recheck/proofs/*.v")]:
                 if file.stem in (*generated, "Audit", "Statements"):
                     raise Failed(f"{file} would be in the place of what is made")
@@ -144,5 +144,5 @@ def main(said: str | None) -> None:
                                cwd=folder, check=True)
         except (Failed, rust2coq.Refused, antt2coq.Refused) as fault:
             sys.exit(f"recheck: {fault}")
-    listed = left_out_items((HERE / "recheck/left-out.rs").read_text())
+    listed = left_out_items((HERE / "recheck/left-out.rs").read_text("utf-8"))
     print(f"proved again: {len(theorems)} theorems; {sum(map(len, listed.values()))} items of Rust are left out")

@@ -52,7 +52,7 @@ OTHERS = """What is proved beside claims.txt, as Coq prints it: the other theore
 
 def theorems_of(folder: Path) -> dict[str, str]:
     """The theorems in their order, each with its file."""
-    names = {file.stem: re.findall(r"^Theorem (\w+)", file.read_text(), re.M) for file in folder.glob("*.v")}
+    names = {file.stem: re.findall(r"^Theorem (\w+)", file.read_text("utf-8"), re.M) for file in folder.glob("*.v")}
     if unknown := sorted(file for file in names if names[file] and file not in PROOFS):
         raise Failed(f"{unknown[0]}.v has theorems, and no place among PROOFS of statements.py")
     every = [(name, file) for file in PROOFS for name in names.get(file, [])]
@@ -64,19 +64,19 @@ def theorems_of(folder: Path) -> dict[str, str]:
 
 def witnesses_of(folder: Path) -> list[str]:
     """The uses of laws on calls that meet their conditions."""
-    return re.findall(r"^Definition (used_\w+)", (folder / "Witnesses.v").read_text(), re.M)
+    return re.findall(r"^Definition (used_\w+)", (folder / "Witnesses.v").read_text("utf-8"), re.M)
 
 
 def sentences(folder: Path, file: str) -> dict[str, str]:
     """The comment that stands directly above a name."""
-    text = (folder / f"{file}.v").read_text()
+    text = (folder / f"{file}.v").read_text("utf-8")
     found = re.findall(rf"^\(\* ((?:(?!\*\)).)*?) *\*\)\n{KEYWORD} (\w+)", text, re.M | re.S)
     return {name: " ".join(words.split()) for words, name in found}
 
 
 def topic(folder: Path, file: str) -> str:
     """What the theorems of a file are about: the first paragraph of its first comment below the licenses."""
-    text = (folder / f"{file}.v").read_text()
+    text = (folder / f"{file}.v").read_text("utf-8")
     for lone in re.findall(r"^\(\* (Claims? \d(?:(?!\*\)).)*?) *\*\)\n(?!Theorem )", text, re.M | re.S):
         raise Failed(f"no theorem below: {' '.join(lone.split())}")
     head = re.match(rf"(?:\(\* SPDX[^\n]*\n)?\(\* (?!SPDX)((?:(?!\*\)).)*?) *\*\)\n(?!{KEYWORD})", text, re.S)
@@ -132,7 +132,7 @@ class Statements:
         self.sum = hashlib.sha256("\n".join(self.full[name] for name in shown).encode()).hexdigest()
 
     def said(self, *lines: str) -> str:
-        (self.folder / "Statements.v").write_text("\n".join(lines) + "\n")
+        (self.folder / "Statements.v").write_text("\n".join(lines) + "\n", "utf-8")
         return coqc(self.folder, "Statements")
 
     def list_definitions(self) -> None:
@@ -282,9 +282,9 @@ def differences(kept: dict[str, str], found: dict[str, str]) -> list[str]:
 
 def compare(folder: Path, writes: bool = False) -> None:
     """Whether the files say what is proved, after they are written if this `writes` them."""
-    found = Statements(folder).files((HERE / "docs" / "PROOFS.md").read_text())
+    found = Statements(folder).files((HERE / "docs" / "PROOFS.md").read_text("utf-8"))
     if writes:
         for file, text in found.items():
-            (HERE / "recheck" / file).write_text(text)
-    if faults := differences({file: (HERE / "recheck" / file).read_text() for file in found}, found):
+            (HERE / "recheck" / file).write_text(text, "utf-8")
+    if faults := differences({file: (HERE / "recheck" / file).read_text("utf-8") for file in found}, found):
         raise Failed("other statements are proved:\n" + "\n".join(faults[:60]))
