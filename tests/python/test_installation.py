@@ -1,6 +1,5 @@
 # SPDX-License-Identifier: Apache-2.0 OR BSD-3-Clause
-"""The package as an index and pip take it, what every Python that it is for needs, and the library that it finds."""
-import ast
+"""The package as an index and pip take it, and the library that it finds."""
 import ctypes
 import os
 import re
@@ -20,12 +19,6 @@ import superio
 from superio import LibraryError, library, registers
 from superio.saved import SAVED_STATE_ERRORS
 
-# What Python got after 3.8, and what someone may use without a thought: names, and two ways to write an annotation.
-NEWER = re.compile(r"\b(removeprefix|removesuffix|randbytes|bit_count|pairwise|batched|is_relative_to|StrEnum|Self|"
-                   r"cache|datetime.UTC|TypeAlias|Annotated|ParamSpec|override|file_digest|zoneinfo|tomllib|strict|"
-                   r"slots|kw_only|root_dir)\b|\.parents\[[^]]*:|(?:: |-> |\[)(?:dict|list|set|tuple|type)\[|"
-                   r"(?:: |-> )[\w.]+ \| ")
-
 CLEAN = {**{name: value for name, value in ENVIRONMENT.items() if name not in ("PYTHONPATH", library.VARIABLE)},
          "PIP_DISABLE_PIP_VERSION_CHECK": "1", "PIP_NO_INDEX": "1", "PIP_NO_BUILD_ISOLATION": "0"}
 LIBRARY = library.open_library()._name
@@ -33,17 +26,6 @@ BUILD = "from setuptools import build_meta; import sys; print(getattr(build_meta
 PYTHON = "/usr/bin/python3"   # which has what a build needs, as Debian's packages have it: no test asks a network
 MACHINES = sorted(path.parent.name.partition("-")[0] for path in ROOT.glob(f"prebuilt/*-linux/{library.FILE_NAME}"))
 TAGS = "manylinux_2_17_{0}.manylinux2014_{0}.musllinux_1_1_{0}"
-
-
-SOURCES = at_least(17, [*(PACKAGE / "superio").glob("*.py"), PACKAGE / "setup.py", ROOT / "shell",
-                        *(ROOT / "examples" / "python").glob("*.py")])
-
-
-@pytest.mark.parametrize("path", SOURCES, ids=lambda path: path.name)
-def test_python_3_8_takes(path):
-    text = path.read_text(encoding="utf-8")
-    ast.parse(text, str(path), feature_version=(3, 8))
-    assert [line for line in text.splitlines() if NEWER.search(line)] == []
 
 
 def environment(folder):

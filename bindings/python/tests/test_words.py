@@ -25,7 +25,7 @@ NOW = 0x6553F100
 # Formats of characters, by the data sheet: 5 to 8 bits; 0x04 for 2 stop bits; 0x08 for a parity, by 0x30: odd, even,
 # mark and space.
 PARITIES = {"N": 0, "O": 0x08, "E": 0x18, "M": 0x28, "S": 0x38}
-FORMATS = {f"{5 + bits}{parity}{stop}": bits | of_parity | of_stop for bits in range(4)
+FORMATS = {f"{5 + bits}{parity}{stop}": bits + of_parity + of_stop for bits in range(4)
            for parity, of_parity in PARITIES.items() for stop, of_stop in ((1, 0), (2, 0x04))}
 
 # The line of a script, and the lines that mean it.
