@@ -21,7 +21,7 @@ WARNINGS = "+default,-unused-pattern-matching-variable"
 
 def coqc(folder: Path, name: str) -> str:
     run = subprocess.run(["coqc", "-noglob", "-w", WARNINGS, "-Q", ".", "Recheck", f"{name}.v"], cwd=folder,
-                         env=os.environ | HEAP, capture_output=True, text=True)
+                         env=os.environ | HEAP, capture_output=True, encoding="utf-8")
     if run.returncode:
         raise Failed(f"{name}.v is not proved:\n{run.stdout}{run.stderr}")
     return run.stdout

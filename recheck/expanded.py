@@ -124,7 +124,7 @@ def compare(root: Path, rustc: str, folders: Mapping[str, str], left_out: Mappin
         made = [f"--extern=superio={temporary}/libsuperio.rmeta"] if name != "core" else []
         command = [rustc, "--edition=2021", "--crate-type=lib", *made, *options, "src/lib.rs"]
         environment = os.environ | {"RUSTC_BOOTSTRAP": "1"}
-        done = subprocess.run(command, cwd=root / folder, env=environment, capture_output=True, text=True)
+        done = subprocess.run(command, cwd=root / folder, env=environment, capture_output=True, encoding="utf-8")
         if done.returncode:
             raise Refused(f"{' '.join(map(str, command))}\n{done.stderr}")
         return done.stdout

@@ -143,9 +143,12 @@ def openers(function):
 
 
 def in_the_locales_encoding(text):
-    """The calls of a source that open a text in the encoding of the locale."""
+    """The calls of a source that open a text, or the pipes of a program, in the encoding of the locale."""
     for call in (node for node in ast.walk(ast.parse(text)) if isinstance(node, ast.Call)):
         named = {word.arg: word.value for word in call.keywords}
+        is_text = {getattr(named.get(name), "value", None) for name in ("text", "universal_newlines")}
+        if True in is_text and "encoding" not in named:
+            yield ast.unparse(call)
         for mode_place, encoding_place, default in openers(call.func):
             is_placed = mode_place is not None and mode_place < len(call.args)
             mode = named.get("mode", call.args[mode_place] if is_placed else ast.Constant(default))
@@ -176,6 +179,8 @@ def test_a_text_has_an_encoding(path):
     ("a.write_text(b, 'utf-8')", 0), ("write_text(a, b)", 0), ("a.read_bytes()", 0), ("lzma.open(a)", 0),
     ("lzma.open(a, 'rt')", 1), ("tarfile.open(a)", 0), ("(lzma.open if a else open)(b)", 1),
     ("(lzma.open if a else open)(b, 'rb')", 0), ("tempfile.NamedTemporaryFile()", 0), ("io.TextIOWrapper(a)", 1),
+    ("subprocess.run(a, text=True)", 1), ("subprocess.run(a, encoding='utf-8')", 0), ("subprocess.run(a)", 0),
+    ("a.format(text=b)", 0),
     ("tempfile.NamedTemporaryFile('w')", 1), ("tempfile.NamedTemporaryFile(mode='w', encoding='utf-8')", 0)])
 def test_which_texts_have_none(text, count):
     assert len([*in_the_locales_encoding(text)]) == count

@@ -13,7 +13,7 @@ def run(command, timeout=LIMIT, **options):
     options = {"stdout": subprocess.PIPE, "stderr": subprocess.STDOUT, "stdin": subprocess.DEVNULL, **options}
     if "input" in options:
         del options["stdin"]
-    return subprocess.run([*map(str, command)], text=True, errors="replace", timeout=timeout, **options)
+    return subprocess.run([*map(str, command)], encoding="utf-8", errors="replace", timeout=timeout, **options)
 
 
 def check(command, printed=None, **options):

@@ -14,7 +14,7 @@ def run(*words, at_its_end=False, **options):
     lines, head = [], " ".join(["==", *words])
     if not at_its_end:
         print(head, flush=True)
-    process = subprocess.Popen(["env", *words], stdin=subprocess.DEVNULL, stdout=subprocess.PIPE, text=True,
+    process = subprocess.Popen(["env", *words], stdin=subprocess.DEVNULL, stdout=subprocess.PIPE, encoding="utf-8",
                                stderr=subprocess.STDOUT, errors="replace", **{"cwd": ROOT, **options})
     for line in process.stdout:
         lines.append(line)

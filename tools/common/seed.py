@@ -14,7 +14,7 @@ def seed():
     if VARIABLE not in os.environ:
         try:
             words = ["git", "rev-parse", "--verify", "--quiet", "HEAD"]
-            said = subprocess.run(words, cwd=ROOT, capture_output=True, text=True).stdout
+            said = subprocess.run(words, cwd=ROOT, capture_output=True, encoding="utf-8").stdout
         except OSError:
             said = ""
         os.environ[VARIABLE] = str(int(said[:8] or "0", 16))

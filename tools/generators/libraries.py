@@ -71,7 +71,7 @@ def replace_lines(path, lines):
 def build_into(folder):
     """Builds the libraries from the proofs, each into the folder of its target."""
     # The kit's linker, so that each machine links the same bytes.
-    page = subprocess.run(["rt", "doc"], stdout=subprocess.PIPE, text=True, check=True).stdout.strip()
+    page = subprocess.run(["rt", "doc"], stdout=subprocess.PIPE, encoding="utf-8", check=True).stdout.strip()
     linker = Path(page).parent / "toolchain" / "bin" / "ld.lld"
     for target, (options, emulation) in TARGETS.items():
         static = folder / target / STATIC

@@ -49,7 +49,7 @@ class Copy:
         words = [*SANDBOX, "--bind", self.folder, self.folder, "--chdir", self.folder, *RUNNER]
         path = os.pathsep.join([str(self.folder / "compilers"), os.environ["PATH"]])
         return subprocess.Popen(words, stdin=subprocess.PIPE, stdout=subprocess.PIPE, stderr=subprocess.DEVNULL,
-                                text=True, env={**os.environ, "PATH": path})
+                                encoding="utf-8", env={**os.environ, "PATH": path})
 
     def run(self, command, memory=None, seconds=LONGEST, processor=LONGEST):
         """Runs a command within limits, because a mutant may run, print or take memory without end. Each process gets
