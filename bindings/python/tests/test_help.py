@@ -38,7 +38,7 @@ help NAME says more.
                         the guest's driver reads what is held.
 
 Ctrl-C drops a line, Ctrl-D ends.
-@ test_commandline.py has a terminal for it.
+@ A terminal shows this: those of test_commandline.py get both keys.
 
 # read
 the guest reads: read LSR, read 5.
@@ -133,7 +133,7 @@ Bytes wait if IER enables RDA, and a read of IIR or RBR has ended it and left th
 > timeout               no interrupt: no byte is held
 
 A monitor makes this call after each guest read of IIR that answers none, and once in each turn of its event loop.
-@ docs/PORT.md has this rule.
+@ This is what a monitor does: "The character timeout" of docs/PORT.md has both moments.
 
 # drain
 the guest's driver reads what is held.
@@ -801,23 +801,35 @@ def talked(folder, is_viewer, lines):
     return "".join(f"{row}\n" for row in rows)
 
 
-def helped():
-    """What `help` prints of each command, and beside them."""
-    found = {f"{prefix}{name}": " ".join([f"{entry.about}.", *filter(None, [entry.more])])
-             for prefix, prompt in (("", Session), ("view ", Viewer))
-             for group in prompt.groups.values() for entry in group for name in [entry.name]}
-    out = io.StringIO()
-    Session(out).onecmd("help")
-    return {"(groups)": " ".join(f"{title}." for title in Session.groups),
-            "(end)": out.getvalue().splitlines()[-1], **found}
+def replies(prompt, line):
+    """The rows that a prompt says to a line."""
+    prompt.stdout = io.StringIO()
+    prompt.onecmd(line)
+    return prompt.stdout.getvalue().splitlines()
+
+
+def helped(prompt, prefix):
+    """What `help` prints of each command of a prompt, below its usage."""
+    names = [entry.name for group in prompt.groups.values() for entry in group]
+    return {f"{prefix}{name}": " ".join(replies(prompt, f"help {name}")[1:]) for name in names}
 
 
 class Helped(FolderTest):
     maxDiff = None
 
     def test_each_sentence_is_one_of_the_talks(self):
-        self.assertEqual(helped(), {name: " ".join(" ".join(text for text, _ in blocks(section)).split())
-                                    for name, section in SECTIONS.items()})
+        shell, viewer = Session(None), Viewer([], "trace", None)
+        besides = {"(groups)": " ".join(f"{title}." for title in shell.groups), "(end)": replies(shell, "help")[-1]}
+        self.assertEqual({**besides, **helped(shell, ""), **helped(viewer, "view ")},
+                         {name: " ".join(" ".join(text for text, _ in blocks(section)).split())
+                          for name, section in SECTIONS.items()})
+
+    def test_the_list_has_the_first_sentence_of_each_command(self):
+        for prompt in (Session(None), Viewer([], "trace", None)):
+            listed = "\n".join(replies(prompt, "help"))
+            for group in prompt.groups.values():
+                for entry in group:
+                    self.assertRegex(listed, rf"(?m)^  {re.escape(entry.usage)}\s+{re.escape(entry.about)}$")
 
     def test_each_talk_shows_what_the_help_says(self):
         self.addCleanup(os.chdir, os.getcwd())
