@@ -149,7 +149,7 @@ def test_consoles():
     check(["node", CONSOLES], f"{len(at_least(10_000, rows))} calls did the same, 0 did not\n", input="\n".join(rows))
 
 
-OWN_TESTS = at_least(4, sorted((PACKAGE / "tests").glob("*.test.mjs")))
+OWN_TESTS = at_least(6, sorted((PACKAGE / "tests").glob("*.test.mjs")))
 
 
 @pytest.mark.needs("node")
