@@ -1,14 +1,17 @@
 # SPDX-License-Identifier: Apache-2.0 OR BSD-3-Clause
 """Recorded traces in the viewer of the Python package: how they are searched, listed and drawn."""
 import io
+import json
 import lzma
 import re
+from collections import Counter
 from contextlib import redirect_stderr
 from functools import lru_cache
+from itertools import groupby
 from xml.etree import ElementTree
 
 import pytest
-from harness import ROOT, at_least
+from harness import ROOT, at_least, check
 from support import run
 
 from superio.recording import entries_of, picture, replay
@@ -223,19 +226,29 @@ def test_bytes_that_linux_leaves():
 
 
 # What pages say of each recording, in its form there: how many calls and pieces it has, and how often its kernel reads
-# the status of the controller in vain. Of the first input that goes in whole, and that does not: how much goes in.
-SAID = at_least(11, [
-    (WITH_INPUT, "web/boot.mjs", r"The kernel read its ([\d,]+) bytes in one interrupt", "typed"),
-    (WITH_INPUT, "web/boot.mjs", r"The FIFO accepted ([\d,]+) of them", "fitted"),
+# the status of the controller in vain.
+SAID = at_least(6, [
     *((recording, "examples/linux-boot/README.md", rf"^\| Size {form} ([\d,]+) calls in (\d+) pieces", "calls pieces")
       for recording, form in ((RECORDING, r"\|"), (WITH_INPUT, r"\|[^|]*\|"))),
     *((RECORDING, page, form, "reads") for page, form in (
-        ("docs/GUESTS.md", r"reads the status ([\d,]+) times"), ("docs/MONITOR.md", r"\[([\d,]+) reads\]"),
-        ("web/boot.mjs", r"reads the controller's status ([\d,]+) times"))),
-    *((recording, "web/boot.mjs", form, "calls") for recording, name, words in (
-        (RECORDING, "boot", r"kernel made ([\d,]+) calls"), (WITH_INPUT, "console", r"These ([\d,]+) calls were"))
-      for form in (words, rf"^  {name}: \{{\n    calls: ([\d_]+),")),
+        ("docs/GUESTS.md", r"reads the status ([\d,]+) times"), ("docs/MONITOR.md", r"\[([\d,]+) reads\]"))),
+    *((recording, "web/boot.mjs", rf"^  {name}: \{{\n    calls: ([\d_]+),", "calls")
+      for recording, name in ((RECORDING, "boot"), (WITH_INPUT, "console"))),
 ])
+
+# The numbers in what the page says of a recording, in their order there: what each is of. A stop has its call as name.
+CAPTIONS = {
+    "boot": (RECORDING, {
+        "introduction": "calls", "beginning": "polled", "sw 01 0f": "kept bits, set bits, chip", "kw 04 20": "reads",
+        "sw 01 02": "enabled, shown, status reads, burst", "kw 04 fe": ""}),
+    "console": (WITH_INPUT, {
+        "introduction": "pasted, calls", "beginning": "apart", "sw 00 1b": "cursor", "sr 00  0a": "typed, interrupts",
+        "sq 3031": "pasted, fitted", "cr 000000006b063b79 0018": "status", "kw 04 fe": ""}),
+}
+# Words for numbers. The one of "without one" is none.
+WORDS = {"one": 1, "two": 2, "three": 3, "four": 4, "five": 5, "six": 6, "seven": 7, "eight": 8, "nine": 9, "ten": 10,
+         "once": 1, "twice": 2, "both": 2}
+NUMBER = re.compile(rf"(?<!without )\b(?:{'|'.join(WORDS)})\b|\d+(?:,\d{{3}})*", re.I)
 
 
 @lru_cache
@@ -244,11 +257,56 @@ def counts_of(recording):
     lines = [line_of(step.call.command) for step in steps]
     asked = lines.index("kw 04 20") if "kw 04 20" in lines else len(lines)
     resets = lines[asked:].count("kw 04 fe")   # before each of which it reads the status once
-    offered = [(len(call.command.values[0]), call.reply) for _, call, _ in steps if call.command.name == "sq"]
-    typed, fitted = (next((int(reply, 16) for size, reply in offered if (int(reply, 16) == size) == is_whole), 0)
-                     for is_whole in (True, False))
-    return {"calls": len(steps), "pieces": steps[-1].piece, "reads": lines[asked:].count("kr 04") - resets,
-            "typed": typed, "fitted": fitted}
+    counts = {"calls": len(steps), "pieces": steps[-1].piece, "reads": lines[asked:].count("kr 04") - resets}
+    return {**counts, **(counts_of_boot if recording == RECORDING else counts_of_console)(steps, lines)}
+
+
+def bursts(steps, lines):
+    """How many reads of LSR are before bytes that go out without another, and how many bytes."""
+    kinds = ["read" if line == "sr 05" else "sent" for step, line in zip(steps, lines)
+             if line == "sr 05" or step.has_sent]
+    runs = [(kind, len([*run])) for kind, run in groupby(kinds)]
+    return [(reads, sent) for (kind, reads), (_, sent) in zip(runs, runs[1:]) if kind == "read"]
+
+
+def reply_after(steps, lines, place, line):
+    return int(steps[lines.index(line, place)].call.reply, 16)
+
+
+def output_of(steps):
+    return b"".join(bytes(step.call.command.values[-1:]) for step in steps if step.has_sent)
+
+
+def counts_of_boot(steps, lines):
+    """Of the search for the port, and of the test of THRE when it is opened, which ends where LCR is written."""
+    searched, opened = lines.index("sw 01 0f"), lines.index("sw 01 02")
+    tested = [*zip(lines, steps)][opened:lines.index("sw 03 03", opened)]
+    [polled] = {sent for _, sent in bursts(steps[:searched], lines)}
+    served = bursts(steps[opened:], lines[opened:])
+    burst = max(sent for _, sent in served)
+    return {"polled": polled, "kept bits": bin(reply_after(steps, lines, searched, "sr 01")).count("1"),
+            "set bits": bin(reply_after(steps, lines, searched, "sr 02") & 0xF0).count("1"),
+            "chip": int(re.search(rb"is a (\d+)A", output_of(steps))[1]),
+            "enabled": sum(line == "sw 01 02" for line, _ in tested),
+            "shown": sum(line == "sr 02" and int(step.call.reply, 16) & 0x03 == 0x02 for line, step in tested),
+            "status reads": min(reads for reads, sent in served if sent == burst), "burst": burst}
+
+
+def counts_of_console(steps, lines):
+    """Of the first input that is typed, of the paste, whose last piece alone goes in whole, and of the clock."""
+    inputs = [(place, len(step.call.command.values[0]), 0 if step.call.reply == "full" else int(step.call.reply, 16))
+              for place, step in enumerate(steps) if step.call.command.name == "sq"]
+    first, typed, _ = inputs[0]
+    read = [place for place, line in enumerate(lines) if line == "sr 00" and place > first][typed - 1]
+    begin = next(number for number, (_, size, taken) in enumerate(inputs) if taken < size)
+    end = next(number for number, (_, size, taken) in enumerate(inputs) if number > begin and taken == size)
+    offsets = [int(line.split()[2], 16) for line in lines[:lines.index("sw 00 1b")] if line.startswith("cr ")]
+    steps_up = Counter(after - before for before, after in zip(offsets, offsets[1:]) if after > before)
+    due = next(place for place, line in enumerate(lines) if line.startswith("cr 000000006b063b79 0018"))
+    return {"typed": typed, "interrupts": sum(step.call.answers.count(True) for step in steps[first:read + 1]),
+            "fitted": inputs[begin][2], "pasted": sum(taken for _, _, taken in inputs[begin:end + 1]),
+            "apart": steps_up.most_common(1)[0][0], "status": int(steps[due].call.reply, 16),
+            "cursor": int(re.search(rb"\x1b\[(\d+)n", output_of(steps))[1])}
 
 
 @pytest.mark.parametrize("recording, page, form, kinds", SAID, ids=lambda value: str(value)[-30:])
@@ -256,6 +314,22 @@ def test_numbers_that_pages_say(recording, page, form, kinds):
     said = re.search(form, (ROOT / page).read_text("utf-8"), re.M).groups()
     counts = counts_of(recording)
     assert [int(re.sub("[,_]", "", number)) for number in said] == [counts[kind] for kind in kinds.split()]
+
+
+@pytest.mark.needs("node")
+@pytest.mark.parametrize("name", CAPTIONS)
+def test_numbers_in_captions(name):
+    """Each number that the page says while it plays a recording is one of the recording, in digits or as a word."""
+    program = 'import { RECORDINGS } from "./web/boot.mjs"; console.log(JSON.stringify(RECORDINGS));'
+    all_said = json.loads(check(["node", "--input-type=module", "--eval", program], cwd=ROOT))
+    recording, kinds = CAPTIONS[name]
+    counts, said = counts_of(recording), all_said[name]
+    captions = {"introduction": said["introduction"], "beginning": said["beginning"],
+                **{start: text for start, text, _ in said["stops"]}}
+    assert (all_said.keys(), captions.keys()) == (CAPTIONS.keys(), kinds.keys())
+    for key, text in captions.items():
+        numbers = [WORDS.get(number.lower()) or int(number.replace(",", "")) for number in NUMBER.findall(text)]
+        assert numbers == [counts[kind] for kind in kinds[key].split(", ") if kind], text
 
 
 @pytest.mark.parametrize("packed", [RECORDING.read_bytes()[:-100], TRACE], ids=["cut short", "not packed"])
