@@ -105,7 +105,7 @@ def faults_of(device):
 
 def test_loads_have_each_reply():
     """Of a port and of a clock: no fault, and each that there may be."""
-    calls = [*every_load(2_000)]
+    calls = [*every_load()]   # of fewer, one of the replies might be missing
     loads = [call for call in calls if call[0] in ("load", "clock_load")]
     replies = replies_of(Board(model), loads)
     for name, device in ("load", "serial"), ("clock_load", "clock"):
