@@ -22,11 +22,15 @@ from hypothesis import HealthCheck, settings
 from places import is_place
 
 LEFT_OUT = pytest.StashKey()   # of a test that --without leaves out
-# The files that take longest. They begin first, so that no worker is left with one of them at the end.
-DEAREST = ["tests/packages/test_releases.py", "tests/rust/test_crates.py", "tests/recheck/test_proofs.py",
-           "tests/documents/test_paste.py", "tests/c/test_programs.py", "tests/guests/test_clock.py",
-           "tests/guests/test_linux_driver.py", "tests/guests/test_polling.py", "tests/guests/test_verifier.py",
-           "tests/tools/test_changes.py", "tests/python/test_installation.py"]
+# The files that take longest, also because they wait. They begin first, so that no worker is left with one of them at
+# the end.
+DEAREST = ["tests/packages/test_releases.py", "tests/rust/test_crates.py", "tests/c/test_programs.py",
+           "tests/recheck/test_proofs.py", "tests/tools/test_mutants.py", "tests/tools/test_changes.py",
+           "tests/guests/test_verifier.py", "tests/documents/test_whole_programs.py", "tests/documents/test_paste.py",
+           "tests/page/test_page.py", "tests/c/test_examples_of_c.py", "tests/kvm/test_monitor.py",
+           "tests/guests/test_clock.py", "tests/python/test_installation.py", "tests/js/test_package.py",
+           "tests/guests/test_linux_driver.py", "tests/tools/test_check.py", "tests/tools/test_comparing.py",
+           "tests/recheck/test_statements.py", "tests/guests/test_polling.py"]
 
 os.environ.setdefault("HYPOTHESIS_STORAGE_DIRECTORY", str(ROOT / "out" / "hypothesis"))
 # Each date that a program of ours tells is of UTC. So tests run where local time is another.
