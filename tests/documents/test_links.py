@@ -16,7 +16,7 @@ from harness import ROOT, at_least
 DOCUMENTS = at_least(33, documents())
 # The libraries that a user copies, by docs/RATTLE.md.
 COPIED = [ROOT / "crates" / name for name in ("superio_core", "superio_laws", "vm_superio")]
-SOURCE = re.compile(r".*\]\(([^)#]+\.(?:antt|c|h|mjs|py|rs|rt))\)[^\n]*:\s*\Z")   # before an excerpt
+SOURCE = re.compile(r".*\]\(([^)#]+\.(?:antt|c|h|mjs|py|rs|rt|txt))\)[^\n]*:\s*\Z")   # before an excerpt
 LINKS = at_least(300, [(document, link) for document in DOCUMENTS for link in document.links
                        if not re.match(r"\w+:", link)])
 ANCHORS = {ROOT / document.path: document.anchors for document in DOCUMENTS}
