@@ -132,8 +132,8 @@ static bool is_clock(uint64_t address) {
     return address >= CLOCK && address - CLOCK < SUPERIO_RTC_WINDOW;
 }
 
-/* The guest reads `count` bytes of memory. A narrower read gets its part of the four
- * aligned bytes around it. */
+/* The guest reads `count` bytes of memory. A read of fewer than four bytes gets its part of the four aligned bytes
+ * around it. */
 static void memory_read(struct machine *machine, uint64_t address, uint8_t *bytes, unsigned count) {
     unsigned within = count == 4 ? 0 : address % 4;
     memset(bytes, 0xFF, count); /* what a guest reads where no device answers */
@@ -189,12 +189,12 @@ static uint8_t port_read(struct machine *machine, uint16_t port) {
     return is_serial(port) ? read_access(machine, (uint8_t)(port - COM1)) : 0xFF;
 }
 
-/* Call this after each access. If the access asked for a reset, the machine is reset. The clock goes on. */
+/* Call this after each access, but not with KVM. If it asked for a reset, the machine is reset. The clock goes on. */
 static void access_served(struct machine *machine) {
     pthread_mutex_lock(&machine->lock);
     if (machine->is_reset) {
-        /* If there are several processors, only one thread may do this. It first stops the others, without holding
-         * the lock, which they may need. Until they have stopped, it ignores the resets that they ask for. */
+        /* With several processors, only one thread may do this. Before it takes the lock, which the others may need, it
+         * has to stop them. Until they have stopped, it ignores the resets that they ask for. */
         clear(machine->irq); /* in place of a reset of the interrupt controller */
         if (interrupt(machine, superio_console_reset(&machine->console)))
             eventfd_write(machine->wake_up, 1);
@@ -309,11 +309,11 @@ static void save(struct machine *machine, struct snapshot *saved) {
     pthread_mutex_unlock(&machine->lock);
 }
 
-/* Takes the lock, carries out steps 2 to 5 of a restore, and releases the lock. The interrupt controller is restored,
- * and neither the processors nor the event loop run yet. Returns false if the snapshot is invalid. */
+/* Steps 2 to 5 of a restore, and the release of the lock in step 6. The interrupt controller is restored, and neither
+ * the processors nor the event loop run yet. Returns false if the snapshot is invalid. */
 static bool restore(struct machine *machine, const struct snapshot *saved) {
-    pthread_mutex_lock(&machine->lock);
     /* step 2: load into temporaries, so that a bad snapshot changes nothing */
+    pthread_mutex_lock(&machine->lock);
     superio_console console;
     superio_rtc clock;
     bool is_good = superio_rtc_load(&clock, saved->clock, sizeof saved->clock) == SUPERIO_LOAD_OK
