@@ -189,12 +189,11 @@ static uint8_t port_read(struct machine *machine, uint16_t port) {
     return is_serial(port) ? read_access(machine, (uint8_t)(port - COM1)) : 0xFF;
 }
 
-/* Call this after each access, but not with KVM. If it asked for a reset, the machine is reset. The clock goes on. */
+/* Call this after each access, but not with KVM. If the access asked for a reset, the machine is reset. The clock goes
+ * on. It is for a single processor: with several, you stop them before you take the lock, which their accesses need. */
 static void access_served(struct machine *machine) {
     pthread_mutex_lock(&machine->lock);
     if (machine->is_reset) {
-        /* With several processors, only one thread may do this. Before it takes the lock, which the others may need, it
-         * has to stop them. Until they have stopped, it ignores the resets that they ask for. */
         clear(machine->irq); /* in place of a reset of the interrupt controller */
         if (interrupt(machine, superio_console_reset(&machine->console)))
             eventfd_write(machine->wake_up, 1);
@@ -301,7 +300,7 @@ static void save(struct machine *machine, struct snapshot *saved) {
     /* step 3: your processors, memory and interrupt controller */
     /* step 4 */
     saved->count = superio_console_save(&machine->console, saved->console);
-    /* step 5: read_input leaves no input to save */
+    /* step 5: nothing to save, because the event loop reads no more than the console accepts */
     /* step 6 */
     superio_rtc_save(&machine->clock, saved->clock);
     saved->now = machine->now;
@@ -428,17 +427,17 @@ static void *guest(void *unused) {
 /* Moves the guest from one machine to another. `loop` is the thread of the machine's event loop. */
 static void move(struct machine *from, struct machine *to, pthread_t *loop) {
     static struct snapshot saved;
-    /* step 1 of a stop */
+    /* step 1 of a save: the guest */
     pthread_mutex_lock(&door);      /* no access begins */
     pthread_mutex_lock(&processor); /* the last access has ended */
-    /* step 2 of a stop */
+    /* step 1 of a save: the event loop */
     pthread_mutex_lock(&from->lock);
     from->is_stopped = true;
     pthread_mutex_unlock(&from->lock);
     eventfd_write(from->wake_up, 1);
     pthread_join(*loop, NULL);
     save(from, &saved);
-    /* step 1 of a restore: nothing to restore, because this example has no real processor and no controller */
+    /* step 1 of a restore: nothing, because this example has neither a real processor nor a real controller */
     if (!restore(to, &saved))
         errx(1, "the snapshot is refused");
     /* step 6 of a restore */
