@@ -78,10 +78,11 @@ class Monitor:
         with selectors.DefaultSelector() as selector:
             selector.register(self.woken, selectors.EVENT_READ)
             while True:
+                is_off = self.is_off   # first, because the guest may send its last bytes meanwhile
                 with self.lock:
                     self.make_turn()
                     wants = self.console.wants()
-                if self.is_off and not wants.output:
+                if is_off and not wants.output:
                     return
                 events = selectors.EVENT_READ * (wants.input > 0) | selectors.EVENT_WRITE * wants.output
                 if events:

@@ -6,6 +6,7 @@ import platform
 import re
 import subprocess
 import time
+from concurrent.futures import ThreadPoolExecutor
 from pathlib import Path
 
 import pytest
@@ -61,6 +62,9 @@ SET_BOTH_IN_RUST = """
         (0..1 + u8::from(is_up)).for_each(|_| assert!(signal(&self.irq).is_ok()));
     }
 """
+# What changes with the console, and before it whether somebody has the lock.
+IS_STUCK = re.compile(r"(?=self\.is_stuck\.store)")
+LOCKED = 'assert!(self.console.try_lock().is_err(), "a flag is changed without the lock"); '
 MADE_IN_RUST = """
 const LEVELS: bool = {};
 const STOPS_POLLING: bool = {};
@@ -315,6 +319,60 @@ def test_an_event_loop_that_breaks_a_rule(rule, edit, watch, tmp_path):
     program = code("docs/C.md", "c", "int main")
     assert program.count(edit[0]) == 1
     assert watched(program.replace(*edit), watch, tmp_path) == (3, f"{rule}\n")
+
+
+# An event loop, where a statement of it begins, and where the guest begins to answer, by language.
+LOOPS = {"c": (r"^static void \*?event_loop\(.*?^\}\n", r"^ {8}(?=[a-z])", r"^ {8}(?=while \(!\((?:read_access|in)\()"),
+         "rust": (r"^    fn event_loop\(.*?^    \}\n", r"^ {12}(?=[a-z])", r"^ {8}(?=while monitor\.read_access\()")}
+# A thread that loses its processor for so many milliseconds: the guest's, and at one place the loop's, for longer.
+PAUSE = {"c": """#include <stdlib.h>
+static void pause_at(int place) {
+    if (place == 0 || place == atoi(getenv("PLACE")))
+        poll(NULL, 0, place == 0 ? 20 : 60);
+}
+""", "rust": """    fn pause_at(place: u8) {
+        if place == 0 || std::env::var("PLACE").unwrap() == place.to_string() {
+            std::thread::sleep(Duration::from_millis(if place == 0 { 20 } else { 60 }));
+        }
+    }
+"""}
+
+
+def with_pauses(program, language):
+    """A program that pauses before the statement of its event loop whose number PLACE is, and how many there are."""
+    loop, statement, answer = (re.compile(form, re.M | re.S) for form in LOOPS[language])
+    [text], call = loop.findall(program), {"c": "pause_at", "rust": "Monitor::pause_at"}[language]
+    before, *parts = statement.split(text)
+    indent = statement.search(text)[0]
+    paused = "".join(f"{indent}{call}({place});\n{indent}{part}" for place, part in enumerate(parts, 1))
+    program = edited(program, [(text, PAUSE[language] + before + paused)])
+    program, count = answer.subn(rf"        {call}(0);\n\g<0>", program)
+    assert count == 1
+    return program, len(parts)
+
+
+def printed_with_pauses(program, count):
+    """What a program prints for a line of input, by the place where it pauses."""
+    def printed(place):
+        return run([program], input="hello\n", env={**os.environ, "PLACE": str(place)}).stdout
+
+    places = at_least(10, range(1, count + 1))
+    with ThreadPoolExecutor(16) as pool:
+        return dict(zip(places, pool.map(printed, places)))
+
+
+# What each program prints.
+OF_LINE = {"console": "HELLO\n", "machine": (ROOT / "examples/c/expected").read_text(encoding="utf-8")}
+
+
+@pytest.mark.needs("cc")
+@pytest.mark.parametrize("name", OF_LINE)
+def test_pauses(name, tmp_path):
+    """All of the guest's output is written before the event loop ends, wherever its thread loses the processor."""
+    program, count = with_pauses(WITH_FILES[name], "c")
+    compile_c(tmp_path, "monitor", program, LIBRARY, "-pthread", "-o", "monitor")
+    printed = printed_with_pauses(tmp_path / "monitor", count)
+    assert printed == dict.fromkeys(printed, OF_LINE[name])
 
 
 # How the input and the output fail. 0 is the end of the input.
@@ -706,6 +764,16 @@ def test_event_loop_in_rust(built, tmp_path):
 
 
 @pytest.mark.needs("cargo", "libc")
+def test_pauses_in_rust(built, tmp_path):
+    """As in C, all of the guest's output is written before the event loop ends."""
+    program, count = with_pauses(code("docs/RUST.md", "rust", MONITOR), "rust")
+    with_place = {**built, "PLACE": "-"}
+    run_rust(program, "HELLO\n", "hello\n", with_place, tmp_path)
+    printed = printed_with_pauses(f"{built['CARGO_TARGET_DIR']}/debug/hi", count)
+    assert printed == dict.fromkeys(printed, "HELLO\n")
+
+
+@pytest.mark.needs("cargo", "libc")
 def test_levels_in_rust(built, tmp_path):
     """A text of several refills of the FIFO comes back."""
     text = "the quick brown fox " * 100 + "\n"
@@ -720,7 +788,9 @@ def without_main(program):
 def test_rules_of_the_whole_monitor(built, tmp_path):
     """The monitor of docs/RUST.md, with a guest and files at the worst moments in place of its `main`."""
     rules = (ROOT / "tests/documents/monitor_rules.rs").read_text("utf-8")
-    run_rust(without_main(rust_program_for("edges")) + rules, "each rule is kept\n", "", built, tmp_path)
+    program, count = IS_STUCK.subn(LOCKED, without_main(rust_program_for("edges")))
+    assert count == 2
+    run_rust(program + rules, "each rule is kept\n", "", built, tmp_path)
 
 
 @pytest.mark.needs("cargo")

@@ -246,6 +246,37 @@ def test_what_was_sent_before_the_guest_is_off_is_shown(count):
     assert not loop.is_alive() and machine.shown == machine.sent
 
 
+class LockOfLoop:
+    """The lock, as the event loop takes it. When it is released for the nth time, the guest sends a byte and is off."""
+
+    def __init__(self, machine, number):
+        self.machine, self.left, self.lock = machine, number, machine.monitor.lock
+        self.locked = self.lock.locked
+
+    def __enter__(self):
+        self.lock.acquire()
+
+    def __exit__(self, *fault):
+        self.lock.release()
+        self.left -= 1
+        if self.left == 0:
+            self.machine.console.console.write("THR", 7)
+            self.machine.monitor.switch_off()
+        self.machine.monitor.wake()   # so that the loop goes round again
+
+
+@pytest.mark.parametrize("number", [1, 2, 3])
+def test_what_is_sent_while_the_loop_lacks_the_lock_is_shown(number):
+    """It has to know of the output at least what the guest had sent when it was off."""
+    machine = Machine(EXAMPLE.read_text(encoding="utf-8"))
+    machine.sent, machine.monitor.lock = b"\7", LockOfLoop(machine, number)
+    loop = threading.Thread(target=machine.monitor.run, daemon=True)
+    loop.start()
+    loop.join(LIMIT)
+    machine.read_shown(4096)
+    assert not loop.is_alive() and machine.shown == machine.sent
+
+
 # A rule that a monitor breaks, by an edit of the example.
 FORGETFUL = at_least(9, {
     "other edges": ("range(work.interrupts)", "range(work.interrupts - 1)"),
