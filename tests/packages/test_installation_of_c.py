@@ -181,6 +181,18 @@ def test_uninstall(others, tmp_path):
     assert listing(tmp_path) == before if others else [*map(str, listing(tmp_path))] == alone
 
 
+@pytest.mark.parametrize("words", at_least(5, [
+    "PREFIX=", "PREFIX=/opt/x LIBDIR=lib64", "LIBDIR=lib/fancy", "PREFIX=/usr DOCDIR=share/doc/own",
+    *(f"PREFIX=/usr LIBDIR=lib/fancy DOCDIR=doc/own TARGET={target}" for target in sorted(TARGETS))]))
+def test_uninstall_elsewhere(words, tmp_path):
+    """With the same variables it leaves no file, and no folder of pages, licenses or files for pkg-config."""
+    for goal in "install", "uninstall":
+        check(["make", "-s", goal, f"DESTDIR={tmp_path / 'a tree'}", *words.split()], "", cwd=ROOT)
+        left = listing(tmp_path)
+        assert any((tmp_path / path).is_file() for path in left) == (goal == "install"), left
+    assert not {path.name for path in left} & {"superio", "own", "docs", "examples", "licenses", "pkgconfig"}
+
+
 @pytest.fixture(scope="module")
 def installed(tmp_path_factory):
     """An installation in a folder of its own kind, and the environment that finds it."""

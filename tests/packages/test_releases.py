@@ -311,6 +311,30 @@ def test_files_of_the_packages(packages, package):
 
 
 @needs_debian
+def test_what_the_packages_need(packages):
+    """Where a link leads, and each library that one of ours takes, comes from the package itself or from one on which it
+    depends: on one of ours, of the same version."""
+    owners, links, needed = {}, [], []
+    for path in packages[0].glob("*.deb"):
+        said = check(["dpkg-deb", "--field", path, "Package", "Version", "Depends"])
+        fields = dict(re.findall(r"^(\w+): (.*)$", said, re.M))
+        own = f"{fields['Package']} (= {fields['Version']})"
+        depends = {own, *fields.get("Depends", "").split(", ")}
+        for name, link in re.findall(r" \./(\S+?)/?(?: -> (.*))?$", check(["dpkg-deb", "--contents", path]), re.M):
+            owners.setdefault(name, set()).add(own)
+            if link:
+                links.append((name, os.path.normpath(f"{os.path.dirname(name)}/{link}"), depends))
+            elif re.search(r"\.so\.\d+$", name):
+                said = check(["readelf", "--dynamic", packages[1] / name])
+                needed += [(library, depends) for library in re.findall(r"\(NEEDED\).*\[(.*)\]", said)]
+    for name, place, depends in at_least(1, links):
+        assert depends & owners.get(place, set()), f"{name} leads to {place}"
+    for library, depends in at_least(1, needed):
+        of = re.findall(r"^([\w.+-]+)(?::\w+)?: ", check(["dpkg", "-S", f"*/{library}"]), re.M)
+        assert {word.partition(" ")[0] for word in depends} & {*of}, library
+
+
+@needs_debian
 def test_lintian(packages):
     """It finds no error in the sources and in the packages: an upload has both."""
     check(["lintian", "--fail-on", "error", *packages[0].glob("*.changes")], env=OF_DEBIAN)
