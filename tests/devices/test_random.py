@@ -127,3 +127,17 @@ def test_a_wrong_model_is_found():
             assert "the model:" in made.shown(few, replies_of(Board(wrong), few), by_steps(few))
             sizes.append(len(few))
     assert len(sizes) == 5 and min(sizes) <= 6 and max(sizes) <= 20, sizes
+
+
+@pytest.mark.parametrize("needed", [[0], [8], [9], [4, 5], [0, 9], [2, 3, 7], [*range(10)]], ids=str)
+def test_fewest(needed):
+    """Those that are needed stay, wherever they stand, with the smallest number and the fewest bytes. So do lines."""
+    calls = [(f"call {place}", 250 + place, 5 * bytes([place])) for place in range(10)]
+
+    def differs(fewer):
+        found = {name: (number, len(data)) for name, number, data in fewer}
+        return all(min(found.get(f"call {place}", (-1, -1))) >= place % 3 for place in needed)
+    assert fewest(calls, differs) == [(f"call {place}", place % 3, bytes(place % 3)) for place in needed]
+    lines = [name for name, *_ in calls]
+    wanted = [lines[place] for place in needed]
+    assert fewest(lines, lambda fewer: {*wanted} <= {*fewer}) == wanted

@@ -6,11 +6,12 @@ import re
 from functools import cache
 from itertools import product
 
+import console
 import model
 import pytest
 import script_tests
 from board import OFTEN, Board
-from common.facts import ERRORS, word_of
+from common.facts import ERRORS, FIFO_SIZE, OUTPUT_SIZE, word_of
 from documents import CODE, Document, table
 from harness import at_least
 from made import (CLOCK, CLOCK_CONTENTS, CLOCK_FIELDS, SHOWN, any_call, broken_lines, clock_state, every_load,
@@ -198,6 +199,31 @@ def test_random_clocks_have_each_end():
     for name, kind in CLOCK_FIELDS.items():
         assert ends[kind] <= {state[name] >> 40 * (kind == "q") for state in states}, name
     assert {state["offset"] >> 62 for state in states} == {*range(-2, 2)}
+
+
+def kinds(number, *ends):
+    """Beside a number its place: at an end, before, between or behind them."""
+    return number if number in ends else sum(end < number for end in ends) + 0.5
+
+
+def test_random_consoles_have_each_shape():
+    """Structs have each flag off, on and as another number, and rings with some bytes and too many. Saved states are
+    good, or fail a check, and calls have each refusal."""
+    calls = [call.split(" ") for seed in range(2000) for call in console.random_run(random.Random(str(seed)))]
+    structs = [words for name, *words in calls if name == "lx"]
+    flags = zip(*(bytes.fromhex(words[-1]) for words in structs))
+    assert [{kinds(byte, 0, 1) for byte in column} for column in flags] == [{0, 1, 2.5}] * len(console.FLAGS)
+    ports, heads, counts, _, dropped, _ = zip(*structs)
+    held = {kinds(bytes.fromhex(port)[console.REGISTERS + 1], 0, FIFO_SIZE) for port in ports}
+    assert {0, 1.5, FIFO_SIZE, 2.5} == held and {kinds(int(head, 16), OUTPUT_SIZE) for head in heads} == {0.5, 1.5}
+    assert {kinds(int(count, 16), OUTPUT_SIZE) for count in counts} >= {0.5, 1.5}
+    assert {kinds(int(number, 16), 0, console.MOST) for number in dropped} == {0, 1.5, console.MOST}
+    faults = {console.console_fault(bytes.fromhex(data.strip("-"))) for name, *words in calls if name == "ll"
+              for data in words}
+    assert faults >= {"ok", "too short", "not a saved state", "other device", "unknown version", "wrong length",
+                      "too many bytes", "invalid flags"}
+    assert all({("lr", word), ("lw", word), ("lq", word), ("lt", word)} <= {(words[0], words[-1]) for words in calls}
+               for word in "12")
 
 
 @pytest.mark.parametrize("name", CLOCK_FIELDS)

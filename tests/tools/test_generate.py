@@ -6,6 +6,7 @@ import importlib.util
 import re
 import sys
 
+import booting
 import pytest
 import rerun
 from common.cargo import DROP_IN, DEVICES
@@ -149,6 +150,38 @@ def test_each_file_of_a_step_counts(own):
     assert [name for name in own.STEPS if own.STEPS[name].reads] == [*NAMED]
     for name, files in NAMED.items():
         assert not {file.relative_to(ROOT).as_posix() for file in {*files} - own.files_of(own.STEPS[name])}, name
+
+
+# What else has a digest of many files: whose ROOT they stand below, what gives the digest, and the files.
+BUILT = {"monitor", "target", "Cargo.lock"}
+DIGESTS = {
+    "libraries": (libraries, libraries.source_line, sources(*libraries.SOURCE_FOLDERS, ending=".rt")),
+    "module": (libraries, lambda: module.listed()["SOURCES"], sources(module.SOURCES, module.DEVICES)),
+    "linux": (booting, booting.sum_of_sources, [
+        path for name in booting.SOURCES for path in (ROOT / name, *(ROOT / name).rglob("*"))
+        if path.is_file() and not BUILT & {*path.parts}]),
+}
+
+
+@pytest.mark.parametrize("name", DIGESTS)
+def test_each_file_of_a_digest_counts(name, monkeypatch, tmp_path):
+    """Of files in any folder. One with another text, or of another name, gives another digest."""
+    owner, digest, files = DIGESTS[name]
+    copies = [tmp_path / file.relative_to(ROOT) for file in at_least(10, files)]
+    for copy in copies:
+        copy.parent.mkdir(parents=True, exist_ok=True)
+        copy.write_text("the text")
+    monkeypatch.setattr(owner, "ROOT", tmp_path)
+    digests = [digest()]
+    for copy in copies:
+        other = copy.with_name(f"other_{copy.name}")
+        copy.write_text("another")
+        digests.append(digest())
+        copy.write_text("the text")
+        copy.rename(other)
+        digests.append(digest())
+        other.rename(copy)
+    assert len({*digests}) == len(digests) == 1 + 2 * len(copies) and digest() == digests[0]
 
 
 # What steps write that have no digest, and what they read that others write.

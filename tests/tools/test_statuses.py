@@ -3,12 +3,22 @@
 own tests try, and most of them call it in their process, where the last line of the program is not run. And no program
 runs a command of which it looks at nothing."""
 import ast
+import importlib.machinery
+import importlib.util
 import shutil
 import sys
+import tempfile
 
+import coq
+import expanded
 import pytest
+from common import installing, rattle, requirements
+from common.comparison import Comparison
+from common.results import counted, run as run_part
 from documents import BUILT
-from harness import ROOT, at_least, run
+from generators import module
+from harness import ROOT, at_least, check, run
+from rust_tokens import Refused
 
 SHEBANG = "#!/usr/bin/env python3\n"
 STAND_IN = "def main(*words):\n    return {!r}\n"
@@ -73,3 +83,81 @@ def test_ignored(text, lines):
                     for path in (ROOT / folder).rglob("*.py") if not {*BUILT, "target"} & {*path.parts})])))
 def test_no_command_is_ignored(name):
     assert not [*ignored((ROOT / name).read_text("utf-8"))]
+
+
+# How a command may fail: with a status, or by a signal, for which Python has a number below 0.
+ENDS = {"a status": "exit 1", "the highest status": "exit 255", "a signal": "kill -9 $$"}
+
+
+def tool(name):
+    """A program of tools, as a module."""
+    loader = importlib.machinery.SourceFileLoader(name, str(ROOT / "tools" / name))
+    found = importlib.util.module_from_spec(importlib.util.spec_from_loader(name, loader))
+    loader.exec_module(found)
+    return found
+
+
+def fails(kind, what, *words):
+    """Whether it ends with a fault of this kind."""
+    try:
+        what(*words)
+    except kind:
+        return True
+    return False
+
+
+def of_step(top, replace):
+    generate = tool("generate")
+    replace(generate, "STEPS", {"it": generate.Step(str(top / "it"), reads="nothing")})
+    replace(generate, "RECORD", top / "record")
+    return generate.make("it") != "" and not (top / "record").exists()
+
+
+def of_installing(top, replace):
+    replace(installing, "ROOT", top)   # so that no package of this machine is touched
+    replace(installing, "take_paths", lambda: None)
+    replace(installing, "is_debian_12", lambda: True)
+    replace(installing, "packages", lambda tools: ["it"])
+    return fails(SystemExit, installing.prepare, [], True)
+
+
+def of_module(top, replace):
+    replace(module, "has_compiler", lambda: True)
+    replace(module, "DEBIAN_RUSTC", top / "it")
+    replace(module, "PREBUILT", top / "prebuilt")
+    return fails(SystemExit, module.main)
+
+
+def of_comparison(top, _):
+    it = Comparison.__new__(Comparison)
+    it.program = top / "it"
+    return it.make([])[-1].startswith("status ")
+
+
+# Who looks at the status of a command that it runs, and how it tells that the command has failed.
+LOOKS = {
+    "check": lambda top, _: fails(AssertionError, check, [top / "it"]),
+    "a part of tools/check": lambda top, _: counted(*run_part(str(top / "it")))[1] > 0,
+    "a step of tools/generate": of_step,
+    "tools/install-packages": of_installing,
+    "rt": lambda top, _: fails(rattle.NotBuilt, rattle.build, ("superio_core", "lib")),
+    "an import": lambda top, _: not requirements.has_modules(str(top / "it"), "import it"),
+    "the compiler of the module": of_module,
+    "a program that makes calls": of_comparison,
+    "coqc": lambda top, _: fails(coq.Failed, coq.coqc, top, "it"),
+    "rustc --rustc": lambda top, _: fails(Refused, lambda: [*expanded.compare(
+        ROOT, str(top / "it"), {"core": "rust/superio/src"}, {"core": {}}, top)]),
+}
+
+
+@pytest.mark.parametrize("end", ENDS)
+@pytest.mark.parametrize("name", LOOKS)
+def test_a_command_that_fails(name, end, tmp_path, monkeypatch):
+    """Whoever looks at its status tells so, also if a signal ended it, and whatever it had printed."""
+    for path in ("it", "coqc", "rt", "tools/install-packages"):
+        (tmp_path / path).parent.mkdir(exist_ok=True)
+        (tmp_path / path).write_text(f"#!/bin/sh\necho 1 passed\n{ENDS[end]}\n", "utf-8")
+        (tmp_path / path).chmod(0o755)
+    monkeypatch.setenv("PATH", str(tmp_path), prepend=":")
+    monkeypatch.setattr(tempfile, "tempdir", str(tmp_path))
+    assert LOOKS[name](tmp_path, monkeypatch.setattr)
