@@ -190,7 +190,8 @@ static uint8_t port_read(struct machine *machine, uint16_t port) {
 }
 
 /* Call this after each access, but not with KVM. If the access asked for a reset, the machine is reset. The clock goes
- * on. It is for a single processor: with several, you stop them before you take the lock, which their accesses need. */
+ * on. This function is for one processor. With several, first stop them all, and then take the lock, because they need
+ * the lock to end their accesses. */
 static void access_served(struct machine *machine) {
     pthread_mutex_lock(&machine->lock);
     if (machine->is_reset) {
