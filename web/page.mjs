@@ -1,7 +1,7 @@
 // SPDX-License-Identifier: Apache-2.0 OR BSD-3-Clause
 /** The page: what it shows of a board, and which call each control makes. */
 import { CLOCK, DLAB, SERIAL, isThere, serialRegister } from "../bindings/js/registers.mjs";
-import { Board, hex, hexOf, parse, programLines, runScript, syntaxOf } from "./board.mjs";
+import { Board, LINES, hex, hexOf, parse, programLines, runScript, syntaxOf } from "./board.mjs";
 import { Boot, RECORDINGS } from "./boot.mjs";
 import {
   CONDITIONS, dateOf, lineFormat, plural, quoted, ruleOf, short, shownRegisters, storyOf, told,
@@ -539,7 +539,8 @@ id("list").onkeydown = (event) => {
 /** Runs the script that the address has. */
 function followLink() {
   const fragment = location.hash.slice(1);
-  if (!/^[a-z]{2}[0-9A-Za-z+;]*(;|$)/.test(fragment) || !/[;+]/.test(fragment)) return;
+  const [name] = fragment.split(/[+;]/, 1);
+  if (!Object.hasOwn(LINES, name) || !/^[0-9A-Za-z+;]*(;|$)/.test(fragment)) return;   // such as `main`, a place here
   say("said", load(fragment.replaceAll(";", "\n").replaceAll("+", " ")) || "The calls of the link are made.");
 }
 window.addEventListener("hashchange", followLink);

@@ -152,8 +152,8 @@ const SEEN = {
   names: () => texts("#registers .register:not([hidden]) b").join(" "),
   bits: () =>
     all(".register:not([hidden])").map((row) => texts(".bit", row).join(" ")).filter(Boolean).join(", "),
-  changed: () => texts("#registers .changed b").join(" "),
-  flipped: () => texts("#registers .flipped").join(" "),
+  changed: () => texts(".changed b").join(" "),
+  flipped: () => texts(".flipped").join(" "),
   ignored: () => labels("#registers [aria-label$=ignored]"),
   invalid: () => labels("[aria-invalid=true]"),
   lit: () => texts("#port .lit").join(", "),

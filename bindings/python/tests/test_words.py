@@ -6,7 +6,9 @@ import io
 import os
 import re
 import unittest
+from functools import reduce
 from itertools import product
+from operator import or_
 from pathlib import Path
 from unittest import mock
 
@@ -541,6 +543,19 @@ class Words(FolderTest):
                     for begun, name in product(("", f"{names[-1]}|"), names):
                         found = Session(None).completions(before, begun + change(name))
                         self.assertEqual([begun + one for one in names if one.startswith(name)], found, before + begun)
+
+    def test_parts_of_a_value_with_bits_in_common(self):
+        """A value has each bit that one of its parts has, and once, in whatever order they stand."""
+        for line, registers in (("write", SERIAL), ("clock write", CLOCK)):
+            for register in registers.values():
+                parts = {name: bit for bit, name in register.bits if "w" in register.access}
+                parts.update({"8N1": 0x03, "5e2": 0x1c} if register.name == "LCR" else {})
+                parts.update({"0x9f": 0x9f, "65": 65} if parts else {})
+                self.afresh()
+                for some in product(parts, repeat=3):
+                    self.said(f"{line} {register.name} {'|'.join(some)}")
+                    expected = reduce(or_, map(parts.get, some))
+                    self.assertEqual(expected, self.session.commands[-1].values[-1], (register.name, some))
 
 
 class WordsAfterReset(Words):
