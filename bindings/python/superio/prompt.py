@@ -6,6 +6,7 @@ import cmd
 import difflib
 import glob
 import os
+import re
 import shutil
 import sys
 import tempfile
@@ -41,9 +42,10 @@ class Leave(Exception):
 
 
 def _files(text: str) -> List[str]:
-    """The files whose names begin so."""
+    """The files whose names begin so, as a command takes them: with a backslash before each blank and quote."""
     found = glob.glob(glob.escape(os.path.expanduser(text)) + "*")
-    return sorted(path + "/" if os.path.isdir(path) else path for path in found)
+    names = sorted(path + "/" if os.path.isdir(path) else path for path in found)
+    return [re.sub(r"[\s'\"\\]", r"\\\g<0>", name) for name in names]
 
 
 def write_text(path: str, text: str) -> None:

@@ -532,6 +532,17 @@ class Words(FolderTest):
                     self.assertEqual([f"{self.folder}/{name}" for name in names],
                                      Session(None).completions("save ", f"{start}/{text}"))
 
+    def test_completed_files_are_taken(self):
+        """A command takes what a file is completed to, whatever its name has."""
+        session = Session(io.StringIO())
+        for name in ("d e", "d'e", 'd"e', "d\\e", "d\te", "d\N{NO-BREAK SPACE}e", "d#e", "d$e", "d\\"):
+            (self.folder / name).write_text("sw 07 5a\n")
+            [completed] = session.completions("load ", str(self.folder / "d"))
+            session.renew()
+            session.carry_out(f"load {completed}".encode())
+            self.assertEqual(0x5A, session.board.serial.read("SCR").byte, name)
+            (self.folder / name).unlink()
+
     def test_completions_of_bits(self):
         """After a register, whose name may be in any case, come its bits, also after others of them."""
         for registers, lines in ((SERIAL, ("write", "sw")), (CLOCK, ("cw now",))):
