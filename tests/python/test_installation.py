@@ -147,7 +147,8 @@ def test_installed_by_pip(archives, what, tmp_path):
 def test_the_sources_have_tests_that_pass(archives, python):
     """With other random calls for each commit, and also with the oldest Python that the package is for."""
     done = ended([python, "-m", "unittest", "discover", "tests"], cwd=archives.unpacked, env=CLEAN, timeout=TIMEOUT)
-    assert re.search(r"\nRan [3-9]\d tests in .*\n\nOK \(skipped=2\)\n$", done[2]), done
+    ran = re.search(r"\nRan (\d+) tests in .*\n\nOK \(skipped=2\)\n$", done[2])
+    assert ran and int(ran[1]) >= 100, done
 
 
 @needs_python
