@@ -539,8 +539,8 @@ id("list").onkeydown = (event) => {
 /** Runs the script that the address has. */
 function followLink() {
   const fragment = location.hash.slice(1);
-  const [name] = fragment.split(/[+;]/, 1);
-  if (!Object.hasOwn(LINES, name) || !/^[0-9A-Za-z+;]*(;|$)/.test(fragment)) return;   // such as `main`, a place here
+  const isLine = /[;+]/.test(fragment) || Object.hasOwn(LINES, fragment);   // `main` is a place of the page
+  if (!isLine || !/^[a-z]{2}[0-9A-Za-z+;]*(;|$)/.test(fragment)) return;
   say("said", load(fragment.replaceAll(";", "\n").replaceAll("+", " ")) || "The calls of the link are made.");
 }
 window.addEventListener("hashchange", followLink);
