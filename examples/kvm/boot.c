@@ -63,7 +63,8 @@ static void start_long_mode(uint64_t entry) {
 static void boot_linux(const char *kernel, struct setup_header head, const char *initramfs, const char *words) {
     if (head.version < 0x20C || !(head.xloadflags & XLF_KERNEL_64))
         errx(1, "%s has no 64-bit entry", kernel);
-    place(kernel, (head.setup_sects + 1) * 512, head.pref_address, head.pref_address + head.init_size);
+    long sectors = head.setup_sects ? head.setup_sects : 4; /* of set-up code: the protocol has 0 for 4 */
+    place(kernel, (sectors + 1) * 512, head.pref_address, head.pref_address + head.init_size);
     if (initramfs) {
         head.ramdisk_image = INITRAMFS;
         head.ramdisk_size = place(initramfs, 0, INITRAMFS, MEMORY_SIZE);

@@ -36,7 +36,7 @@ class Image(NamedTuple):
 
     def content(self):
         """The bytes of the file."""
-        head = bytearray((self.setup_sects + 1) * SECTOR)
+        head = bytearray(((self.setup_sects or 4) + 1) * SECTOR)   # by the protocol, 0 stands for 4
         for name, (place, form) in FIELDS.items():
             struct.pack_into(form, head, place, MAGIC if name == "header" else getattr(self, name))
         return bytes(head) + b"\xCC" * self.size
@@ -52,7 +52,7 @@ def random_image(source):
     init_size = (size + source.choice([-1, 0, 0, 1, 1 << 20, 1 << 20, 2 ** 32 - 1 - size])) % 2 ** 32
     edge = source.choice([1 << 20, 1 << 20, *[MEMORY_SIZE - init_size] * 4, MEMORY_SIZE - size, 2 ** 32,
                           2 ** 64 - init_size])
-    return Image(source.choice([1, 4, 31, 255]), source.choice([0x20B, *[0x20C, 0x20F] * 4]),
+    return Image(source.choice([0, 1, 4, 31, 255]), source.choice([0x20B, *[0x20C, 0x20F] * 4]),
                  source.choice([0, *[KERNEL_64, 0xFF] * 4]), (edge + source.randrange(-2, 3)) % 2 ** 64, init_size,
                  size)
 
@@ -165,10 +165,10 @@ def test_a_boot_sector_begins(monitor):
     assert state.memory.strip(b"\0") == b"\xF4" * 700
 
 
-@pytest.mark.parametrize("words", ["console=ttyS0", "x" * 5000])
-def test_linux_begins(monitor, words):
+@pytest.mark.parametrize("words, setup_sects", [("console=ttyS0", 4), ("x" * 5000, 0)], ids=["few", "many"])
+def test_linux_begins(monitor, words, setup_sects):
     """In long mode, with the first gigabyte mapped to itself, flat segments, and its parameters."""
-    image = Image(4, 0x20F, KERNEL_64, 1 << 20, 1 << 20, 5000)
+    image = Image(setup_sects, 0x20F, KERNEL_64, 1 << 20, 1 << 20, 5000)
     (monitor / "kernel").write_bytes(image.content())
     (monitor / "initramfs").write_bytes(b"i" * 3000)
     state = begun(monitor, "kernel", "initramfs", words)

@@ -1,9 +1,9 @@
 # SPDX-License-Identifier: Apache-2.0 OR BSD-3-Clause
 """Debian's Linux in the monitor of examples/kvm, over the C library and over the Rust crate's `Serial`.
 
-It boots to a shell, and gets pastes in pieces, which arrive whole. It sends bytes back, then both at once. It reads,
-sets and awaits the clock. Without the character timeout a burst stalls until one more byte comes. At the end it resets
-the machine.
+It boots to a shell, and gets pastes in pieces, which arrive whole: so many of the kind that stalls without a character
+timeout that docs/MONITOR.md can count them. It sends bytes back, then both at once. It reads, sets and awaits the
+clock. Without the character timeout a burst stalls until one more byte comes. At the end it resets the machine.
 
 Since this takes minutes, `linux.record` has the sum of the sources with which it last passed. If these have changed,
 or with --boot, Linux boots. If it then passes with other sources, --write-record writes the record again, and without
@@ -22,7 +22,7 @@ from monitors import HERE
 pytestmark = [pytest.mark.needs("cc", "make", "cargo", "qemu"), pytest.mark.where("Linux on x86-64")]
 
 RECORD = HERE / "linux.record"
-PASTED, MOVED, EXCHANGED = 4096, 65536, 16384
+PASTES, PASTED, MOVED, EXCHANGED = 30, 4096, 65536, 16384
 # A burst has more bytes than Linux's handler takes in one pass, 256, but not more than the FIFO has room for.
 BURST = 256 + 40
 # Pieces of a paste: their sizes in turn.
@@ -135,7 +135,7 @@ def end(guest):
 def check_guest(guest):
     guest.until(b"/ # ", PATIENCE)
     assert run(guest, "uname -s") == "Linux\r\n"
-    for sizes in (EVEN, ODD, EVEN):
+    for sizes in [*PASTES * [EVEN], ODD]:
         check_paste(guest, sizes)
     check_output(guest)
     check_both(guest)
