@@ -28,11 +28,11 @@ export type ClockOffset =
 /** What a call of a console leaves to you. */
 export interface Work {
   /**
-   * Raise the interrupt this many times, 0 to 2, if your interrupt controller takes edges. If one of them is refused,
-   * raise no more, and call `refuse`.
+   * Raise the interrupt this many times, 0 to 2, if your interrupt controller is edge-triggered. If one of them is
+   * refused, raise no more, and call `refuse`.
    */
   interrupts: number;
-  /** Set the line to this level, if your interrupt controller takes levels. */
+  /** Set the line to this level, if your interrupt controller is level-triggered. */
   isUp: boolean;
   /** Wake your event loop, unless it made the call: `wants` names something that it did not name before. */
   wakes: boolean;
@@ -259,7 +259,7 @@ export class Serial {
   interruptsDue(): number;
   /**
    * Whether the interrupt line is up. It is up while a condition is pending that IER enables. If your interrupt
-   * controller takes levels, set your line to this level after every call, including reads.
+   * controller is level-triggered, set your line to this level after every call, including reads.
    */
   interruptLine(): boolean;
   /**

@@ -1,5 +1,6 @@
 /* SPDX-License-Identifier: Apache-2.0 OR BSD-3-Clause */
-/* The serial port and its console. IRQ 4 of a PC takes edges: each interrupt that the console asks for is one. */
+/* The serial port and its console. IRQ 4 of a PC is edge-triggered, so each interrupt that the console asks for is a
+ * pulse. */
 #include "monitor.h"
 
 static superio_console console;

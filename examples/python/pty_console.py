@@ -34,7 +34,7 @@ class Monitor:
         self.lock = threading.Lock()
         self.room = threading.Condition(self.lock)   # for a guest that is held
         self.holds = True                            # whether to hold a guest that sends more than is taken
-        self.interrupt = threading.Event()           # the guest's interrupt line, which takes edges
+        self.interrupt = threading.Event()           # the guest's interrupt line, edge-triggered
         self.is_off = False
         self.woken, self.waker = os.pipe()
         # This end of the terminal stays open too, so that people can come and go.

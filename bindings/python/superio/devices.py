@@ -84,9 +84,9 @@ class I8042WriteEffects(NamedTuple):
 class Work(NamedTuple):
     """What a call of a console leaves to you.
 
-    If your interrupt controller takes edges, raise the interrupt `interrupts` times, 0 to 2. If one of them is refused,
-    leave out the others and call `refuse`. If it takes levels, set the line to `is_up` instead. If `wakes` is true,
-    wake your event loop, unless it made the call: `wants` names something that it did not name before.
+    If your interrupt controller is edge-triggered, raise the interrupt `interrupts` times, 0 to 2. If one of them is
+    refused, leave out the others and call `refuse`. If it is level-triggered, set the line to `is_up` instead. If
+    `wakes` is true, wake your event loop, unless it made the call: `wants` names something that it did not name before.
     """
 
     interrupts: int
@@ -360,8 +360,8 @@ class Serial(Saved):
     def interrupt_line(self) -> bool:
         """Whether the interrupt line is up, because a condition is pending that IER enables. The port does not change.
 
-        If your interrupt controller takes levels, set your line to this level after every call, including reads, and
-        do not ask for the interrupt.
+        If your interrupt controller is level-triggered, set your line to this level after every call, including reads,
+        and do not ask for the interrupt.
         """
         return self._library.superio_serial_interrupt_line(self._pointer)
 

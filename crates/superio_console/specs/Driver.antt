@@ -73,7 +73,7 @@ MonitoredLaw = (driver : Driver) (start : State) (before : Trace) (c : ConsoleSt
 
 -- ---- each byte is through
 
--- after a run, an interrupt for RDA is assured if bytes are held, and one for THRE if the driver has bytes left and
+-- after a run, an interrupt for RDA is on its way if bytes are held, and one for THRE if the driver has bytes left and
 -- flow control does not stop it. If the run ends at none, bytes are held and IER enables RDA, then RDA is pending
 -- already, before any turn
 pub record IsServed (driver : Driver) (start : State) (before : Trace) (run : List Call) (c : ConsoleState)
@@ -106,7 +106,7 @@ abbrev pub runs_of : (runs : List (List Call)) (c : ConsoleState) → List Trace
 runs_of [] c = []
 runs_of (run ∷ later) c = newest run c ∷ runs_of later (after_calls run c)
 
--- after each run, an interrupt is assured for what is left. The bytes held before the runs are read out first, in
+-- after each run, an interrupt is on its way for what is left. The bytes held before the runs are read out first, in
 -- order, at least one in each run. If the driver sends its bytes in order, the bytes left before the runs are sent
 -- first, at least one in each run in which flow control never stops it
 pub record AllIsThrough
@@ -121,7 +121,7 @@ pub record AllIsThrough
       ≡ sent driver start before ++ take (free_runs driver before (runs_of runs c)) (left driver start before) ++ more)
 
 -- if the runs keep the driver's rules, they read out and send the first bytes first, and after each run an interrupt is
--- assured for what is left. The console's calls do the monitor's part
+-- on its way for what is left. The console's calls do the monitor's part
 abbrev pub EachByteIsThroughLaw : Type 0
 EachByteIsThroughLaw = (driver : Driver) (start : State) (before : Trace) (c : ConsoleState) (runs : List (List Call))
     → IsAt start before c → AreRuns driver start before runs c → AllIsThrough driver start before runs c

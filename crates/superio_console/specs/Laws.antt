@@ -150,9 +150,9 @@ pub record IsDue (condition : Condition) (c : ConsoleState) : Type 0 where
       is_enabled condition c ≡ false → (write : Call) → IsTrue (is_enabled condition (after write c))
       → 0 < interrupts_of write c
 
--- after these calls an interrupt for the condition is assured. If the interrupt controller takes edges, an interrupt
--- was raised, or is due. If it takes levels and IER enables the condition, the line is up, or the loop is told to make
--- a turn, which leaves the line up
+-- after these calls an interrupt for the condition is on its way. If the interrupt controller is edge-triggered, an
+-- interrupt was raised, or is due. If it is level-triggered and IER enables the condition, the line is up, or the loop
+-- is told to make a turn, which leaves the line up
 pub record IsInterrupted (condition : Condition) (calls : List Call) (c : ConsoleState) : Type 0 where
   pub edge : IsRaised calls c ⊎ IsDue condition (after_calls calls c)
   pub level :
@@ -161,12 +161,12 @@ pub record IsInterrupted (condition : Condition) (calls : List Call) (c : Consol
       → IsTrue (irq_level end.port) ⊎ (IsTrue (wants_of end).turn × IsTrue (irq_level (after Turns end).port))
 
 -- if a condition is pending in the end and was not pending at first, for example because IIR had just been read, an
--- interrupt for the condition is assured
+-- interrupt for the condition is on its way
 abbrev pub PendingLaw : Type 0
 PendingLaw = (condition : Condition) (calls : List Call) (c : ConsoleState) → in_one is_reset calls c ≡ false
     → is_shown condition c ≡ false → IsTrue (is_shown condition (after_calls calls c)) → IsInterrupted condition calls c
 
--- if bytes are held in the end and RDA was not pending at first, an interrupt for RDA is assured, whatever the guest
+-- if bytes are held in the end and RDA was not pending at first, an interrupt for RDA is on its way, whatever the guest
 -- did and whatever arrived
 abbrev pub WaitingLaw : Type 0
 WaitingLaw = (calls : List Call) (c : ConsoleState) → in_one is_reset calls c ≡ false

@@ -45,12 +45,12 @@ pub fn refusals()
 
 /// These laws hold for any guest, as long as it is not reset. Suppose that a condition is pending in the end and was
 /// not pending at first, as after a read of IIR. Then one of the calls asked for an interrupt, and an interrupt for
-/// this condition is assured.
+/// this condition is on its way.
 ///
-/// If your interrupt controller takes edges, *assured* means one of two things. Either a call asked for an interrupt,
-/// and since then there was no `refuse` and the guest did not read IIR. Or an interrupt is due: if IER enables the
-/// condition, `wants` names a turn, which asks, and if IER masks it, the write that enables it asks. If the controller
-/// takes levels, it means that the line is up while IER enables the condition.
+/// If your interrupt controller is edge-triggered, *on its way* means one of two things. Either a call asked for an
+/// interrupt, and since then there was no `refuse` and the guest did not read IIR. Or an interrupt is due: if IER
+/// enables the condition, `wants` names a turn, which asks, and if IER masks it, the write that enables it asks. If the
+/// controller is level-triggered, it means that the line is up while IER enables the condition.
 ///
 /// The same holds for RDA if bytes are held in the end and RDA was not pending at first. If RDA is still not pending,
 /// and IER enables it, `wants` names a turn, which asks and leaves the line up.
@@ -131,10 +131,10 @@ pub fn history()
 /// A run is any list of the console's calls without a reset, and each run begins where the run before it ends. This law
 /// supposes that each run keeps the driver's rules of `superio_laws::guest_driver`.
 ///
-/// After each run, an interrupt is assured, as [`interrupted`] says: one for RDA if bytes are held, and one for THRE if
-/// the driver has bytes left to send and flow control does not stop it. If the run ends at none, bytes are held and IER
-/// enables RDA, then RDA is pending already, before any turn. The bytes held at first are read out first, in order, at
-/// least one in each run until none of them is left. If the driver sends its bytes in order, the same holds for the
+/// After each run, an interrupt is on its way, as [`interrupted`] says: one for RDA if bytes are held, and one for THRE
+/// if the driver has bytes left to send and flow control does not stop it. If the run ends at none, bytes are held and
+/// IER enables RDA, then RDA is pending already, before any turn. The bytes held at first are read out first, in order,
+/// at least one in each run until none of them is left. If the driver sends its bytes in order, the same holds for the
 /// bytes left to send at first, counting only the runs in which flow control never stops it.
 ///
 /// So a byte that has i bytes before it in its direction is through after i + 1 such runs, whatever arrives meanwhile.

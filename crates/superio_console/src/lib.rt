@@ -35,10 +35,10 @@ use superio_core::serial::registers::{
 #[repr(C)]
 #[derive(Clone, Copy, Debug, PartialEq, Eq)]
 pub struct Work {
-    /// How often to raise the interrupt, 0 to 2 times, if your interrupt controller takes edges. If one of them is
-    /// refused, raise no more and call [`Console::refuse`].
+    /// How often to raise the interrupt, 0 to 2 times, if your interrupt controller is edge-triggered. If one of them
+    /// is refused, raise no more and call [`Console::refuse`].
     pub interrupts: u8,
-    /// The level of the interrupt line. Set the line to it if your interrupt controller takes levels.
+    /// The level of the interrupt line. Set the line to it if your interrupt controller is level-triggered.
     pub is_up: bool,
     /// Whether to wake the event loop: [`Console::wants`] names something that it did not name before.
     pub wakes: bool,

@@ -179,7 +179,8 @@ impl Uart {
     }
 
     /// Whether the interrupt line is up. It is up while a condition is both pending and enabled. If your interrupt
-    /// controller takes levels, set your line to this level after every call, reads included, and ask for no interrupt.
+    /// controller is level-triggered, set your line to this level after every call, reads included, and ask for no
+    /// interrupt.
     #[inline(always)]
     pub fn interrupt_line(&self) -> bool
         ensures line { result ≡ irq_level (state_of_uart self.now) }

@@ -390,8 +390,8 @@ impl<T: Trigger, EV: SerialEvents, W: Write> Serial<T, EV, W> {
     }
 
     /// Whether the interrupt line is up. It is up while a condition is both pending and enabled. If your interrupt
-    /// controller takes levels, set your line to this level after every call, reads included, and let the trigger do
-    /// nothing.
+    /// controller is level-triggered, set your line to this level after every call, reads included, and let the trigger
+    /// do nothing.
     pub fn interrupt_line(&self) -> bool
         ensures line { result ≡ irq_level self.now.state }
         ensures due { result ≡ not (length (conditions_due self.now.state) == 0) }

@@ -29,8 +29,8 @@ impl Machine {
         Machine { console: Console::new(false), is_interrupted: false }
     }
 
-    /// Carries out what a call has left. This line takes edges and refuses none, and the guest's processor runs in the
-    /// thread of the event loop, so there is nobody to wake.
+    /// Carries out what a call has left. This line is edge-triggered and refuses nothing, and the guest's processor
+    /// runs in the thread of the event loop, so there is nobody to wake.
     fn carry_out(&mut self, work: Work) {
         self.is_interrupted |= work.interrupts > 0;
     }

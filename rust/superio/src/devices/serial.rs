@@ -126,7 +126,8 @@ impl Uart {
     }
 
     /// Whether the interrupt line is up. It is up while a condition is both pending and enabled. If your interrupt
-    /// controller takes levels, set your line to this level after every call, reads included, and ask for no interrupt.
+    /// controller is level-triggered, set your line to this level after every call, reads included, and ask for no
+    /// interrupt.
     #[inline(always)]
     // Clauses in crates/superio_core/src/serial.rt: line, due.
     pub fn interrupt_line(&self) -> bool {

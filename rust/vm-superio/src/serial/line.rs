@@ -5,7 +5,7 @@ use std::io::Write;
 use super::{Serial, SerialEvents};
 use crate::Trigger;
 
-/// Returns the level of the interrupt line, for an interrupt controller that takes levels.
+/// Returns the level of the interrupt line, for a level-triggered interrupt controller.
 ///
 /// A PCI interrupt is a level, and so are level-triggered inputs of an I/O APIC or a GIC. There a trigger that pulses
 /// may lose interrupts. Let the trigger do nothing, and set the line to this level after every call of the port,
