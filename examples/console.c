@@ -1,9 +1,7 @@
 /* SPDX-License-Identifier: Apache-2.0 OR BSD-3-Clause */
 /* A monitor for one serial port. */
 #define _POSIX_C_SOURCE 200809L
-#include <ctype.h>
 #include <errno.h>
-#include <fcntl.h>
 #include <poll.h>
 #include <pthread.h>
 #include <signal.h>
@@ -98,7 +96,26 @@ static void event_loop(int input, int output) {
     }
 }
 
-/* Stands in for a virtual machine: a driver ready for input, and a program that sends a line back in capitals. */
+/* Call this once, before the guest starts. */
+static void open_console(void) {
+    pthread_condattr_t attributes;
+    if (!SUPERIO_ABI_MATCHES())
+        abort(); /* the library has another interface than the header */
+    pthread_condattr_init(&attributes);
+    pthread_condattr_setclock(&attributes, CLOCK_MONOTONIC); /* changes to the system time do not affect a wait */
+    pthread_cond_init(&has_room, &attributes);
+    signal(SIGPIPE, SIG_IGN); /* a write without a reader then fails, and does not end the program */
+    superio_console_new(&console, false); /* true for a guest that polls */
+    irq = eventfd(0, EFD_NONBLOCK);
+    wake_up = eventfd(0, EFD_NONBLOCK);
+}
+
+/* ---- What follows stands in for a virtual machine, so that this program runs. Your monitor does not need it. ---- */
+
+#include <ctype.h>
+#include <fcntl.h>
+
+/* A driver ready for input, and a program that sends a line back in capitals. */
 static void *guest(void *unused) {
     write_access(1, 0x01); /* IER: the interrupt for received data */
     for (uint8_t byte = 0; byte != '\n';) {
@@ -127,16 +144,7 @@ static void let_block(bool blocks) {
 
 int main(void) {
     pthread_t processor;
-    pthread_condattr_t attributes;
-    if (!SUPERIO_ABI_MATCHES())
-        abort();
-    pthread_condattr_init(&attributes);
-    pthread_condattr_setclock(&attributes, CLOCK_MONOTONIC); /* changes to the system time do not affect a wait */
-    pthread_cond_init(&has_room, &attributes);
-    signal(SIGPIPE, SIG_IGN); /* a write without a reader then fails, and does not end the program */
-    superio_console_new(&console, false); /* true for a guest that polls */
-    irq = eventfd(0, EFD_NONBLOCK);
-    wake_up = eventfd(0, EFD_NONBLOCK);
+    open_console();
     let_block(false);
     pthread_create(&processor, NULL, guest, NULL);
     event_loop(STDIN_FILENO, STDOUT_FILENO);

@@ -16,6 +16,8 @@ from test_links import SOURCE
 
 PACKAGE = '[package]\nname = "hi"\nversion = "0.1.0"\nedition = "2021"\n\n'
 LIBRARY = ROOT / "prebuilt" / f"{platform.machine()}-linux" / "libsuperio_c.a"
+# The program of docs/C.md, which shows what a monitor keeps of it.
+CONSOLE = (ROOT / "examples/console.c").read_text(encoding="utf-8")
 # What the programs of README.md print.
 HI = ("wake your event loop: the guest takes input now\n2 bytes accepted, 1 interrupt to raise\nthe guest reads h\n"
       "1 interrupt to raise for the byte that is left\n")
@@ -80,7 +82,7 @@ READY_IN_RUST = "    monitor.write_access(1, 0x01);"
 PROBE_IN_RUST = """    monitor.write_access(1, 0x0F);
     assert_eq!(monitor.console.lock().unwrap().wants().input, 0);
 """
-# What tells the controller a level, in the lines for one in C. And one that tells what the line got, for accesses.c.
+# What a monitor adds to the lines for levels in C. And one that tells what the line got, for accesses.c.
 SET_LINE = """static void set_line(bool is_up) {
     if (is_up)
         eventfd_write(irq, 1);
@@ -93,8 +95,8 @@ SET_BOTH = "static void set_line(bool is_up) { eventfd_write(irq, is_up ? 2 : 1)
 TAKEN = {
     ("README.md", "c"): ["int main"], ("README.md", "rust"): ["Console"],
     ("README.md", "toml"): ["rust/superio", "rust/vm-superio"],
-    ("docs/C.md", "c"): ["int main", "static void port_write", "serve_exit", "STRIDE", "set_line", "bool wakes",
-                         "set_polled"],
+    ("docs/C.md", "c"): ["static void event_loop", "static void port_write", "serve_exit", "STRIDE", "set_line",
+                         "bool wakes", "set_polled"],
     ("docs/CLOCK.md", "c"): ["struct machine {", "take_moment(struct", "memory_read", "timerfd_create", "files[3]",
                              "uint64_t host"],
     ("docs/PORT.md", "c"): ["write_access", "set_line"],
@@ -167,9 +169,9 @@ def program_for(line):
     """The program of docs/C.md, with its lines for such an interrupt line, or for a loader that polls."""
     place, lines = {"edges": (WRITE, r"\g<0>"),
                     "edges that get lost": (WRITE, code("docs/C.md", "c", "bool wakes")),
-                    "levels": (INTERRUPT, code("docs/C.md", "c", "set_line")),
+                    "levels": (INTERRUPT, code("docs/C.md", "c", "set_line") + SET_LINE),
                     "a loader that polls": (WRITE, rf"\g<0>{code('docs/C.md', 'c', 'set_polled')}")}[line]
-    program, count = place.subn(lines, code("docs/C.md", "c", "int main"))
+    program, count = place.subn(lines, CONSOLE)
     assert count == 1
     return program
 
@@ -250,7 +252,7 @@ def test_a_guest_that_is_off_late(name, of, tmp_path):
 @pytest.mark.needs("cc")
 def test_output_that_waits_at_the_end(tmp_path):
     """The reader takes nothing until the guest is long off: its pipe of a page is full. All output then arrives."""
-    compile_c(tmp_path, "console", code("docs/C.md", "c", "int main"), LIBRARY, "-pthread", "-o", "console")
+    compile_c(tmp_path, "console", CONSOLE, LIBRARY, "-pthread", "-o", "console")
     reader, writer = os.pipe()
     before, text = b"-" * fcntl.fcntl(writer, SET_PIPE_SIZE, 4096), b"the quick brown fox " * 150 + b"\n"
     os.write(writer, before)
@@ -310,13 +312,13 @@ def watched(program, watch, folder):
 @pytest.mark.needs("cc")
 def test_rules_of_the_event_loop(watch, tmp_path):
     """It keeps those of superio.h, whatever the interrupt line refuses and however long its reader takes nothing."""
-    assert watched(code("docs/C.md", "c", "int main"), watch, tmp_path) == (0, "held 1, refused 1, dropped 1\n")
+    assert watched(CONSOLE, watch, tmp_path) == (0, "held 1, refused 1, dropped 1\n")
 
 
 @pytest.mark.needs("cc")
 @pytest.mark.parametrize("rule, edit", FORGETFUL, ids=lambda value: value if isinstance(value, str) else "")
 def test_an_event_loop_that_breaks_a_rule(rule, edit, watch, tmp_path):
-    program = code("docs/C.md", "c", "int main")
+    program = CONSOLE
     assert program.count(edit[0]) == 1
     assert watched(program.replace(*edit), watch, tmp_path) == (3, f"{rule}\n")
 
@@ -390,7 +392,7 @@ FORGETFUL_OF_FILES = at_least(8, [
     ("input is over, and polled again", FAILURES[1], NO_INPUT, "count == 0"),
 ])
 # The programs whose event loops meet failures.
-WITH_FILES = {"console": code("docs/C.md", "c", "int main"),
+WITH_FILES = {"console": CONSOLE,
               "machine": (ROOT / "examples/c/machine.c").read_text(encoding="utf-8")}
 
 
@@ -675,10 +677,10 @@ def test_code_of_the_machine(document, of):
 
 @pytest.mark.needs("cc")
 def test_commands(tmp_path):
-    """As the page says, in a folder that has what the repository's top has. The page shows the program but for the line
-    with its license."""
-    _, shown = (ROOT / "examples/console.c").read_text(encoding="utf-8").split("\n", 1)
-    assert shown == code("docs/C.md", "c", "int main")
+    """As the page says, in a folder that has what the repository's top has. The page shows the program from below the
+    line with its license, to where the guest begins."""
+    _, shown = CONSOLE.split("\n", 1)
+    assert shown.startswith(code("docs/C.md", "c", "static void event_loop") + "\n/* ---- What follows stands in ")
     for name in ["bindings", "examples", "prebuilt", "rust"]:
         (tmp_path / name).symlink_to(ROOT / name)
     commands = [command for block in Document("docs/C.md").blocks for command in block.commands]

@@ -9,6 +9,7 @@ last place too.
 import os
 import platform
 import re
+import shutil
 
 import pytest
 from documents import Document
@@ -217,14 +218,13 @@ def test_version(installed, name):
 @pytest.mark.needs("cc", "pkg-config")
 @pytest.mark.parametrize("build", [pytest.param(name, marks=pytest.mark.needs(name)) for name in PROJECTS])
 def test_project(installed, build, tmp_path):
-    """The lines of docs/C.md build its program."""
+    """The lines of docs/C.md build a copy of its program."""
     name, commands = PROJECTS[build]
     page = Document("docs/C.md")
     [lines] = [block.lines for block in page.blocks if block.language == build]
-    [program] = [block.lines for block in page.blocks if "int main(void) {" in block.lines]
     assert f"`{' && '.join(commands)}`" in page.prose and f"the file {name}" in page.prose
     (tmp_path / name).write_text("\n".join([*lines, ""]), encoding="utf-8")
-    (tmp_path / "console.c").write_text("\n".join([*program, ""]), encoding="utf-8")
+    shutil.copy(ROOT / "examples/console.c", tmp_path)
     for command in commands:
         check(command.split(), cwd=tmp_path, env=installed)
     check([tmp_path / "build" / "console"], "HELLO\n", env=installed, input="hello\n")
