@@ -101,8 +101,7 @@ TAKEN = {
                              "uint64_t host"],
     ("docs/PORT.md", "c"): ["write_access", "set_line"],
     ("docs/PORT.md", "rust"): ["Cell", "from_snapshot", "L: Trigger"],
-    ("docs/RUST.md", "rust"): ["fn event_loop", "was_up.swap", "set_polled", "CONSOLE_SAVED_MAX", "RtcState",
-                               "is_reset_command"],
+    ("docs/RUST.md", "rust"): ["fn event_loop", "was_up.swap", "set_polled", "is_reset_command"],
     ("docs/RUST.md", "toml"): ["rust/superio", "rust/vm-superio"],
     ("docs/SNAPSHOTS.md", "c"): ["static void save("],
     ("rust/superio/README.md", "rust"): ["fn make_turn"],
@@ -727,8 +726,7 @@ def run_rust(program, printed, typed, built, folder, page="docs/RUST.md"):
 @pytest.mark.needs("cargo")
 @pytest.mark.parametrize("document, of, printed", [
     ("README.md", "Console", HI), ("docs/PORT.md", "Cell", "h"), ("docs/PORT.md", "from_snapshot", "h"),
-    ("docs/RUST.md", "CONSOLE_SAVED_MAX", "h"), ("docs/RUST.md", "is_reset_command", BUS),
-    ("docs/RUST.md", "RtcState", "the line is up: true\n"), ("docs/PORT.md", "L: Trigger", "all came back\n")])
+    ("docs/PORT.md", "L: Trigger", "all came back\n"), ("docs/RUST.md", "is_reset_command", BUS)])
 def test_rust(document, of, printed, built, tmp_path):
     """README.md has lines for Cargo.toml too. Those for vm-superio serve a program of docs/PORT.md."""
     page = "README.md" if of in ("Console", "Cell") else "docs/RUST.md"
