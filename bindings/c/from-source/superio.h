@@ -66,14 +66,14 @@
  *         forget_wake();
  *     }
  *
- *     // `carry_out`, if your interrupt controller takes edges. It returns
- *     // whether to wake the loop. The loop itself is awake, and ignores this.
+ *     // `carry_out`, if your interrupt controller is edge-triggered. It
+ *     // returns whether to wake the loop, which the loop itself ignores.
  *     for (int i = 0; i < work.interrupts; i++)
  *         if (!raise_interrupt())
  *             return work.wakes | superio_console_refuse(&console).wakes;
  *     return work.wakes;
  *
- *     // `carry_out`, if your interrupt controller takes levels.
+ *     // `carry_out`, if your interrupt controller is level-triggered.
  *     if (work.is_up != was_up)
  *         set_line(work.is_up);
  *     was_up = work.is_up;
@@ -132,15 +132,15 @@
  * wider one with 0xFF in every byte. Ignore narrower and wider writes. No
  * driver that we know makes a wider access.
  *
- * Edges or levels. Your interrupt controller decides. The PIC of a PC takes
- * edges, and so does an I/O APIC for ISA interrupts. An I/O APIC takes levels
- * for PCI interrupts, and so do QEMU's PLIC, the LPC controller of a POWER
- * machine, and a GIC unless the device tree says otherwise. A controller that
- * takes levels can miss a pulse: with pulses, a guest at a GIC never got its
- * input. Call your controller only when a level changes, because some
- * controllers take each call for an interrupt. But after your controller is
- * reset or restored, call it once with the levels of the port and of the clock,
- * even if they did not change.
+ * Edges or levels. Your interrupt controller decides. The PIC of a PC is
+ * edge-triggered, and so is an I/O APIC for ISA interrupts. An I/O APIC is
+ * level-triggered for PCI interrupts, and so are QEMU's PLIC, the LPC
+ * controller of a POWER machine, and a GIC unless the device tree says
+ * otherwise. A level-triggered controller can miss a pulse: with pulses, a
+ * guest at a GIC never got its input. Call your controller only when a level
+ * changes, because some controllers take each call for an interrupt. But after
+ * your controller is reset or restored, call it once with the levels of the
+ * port and of the clock, even if they did not change.
  *
  * Output. Two monitors that are connected to each other can stand still for
  * ever, each in a write that waits until the other one reads. So never wait for
@@ -353,8 +353,8 @@ typedef struct superio_serial_enqueue_effects {
 /*
  * Returns a fresh port: divisor 12, 8 bits a character, OUT2 set, and nothing
  * enabled, pending or held. Make one for each machine, and another one at each
- * reset of the machine. If your interrupt controller takes levels, take the
- * line down.
+ * reset of the machine. If your interrupt controller is level-triggered, take
+ * the line down.
  */
 superio_serial superio_serial_new(void) SUPERIO_MUST_USE;
 
@@ -362,7 +362,7 @@ superio_serial superio_serial_new(void) SUPERIO_MUST_USE;
  * The guest reads at `offset`. A read asks for no interrupt. Afterwards do
  * three things, as docs/PORT.md explains:
  *
- * - If your interrupt controller takes levels, set the line to
+ * - If your interrupt controller is level-triggered, set the line to
  *   superio_serial_interrupt_line, because a read can end an interrupt.
  * - If `in_buffer_empty` is true, offer the input that you hold.
  * - If `offset` is 2 and bit 0x01 of the byte is set, call
@@ -386,7 +386,7 @@ superio_serial_read_effects superio_serial_read(superio_serial *port,
  *    refusal, such as a write to an eventfd that fails. The port does not need
  *    to know of a refusal. The condition stays pending, so no later access asks
  *    for its interrupt: docs/PORT.md says when you raise it again. If your
- *    interrupt controller takes levels, set the line to
+ *    interrupt controller is level-triggered, set the line to
  *    superio_serial_interrupt_line instead.
  *
  * `interrupts` is 2 only if a write to IER raises both conditions. Even if you
@@ -407,8 +407,9 @@ superio_serial_write_effects superio_serial_write(superio_serial *port,
  * Bytes arrive for the guest. The port accepts as many of the `count` bytes as
  * fit, from the first on. In loopback it accepts none, and `fifo_full` is
  * false. Afterwards raise the interrupt as often as `interrupts` says or, if
- * your interrupt controller takes levels, set the line. The port keeps the
- * accepted bytes even if the interrupt is refused, so do not offer them again.
+ * your interrupt controller is level-triggered, set the line. The port keeps
+ * the accepted bytes even if the interrupt is refused, so do not offer them
+ * again.
  *
  * Keep the bytes that were not accepted. docs/PORT.md says when to offer input
  * for the first time, and when to offer it again.
@@ -433,7 +434,7 @@ superio_serial_enqueue_effects superio_serial_enqueue(superio_serial *port,
  * RDA becomes pending if bytes are held, IER enables RDA, and RDA is not
  * pending already. Otherwise nothing happens. DLAB and loopback make no
  * difference. Returns how often to raise the interrupt: 0 or 1 times. If your
- * interrupt controller takes levels, set the line instead.
+ * interrupt controller is level-triggered, set the line instead.
  */
 uint8_t superio_serial_character_timeout(superio_serial *port)
     SUPERIO_MUST_USE SUPERIO_NONNULL SUPERIO_ACCESS(read_write, 1);
@@ -458,10 +459,10 @@ uint8_t superio_serial_interrupts_due(const superio_serial *port)
  * Returns whether the interrupt line is up: whether a condition is pending that
  * IER enables.
  *
- * If your interrupt controller takes levels, raise no interrupts. Instead, set
- * your line to this level after every call on the port, including reads, `new`
- * and loads. The line also goes up when IER enables a condition that is pending
- * already, for which no call asks for an interrupt.
+ * If your interrupt controller is level-triggered, raise no interrupts.
+ * Instead, set your line to this level after every call on the port, including
+ * reads, `new` and loads. The line also goes up when IER enables a condition
+ * that is pending already, for which no call asks for an interrupt.
  */
 bool superio_serial_interrupt_line(const superio_serial *port)
     SUPERIO_MUST_USE SUPERIO_NONNULL SUPERIO_ACCESS(read_only, 1);
@@ -512,11 +513,11 @@ typedef struct superio_console {
 /* What a call leaves for you to do. */
 typedef struct superio_console_work {
     uint8_t interrupts; /* raise the interrupt this many times, 0 to 2, if
-                           your interrupt controller takes edges. If one of
-                           them is refused, raise no more, and call
+                           your interrupt controller is edge-triggered. If
+                           one of them is refused, raise no more, and call
                            superio_console_refuse */
     bool is_up;         /* set the line to this level, if your interrupt
-                           controller takes levels */
+                           controller is level-triggered */
     bool wakes;         /* wake the event loop: superio_console_wants names
                            something that it did not name before the call. It
                            is false if only the number of bytes of input grows,
@@ -547,7 +548,7 @@ typedef struct superio_console_receive_effects {
 
 /*
  * Makes a console with a fresh port and no output. If your interrupt controller
- * takes levels, take the line down.
+ * is level-triggered, take the line down.
  *
  * Many drivers test the port before they use it, and throw away some or all of
  * what they find in the FIFO. So input waits until the guest is ready, which it
@@ -860,7 +861,7 @@ size_t superio_serial_save(
  * Makes a port from `count` saved bytes. The port changes only if the result is
  * SUPERIO_LOAD_OK. Then raise the interrupt as often as
  * superio_serial_interrupts_due says, and later again as docs/PORT.md says, or
- * set the line if your interrupt controller takes levels.
+ * set the line if your interrupt controller is level-triggered.
  *
  * A loaded port holds at most 64 bytes. It need not be coherent, as
  * superio_serial_is_coherent tells.
@@ -885,11 +886,11 @@ size_t superio_console_save(
  * Makes a console from `count` saved bytes. The console changes only if the
  * result is SUPERIO_LOAD_OK. Then do two things:
  *
- * 1. If your interrupt controller takes edges, call superio_console_refuse,
- *    because an earlier interrupt may be lost. If none is lost, the guest gets
- *    one interrupt too many for each condition. You can leave out this call if
- *    you restored your controller from a state that has every interrupt which
- *    it had not delivered yet.
+ * 1. If your interrupt controller is edge-triggered, call
+ *    superio_console_refuse, because an earlier interrupt may be lost. If none
+ *    is lost, the guest gets one interrupt too many for each condition. You can
+ *    leave out this call if you restored your controller from a state that has
+ *    every interrupt which it had not delivered yet.
  * 2. Always make a turn, by superio_console_turn, and carry out its work.
  *
  * The port need not be coherent, as superio_serial_is_coherent tells of
