@@ -5,6 +5,7 @@ import json
 import os
 import re
 import socket
+import subprocess
 import sys
 from contextlib import nullcontext
 from importlib.machinery import SourceFileLoader
@@ -16,7 +17,7 @@ from types import SimpleNamespace
 import pytest
 from generators import facts, lines
 from harness import ROOT, at_least, check, run
-from mutation import reach, rules
+from mutation import reach, rules, runner
 from mutation.copies import Ended
 
 
@@ -373,6 +374,32 @@ def test_a_command_has_an_end(copy, command):
     seconds, processor = ENDLESS[command]
     ended = copy.run(command, None, seconds, processor)
     assert ended.how == "late" and ended.processor < processor + 9
+
+
+# What a command does between two looks: the seconds of a processor that it takes, of which two count as work, and the
+# state of a thread of it.
+BETWEEN_LOOKS = {"idles": (0, "S"), "hardly works": (1, "S"), "works": (2, "S"), "wants a processor": (0, "R"),
+                 "wants a disk": (0, "D")}
+IDLE, PATIENCE = {"idles", "hardly works"}, 3   # in a row
+
+
+def test_a_command_that_waits_is_late(monkeypatch):
+    """As soon as it was idle between so many looks in a row, whatever it did before. Here a look comes at once."""
+    for name, number in {"LEAST": 2, "LOOKS": 2 ** 13, "QUIET": PATIENCE / 2 ** 13}.items():
+        monkeypatch.setattr(runner, name, number)
+    with subprocess.Popen(["cat"], stdin=subprocess.PIPE) as process:   # which ends with this block
+        for did in product(BETWEEN_LOOKS, repeat=4):
+            looked = []
+
+            def taken():
+                assert len(looked) < len(did) + PATIENCE, f"it has been idle since, and is not late: {did}"
+                looked.append((*did, *PATIENCE * ["idles"])[len(looked)])
+                return sum(BETWEEN_LOOKS[one][0] for one in looked)
+            monkeypatch.setattr(runner, "taken", taken)
+            monkeypatch.setattr(runner, "stats", lambda *pattern: [BETWEEN_LOOKS[looked[-1]][1]])
+            assert runner.is_late(process.pid, 1000, 1000)
+            was_idle = [IDLE.issuperset(looked[end - PATIENCE:end]) for end in range(PATIENCE, len(looked) + 1)]
+            assert was_idle == [*(len(was_idle) - 1) * [False], True], looked
 
 
 @pytest.mark.needs("mutants", "pytest")
