@@ -4,6 +4,7 @@
 REFUSED has those that rust2coq does not know, and why it refuses each. RIGHT has those that it translates: what Coq
 computes has to be what rustc's code returns, or a panic in both.
 """
+from itertools import product
 
 PAIR = """
 #[derive(Clone, Copy)]
@@ -213,7 +214,26 @@ REFUSED = {
         b.copy_from_slice(&[3, 4]); let (c, _d) = a.split_at_mut(1); c.copy_from_slice(&[9]); u32::from(x[0]) }"""),
 }
 
+# Loops, and statements that may leave a function. One in a loop is refused, whatever other loop is within or around it.
+LOOPS = {"for": "for _i in 0..3 {{ {} n += 1; }}", "while": "while let Some(m) = q.take() {{ {} n += m; }}"}
+LEAVING = {"return": "if n > 5 { return Ok(n * 10); }", "?": "n += even(n)?;"}
+
+
+def with_loops(statements):
+    return QUEUE + f"""fn even(n: u32) -> Result<u32, u32> {{ if n % 2 == 1 {{ Err(n) }} else {{ Ok(n) }} }}
+        fn all(q: &mut Queue) -> Result<u32, u32> {{ let mut n = 0; {statements} Ok(n) }} pub fn case() -> u32 {{
+        let mut q = Queue {{ n: 3 }}; match all(&mut q) {{ Ok(n) => n * 10 + q.n, Err(e) => e * 10 + q.n + 1000 }} }}"""
+
+
+for (outer, inner), name in product(product(LOOPS, repeat=2), LEAVING):
+    places = {"before": LEAVING[name] + LOOPS[inner].format(""), "in": LOOPS[inner].format(LEAVING[name]),
+              "after": LOOPS[inner].format("") + LEAVING[name]}
+    REFUSED |= {f"{name} in {outer}, {place} {inner}": (f"a {name} in a loop", with_loops(LOOPS[outer].format(body)))
+                for place, body in places.items()}
+
 RIGHT = {
+    **{f"{name} behind {outer} and {inner}": with_loops(LOOPS[outer].format(LOOPS[inner].format("")) + LEAVING[name])
+       for (outer, inner), name in product(product(LOOPS, repeat=2), LEAVING)},
     "alias": PAIR + """pub fn case() -> u32 { let mut q = Pair { a: 1, b: 2 }; let r = &mut q.a; *r = 5; *r += *r + r.wrapping_add(2);
         q.a * 10 + q.b }""",
     "alias of what is hidden": "pub fn case() -> u32 { let mut n = 1u32; let r = &mut n; let n = 5u32; *r = 7; n * 10 + *r }",
