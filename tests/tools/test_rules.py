@@ -239,6 +239,26 @@ def test_a_search_is_that_of_its_seed(kind, tmp_path, run_pytest):
     assert said[0] == said[1] != said[2] and all(said), said
 
 
+# What a caller may choose of hypothesis, by a word or by a variable of the environment: two choices, and a test that
+# tells of them.
+CHOSEN = {"--hypothesis-seed": ("7", "8", DRAWS["hypothesis"]),
+          "HYPOTHESIS_PROFILE": ("quick", "thorough", "from hypothesis import settings\n"
+                                                      "def test(): print(settings.default.max_examples)")}
+
+
+@pytest.mark.parametrize("name", CHOSEN)
+def test_what_a_caller_chooses_counts(name, tmp_path, run_pytest):
+    """With each seed of ours."""
+    one, other, text = CHOSEN[name]
+    write_tests(tmp_path, text)
+    found = []
+    for choice, number in [(one, "1"), (one, "2"), (other, "2")]:
+        words, variables = ([f"{name}={choice}"], {}) if name.startswith("--") else ([], {name: choice})
+        said = run_pytest(tmp_path, "-s", "-q", *words, TEST_SEED=number, **variables).stdout
+        found.append(re.findall(r"^-?\d+$", said, re.M))
+    assert found[0] == found[1] != found[2] and all(found), found
+
+
 def test_a_search_has_many_examples(tmp_path, run_pytest):
     write_tests(tmp_path, DRAWS["hypothesis"])
     said = run_pytest(tmp_path, "-s", "-q").stdout
