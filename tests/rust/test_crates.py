@@ -8,6 +8,8 @@ import random
 import re
 import shutil
 import sys
+from contextlib import nullcontext
+from itertools import product
 from pathlib import Path
 
 import common.cargo
@@ -100,6 +102,17 @@ def test_no_test_is_ignored(tmp_path):
     add_crate(tmp_path / "ignored", IGNORED)
     with pytest.raises(AssertionError, match="1 passed; 0 failed; 1 ignored"):
         Cargo(tmp_path / "ignored").test()
+
+
+@pytest.mark.parametrize("ignored", [*product((0, 1, 9, 10, 250), repeat=2)], ids=str)
+def test_any_number_is_counted(ignored, tmp_path, monkeypatch):
+    """Of tests that passed, in all programs together, and of those that were ignored in any of them."""
+    cargo, passed = Cargo(tmp_path), (7, 120)
+    lines = [f"running {sum(both)} tests\ntest result: ok. {both[0]} passed; 0 failed; {both[1]} ignored; 0 measured; "
+             "0 filtered out; finished in 0.10s\n" for both in zip(passed, ignored)]
+    monkeypatch.setattr(cargo, "check", lambda *words: "\n".join(lines))
+    with pytest.raises(AssertionError, match="ignored") if any(ignored) else nullcontext():
+        assert cargo.test() == sum(passed)
 
 
 # What would compile without the attributes at the head of a crate, and why it does not: unsafe code, even where it is
