@@ -4,6 +4,7 @@ past in oracle.py, and the steps of model.py. Each commit has other seeds. If ca
 that do, as rows of a script with both replies.
 """
 import random
+import re
 from concurrent.futures import ThreadPoolExecutor
 
 import made
@@ -127,6 +128,21 @@ def test_a_wrong_model_is_found():
             assert "the model:" in made.shown(few, replies_of(Board(wrong), few), by_steps(few))
             sizes.append(len(few))
     assert len(sizes) == 5 and min(sizes) <= 6 and max(sizes) <= 20, sizes
+
+
+# What a side and the model reply to a line, or nothing if they ended before, and what stands after it.
+BESIDE = {(("60",), ("60",)): ["60"], (("61",), ("60",)): ["61", "the model: 60"], ((), ()): ["no reply"],
+          ((), ("60",)): ["no reply", "the model: 60"], (("60",), ()): ["60", "the model: no reply"]}
+
+
+@pytest.mark.parametrize("got, expected", BESIDE)
+def test_what_a_failure_shows(got, expected):
+    """The side's reply beside each line, and the model's if it is another. A mask has none. Equal rows stand once."""
+    for count, times in (1, []), (3, ["3 times"]):
+        calls = [("refuse", 3), ("serial_write", 0, 0x41), *count * [("serial_read", 5)]]
+        rows = shown(calls, ["ok", *count * got], ["ok", *count * expected]).splitlines()
+        assert [re.split(" {2,}", row.rstrip()) for row in rows] == [
+            ["refuse 0000000000000003"], ["sw 00 41", "ok"], ["sr 05", *BESIDE[got, expected], *times]]
 
 
 @pytest.mark.parametrize("needed", [[0], [8], [9], [4, 5], [0, 9], [2, 3, 7], [*range(10)]], ids=str)
