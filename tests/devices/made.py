@@ -10,6 +10,8 @@ from facts import CLOCK_AT, CLOCK_FIELDS
 from script import LINES, MASK, PROGRAM_LINES, line_of, script_of, syntax_of
 from seeds import random_source
 
+from superio.recording import EMPTY
+
 MOST_CALLS = 36
 # What a script shows of its devices at its end, by the program's lines: all that reads show, before and after the
 # pending interrupts are asked for again, with the divisor, and then the bytes.
@@ -223,7 +225,8 @@ def shown(calls, got, expected):
     for call in calls:
         has_reply = call[0] != "refuse"
         have, want = (next(replies, "no reply") if has_reply else "" for replies in (got, expected))
-        row = f"{line_of(*call):40} {have}" + (f"   the model: {want}" if have != want else "")
+        have, want = (reply or EMPTY * has_reply for reply in (have, want))
+        row = f"{line_of(*call):39}  {have}" + (f"   the model: {want}" if have != want else "")
         if rows and rows[-1][0] == row:
             rows[-1][1] += 1
         else:

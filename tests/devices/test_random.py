@@ -6,6 +6,7 @@ that do, as rows of a script with both replies.
 import random
 import re
 from concurrent.futures import ThreadPoolExecutor
+from itertools import groupby
 
 import made
 import model
@@ -14,12 +15,13 @@ import pytest
 from board import Board
 from harness import at_least
 from made import SAVED, SHOWN, broken_lines, fewest, random_calls, random_script, shown
-from script import FURTHER_LINES, LINES, PROGRAM_LINES, replies_of, run_script, script_of
+from script import FURTHER_LINES, LINES, PROGRAM_LINES, line_of, replies_of, run_script, script_of
 from script_tests import Script
 from seeds import seeds
 from sides import PythonBoard, run
 
 from superio.library import VARIABLE, open_library
+from superio.recording import entries_of
 
 FOR_PROGRAM, FOR_BOARD, AS_TEXT = 8_000, 4_000, 800
 FOR_SEARCH = FOR_PROGRAM // 4   # of the program's scripts: the search of the past is slow
@@ -143,6 +145,17 @@ def test_what_a_failure_shows(got, expected):
         rows = shown(calls, ["ok", *count * got], ["ok", *count * expected]).splitlines()
         assert [re.split(" {2,}", row.rstrip()) for row in rows] == [
             ["refuse 0000000000000003"], ["sw 00 41", "ok"], ["sr 05", *BESIDE[got, expected], *times]]
+
+
+def test_what_a_failure_shows_is_rows_of_data():
+    """Lines of any length, and empty replies. So a test can be made of them."""
+    for calls in (calls_of(seed, False) for seed in seeds("rows", 200)):
+        expected = replies_of(Board(model), calls)
+        rows = [re.sub(r" {3}(\d+) times$", "", row) for row in shown(calls, expected, expected).splitlines()]
+        entries = [entry for row in rows for entry in entries_of(row.rstrip())]
+        left = iter(expected)
+        wanted = [(line_of(*call), None if call[0] == "refuse" else next(left)) for call in calls]
+        assert entries == [entry for entry, _ in groupby(wanted)]
 
 
 @pytest.mark.parametrize("needed", [[0], [8], [9], [4, 5], [0, 9], [2, 3, 7], [*range(10)]], ids=str)
