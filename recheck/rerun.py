@@ -142,7 +142,7 @@ def main(said: str | None) -> None:
             if arguments.chk:
                 subprocess.run(["coqchk", "-silent", "-o", "-Q", ".", "Recheck", "Recheck.Audit", "Recheck.Witnesses"],
                                cwd=folder, check=True)
-        except (Failed, rust2coq.Refused, antt2coq.Refused) as fault:
+        except (Failed, rust2coq.Refused, antt2coq.Refused, OSError, subprocess.CalledProcessError) as fault:
             sys.exit(f"recheck: {fault}")
     listed = left_out_items((HERE / "recheck/left-out.rs").read_text("utf-8"))
     print(f"proved again: {len(theorems)} theorems; {sum(map(len, listed.values()))} items of Rust are left out")

@@ -25,7 +25,8 @@ def toolchains():
         cargo = Path(rustc or "nowhere").with_name("cargo")
         if cargo.is_file():
             said = subprocess.run([rustc, "--version"], capture_output=True, text=True)
-            yield Toolchain(rustc, str(cargo), said.stdout.split()[1])
+            if said.returncode == 0:   # rustup's without a default toolchain has no version
+                yield Toolchain(rustc, str(cargo), said.stdout.split()[1])
 
 
 def toolchain_for(target):

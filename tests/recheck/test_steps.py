@@ -2,7 +2,6 @@
 """What tools/recheck does around its steps, for which there are stand-ins here: each option reaches the step that it is
 for, and the first step that fails ends the run, which then does not say that all is proved."""
 import os
-import subprocess
 import sys
 from pathlib import Path
 
@@ -47,7 +46,7 @@ def recheck(monkeypatch, tmp_path):
         try:
             rerun.main(None)
             end = None
-        except (SystemExit, subprocess.CalledProcessError) as ended:
+        except SystemExit as ended:
             end = str(ended)
         if (said := tmp_path / "said").exists():
             called["coqchk"] = said.read_text("utf-8").split()
@@ -56,11 +55,11 @@ def recheck(monkeypatch, tmp_path):
 
 
 @pytest.mark.parametrize("name, fault", [*((name, fault) for name, (_, fault) in STEPS.items()),
-                                         ("translated", antt2coq.Refused)])
+                                         ("translated", antt2coq.Refused), ("rustc", FileNotFoundError)])
 def test_a_step_that_fails_ends_the_run(name, fault, recheck, capsys):
-    """None comes after it."""
+    """None comes after it, and the run says why."""
     end, called = recheck(*ALL, failing=name, fault=fault)
-    assert end and (f"no {name}" in end if fault else "coqchk" in end)
+    assert end.startswith("recheck: ") and (f"no {name}" if fault else "coqchk") in end
     assert [*called] == [*STEPS][:[*STEPS].index(name) + 1] and "proved again" not in capsys.readouterr().out
 
 
