@@ -6,7 +6,8 @@
  * When the event loop has nothing left to do, the next line follows. If that is an exit of the guest, what the vCPU's
  * thread does is called from here: it serves the exit, and comes back by its next KVM_RUN, or ends. Every other KVM_RUN
  * and wait of the event loop fails, as it may at any time, but not the one after a timer, so that this has one turn. A
- * call for an interrupt, a timer or a turn has to have the lock, and one that may wait must not have it. */
+ * call for an interrupt, a timer or a turn has to have the lock, and one that may wait must not have it. A line that is
+ * `early` follows while the loop still works, at a moment at which it has let go of the lock. */
 #include "monitor.h"
 
 #include <fcntl.h>
@@ -44,6 +45,7 @@ static int made, closed;       /* machines, and what they have of KVM: two parts
 static bool is_mapped;         /* what the vCPU shows of its exits */
 static int alarms;             /* since the last line */
 static uint64_t lost;          /* bytes of output, beside those that the console has dropped */
+static long early;             /* the next line follows when the loop has let go of the lock so often, or 0 */
 static int64_t now[CLOCKS] = {
     [CLOCK_REALTIME] = 1700000000 * SECOND, [CLOCK_MONOTONIC] = 777 * SECOND, [CLOCK_BOOTTIME] = 5000 * SECOND};
 
@@ -63,6 +65,7 @@ superio_console_wanted __real_serial_turn(void);
 ssize_t __real_write(int fd, const void *bytes, size_t count);
 int __real_close(int fd);
 int __real_munmap(void *start, size_t size);
+int __real_pthread_mutex_unlock(pthread_mutex_t *mutex);
 
 static void fail(const char *what) {
     SEE("  %s\n", what);
@@ -76,7 +79,7 @@ static void check_lock(const char *call, bool is_held) {
         _exit(3);
     }
     if (is_free)
-        pthread_mutex_unlock(&lock);
+        __real_pthread_mutex_unlock(&lock);
 }
 #define need_lock(is_held) check_lock(__func__, is_held)
 
@@ -311,6 +314,7 @@ static void serve_line(void) {
     case 'g': hangs = false; break;
     case 'm': store_bytes(given); break;
     case 'd': lost += strtoull(given, NULL, 10); break;
+    case 'e': serve_line(); early = number; break;
     case 'b': now[CLOCK_REALTIME] -= number * SECOND; break;
     case 'w': now[CLOCK_MONOTONIC] += number * 1000000; /* fallthrough */
     case 'n':
@@ -319,6 +323,14 @@ static void serve_line(void) {
         break;
     default: fail("no line of a script");
     }
+}
+
+/* The other thread may run as soon as one has let go of the lock. */
+int __wrap_pthread_mutex_unlock(pthread_mutex_t *mutex) {
+    int result = __real_pthread_mutex_unlock(mutex);
+    if (early > 0 && --early == 0)
+        serve_line();
+    return result;
 }
 
 /* What is ready, of files of which the second is the terminal, if it is waited for. */
@@ -361,6 +373,9 @@ int __wrap_poll(struct pollfd *files, nfds_t count, int timeout) {
             return 0;
         }
         is_again = goes_off();
+        if (early > 0)
+            SEE("  late");
+        early = 0;
         if (!is_again)
             serve_line();
     }

@@ -125,6 +125,46 @@ def test_a_broken_rule_is_seen(fault, tmp_path):
     assert any(fault in seen_of(tmp_path, script, limit=30) for script in SCRIPTS)
 
 
+# What a guest does that the event loop has to hear of, what is seen on the last of these lines, and the lines before
+# and after it, with which the guest can do the same again.
+HEARD = [([], ["out 3f8 1 42"], "sends 42", []),
+         (["type 61*70"], ["in 3f8 1 64"], "interrupt", ["in 3f8 1 6"]),
+         (["accept 0"], ["out 3f9 1 03", "accept 9", "wait 5"], "interrupt", ["in 3fa 1", "out 3f9 1 01"])]
+# So often the loop lets go of the lock while it works on a byte of output, and once more, which is late.
+MOMENTS = range(1, 10)
+
+
+def check_moments(folder):
+    """The monitor of a folder forgets nothing that the guest does while the loop still works on a byte before it."""
+    script, wanted = ["monitor image", "out 3f9 1 01"], {}
+    for before, lines, seen, after in HEARD:
+        for moment in MOMENTS:
+            script += [*before, f"early {moment}", "out 3f8 1 41", *lines]
+            wanted[len(script) - 1] = seen
+            script += after
+    rows = seen_of(folder, "\n".join([*script, "status 0"])).splitlines()
+    for number, seen in wanted.items():
+        assert seen in rows[number].split("  "), "\n".join(rows[number - 5:number + 1])
+    for moment in MOMENTS:
+        ended = seen_of(folder, f"monitor image\nearly {moment}\nout 3f8 1 41\nout 64 1 fe\nin 3ff 1\nstatus 0")
+        assert ended.endswith("restored\nmonitor: the guest reset the machine\nstatus 0"), ended
+        assert ("  late" in ended) == (moment == MOMENTS[-1]), ended
+
+
+def test_at_any_moment(over_host):
+    check_moments(over_host)
+
+
+def test_a_wake_up_that_is_lost_is_seen(tmp_path):
+    """A loop that also takes wake-ups after its turn forgets what came in between."""
+    wait = "        if (poll(files, 4"
+    build_over_host(tmp_path, edits=[("main.c", wait, f"        eventfd_read(wakes, &(eventfd_t){{0}});\n{wait}")],
+                    with_sanitizers=False)
+    (tmp_path / "image").write_bytes(b"\xF4")
+    with pytest.raises(AssertionError):
+        check_moments(tmp_path)
+
+
 # For what has nothing to do with the port.
 with_c = pytest.mark.parametrize("over_host", ["C"], indirect=True)
 
