@@ -6,8 +6,9 @@
  * When the event loop has nothing left to do, the next line follows. If that is an exit of the guest, what the vCPU's
  * thread does is called from here: it serves the exit, and comes back by its next KVM_RUN, or ends. Every other KVM_RUN
  * and wait of the event loop fails, as it may at any time, but not the one after a timer, so that this has one turn. A
- * call for an interrupt, a timer or a turn has to have the lock, and one that may wait must not have it. A line that is
- * `early` follows while the loop still works, at a moment at which it has let go of the lock. */
+ * call for an interrupt, a timer or a turn, or that tells the other thread something, has to have the lock, and one
+ * that may wait must not have it. A line that is `early` follows while the loop still works, at a moment at which it
+ * has let go of the lock. */
 #include "monitor.h"
 
 #include <fcntl.h>
@@ -164,6 +165,7 @@ int __wrap_pthread_cond_clockwait(pthread_cond_t *condition, pthread_mutex_t *mu
 }
 
 int __wrap_pthread_cond_signal(pthread_cond_t *condition) {
+    need_lock(true);
     is_told = condition != NULL;
     return 0;
 }

@@ -20,11 +20,12 @@ MACHINE = "ioctl(0, KVM_CREATE_VM, NULL); ioctl(0, KVM_CREATE_VCPU, NULL); "
 TIMER = f"int timer = files[3].fd = timerfd_create(CLOCK_BOOTTIME, TFD_NONBLOCK); {LOCK}"
 STARTS = "ioctl(0, KVM_SET_REGS, &registers); "
 # Calls that host.c refuses, and what it says then. Some only fail.
-REFUSED = at_least(48, [
+REFUSED = at_least(49, [
     *((f"{call}, {WITHOUT}", f"{call}({words});") for call, words in {
         "eventfd_write": "9, 1", "timerfd_settime": "9, TFD_TIMER_ABSTIME, &never, NULL",
-        "pthread_cond_clockwait": "&room, &lock, CLOCK_MONOTONIC, &end", "serial_receive": "byte, 0",
-        "serial_output": "byte, 1", "serial_consume": "0", "serial_dropped": "", "serial_turn": ""}.items()),
+        "pthread_cond_clockwait": "&room, &lock, CLOCK_MONOTONIC, &end", "pthread_cond_signal": "&room",
+        "serial_receive": "byte, 0", "serial_output": "byte, 1", "serial_consume": "0", "serial_dropped": "",
+        "serial_turn": ""}.items()),
     *((f"{call}, {WITH}", f"{before}{LOCK}{call}({words});") for call, before, words in [
         ("write", ROOM, "1, byte, 1"), ("read", "", "0, byte, 0"), ("poll", "", "files, 4, 0"),
         ("ioctl", MACHINE, "0, KVM_RUN, NULL")]),

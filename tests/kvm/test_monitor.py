@@ -111,6 +111,9 @@ BROKEN = {
     "a wait for something else": ("main.c", "&lock, CLOCK_MONOTONIC, &end", "&lock, CLOCK_REALTIME, &end"),
     "settings of another terminal, or not at once": ("main.c", "TCSANOW, &raw", "TCSADRAIN, &raw"),
     "a write that may block": ("main.c", "ready > 0 && write(STDOUT_FILENO", "ready > 0 && write(STDERR_FILENO"),
+    "pthread_cond_signal, a call without the lock": (
+        "main.c", "    pthread_cond_signal(&has_room);\n    pthread_mutex_unlock(&lock);\n",
+        "    pthread_mutex_unlock(&lock);\n    pthread_cond_signal(&has_room);\n"),
     "a guest is not told of room": ("main.c", "    pthread_cond_signal(&has_room);\n", ""),
     "a machine beside another one": ("machine.c", "    munmap(run, run_size);\n", ""),
 }
