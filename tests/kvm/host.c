@@ -200,6 +200,9 @@ superio_console_wanted __wrap_serial_turn(void) {
 int __wrap_tcgetattr(int fd, struct termios *settings) {
     if (fd != STDIN_FILENO)
         fail("settings of another terminal");
+    errno = ENOTTY;
+    if (fails("terminal"))
+        return -1;
     *settings = BEFORE;
     return 0;
 }

@@ -186,6 +186,19 @@ def test_signal_without_effect(over_host, name):
     check_script(over_host, f"{STARTS}\nkill {signal.Signals['SIG' + name].value}\nin 3fd 1  60\nstatus 0")
 
 
+@with_c
+@pytest.mark.parametrize("name", "HUP INT QUIT TERM".split())
+def test_without_a_terminal(over_host, name):
+    """Nothing is set or restored. A signal ends the monitor, unless whoever started it has it ignored, as `nohup` does,
+    or a shell for what runs in its background."""
+    number = signal.Signals[f"SIG{name}"].value
+    for option, goes_on, status in [("--default-signal", "", -number), ("--ignore-signal", "\nin 3fd 1  60", 0)]:
+        ran = run(["env", f"{option}={name}", "FAILS=terminal", "./monitor", "image"], cwd=over_host,
+                  input=f"kill {number}\nin 3fd 1\n")
+        assert f"monitor image{ran.stdout}" == f"{STARTS.replace('  raw', '')}\nkill {number}{goes_on}"
+        assert ran.returncode == status
+
+
 PAGE = " ".join(Document("docs/MONITOR.md").prose.split())
 # What a guest or a user does, by the words of the page for an end, and the monitor's words.
 ENDS = {"after a reset": ("image", "out 64 1 fe\n"), "Ctrl-A x": ("image", "type 0178\n"),
