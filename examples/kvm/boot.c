@@ -64,8 +64,11 @@ static void boot_linux(const char *kernel, struct setup_header head, const char 
     if (head.version < 0x20C || !(head.xloadflags & XLF_KERNEL_64))
         errx(1, "%s has no 64-bit entry", kernel);
     long sectors = head.setup_sects ? head.setup_sects : 4; /* of set-up code: the protocol has 0 for 4 */
-    place(kernel, (sectors + 1) * 512, head.pref_address, head.pref_address + head.init_size);
+    uint64_t end = head.pref_address + head.init_size;
+    place(kernel, (sectors + 1) * 512, head.pref_address, end);
     if (initramfs) {
+        if (end > INITRAMFS)
+            errx(1, "%s leaves no room for %s", kernel, initramfs);
         head.ramdisk_image = INITRAMFS;
         head.ramdisk_size = place(initramfs, 0, INITRAMFS, MEMORY_SIZE);
     }

@@ -116,6 +116,17 @@ def test_initramfs(monitor):
     assert status == 1 and seen.endswith("monitor: missing: No such file or directory\n"), seen
 
 
+def test_a_kernel_ends_below_its_initramfs(monitor):
+    """Its whole room, which it may use before it has taken the initramfs. Without one, it may have all memory."""
+    (monitor / "initramfs").write_bytes(b"i" * 3000)
+    for beyond in (-1, 0, 1):
+        room = INITRAMFS - (1 << 20) + beyond
+        (monitor / "kernel").write_bytes(Image(4, 0x20F, KERNEL_64, 1 << 20, room, 5000).content())
+        assert booted(monitor, "kernel")[0] == 0
+        status, seen = booted(monitor, "kernel", "initramfs")
+        assert (status, "monitor: kernel leaves no room for initramfs" in seen) == (beyond > 0, beyond > 0), seen
+
+
 # Segments, of which processors read descriptors in memory too.
 CODE = {"base": 0, "limit": 2 ** 32 - 1, "type": 11, "present": 1, "dpl": 0, "db": 0, "s": 1, "l": 1, "g": 1, "avl": 0}
 DATA = {**CODE, "type": 3, "db": 1, "l": 0}

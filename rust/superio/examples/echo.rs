@@ -89,7 +89,7 @@ impl Machine {
 fn main() -> io::Result<()> {
     let mut machine = Machine::fresh();
     machine.write(INTERRUPT_ENABLE, 0x01); // the guest's driver starts
-    let mut source = io::stdin().lock();
+    let (mut source, mut reader) = (io::stdin().lock(), io::stdout());
     loop {
         let arrived = source.fill_buf()?; // this waits: the guest has left nothing for which a turn is due
         if arrived.is_empty() {
@@ -99,7 +99,8 @@ fn main() -> io::Result<()> {
         source.consume(accepted);
         while std::mem::take(&mut machine.is_interrupted) {
             machine.handle_interrupt();
-            machine.drain(&mut io::stdout())?; // this may block too
+            machine.drain(&mut reader)?; // this may block too
+            reader.flush()?; // Rust keeps an unfinished line back, such as a prompt
         }
     }
 }
