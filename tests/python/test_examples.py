@@ -4,14 +4,16 @@ import fcntl
 import itertools
 import os
 import random
+import re
 import select
+import selectors
 import struct
 import subprocess
 import sys
 import termios
 import threading
 import time
-from contextlib import suppress
+from contextlib import nullcontext, suppress
 
 import pytest
 from harness import LIMIT, ROOT, at_least
@@ -20,6 +22,13 @@ from superio import Work
 
 EXAMPLE = ROOT / "examples" / "python" / "pty_console.py"
 GREETING = b"Type, and Ctrl-D to switch off.\r\n"
+# After how many milliseconds an event loop comes back at most, if a turn is wanted.
+PAUSE = int(re.search(r"for at most (\d+) ms if wants\.turn", (ROOT / "docs/USING.md").read_text(encoding="utf-8"))[1])
+
+
+def unread(file):
+    """How many bytes wait in a file."""
+    return struct.unpack("i", fcntl.ioctl(file, termios.FIONREAD, bytes(4)))[0]
 
 
 class Console:
@@ -46,8 +55,8 @@ class Console:
     def until_unread(self, count):
         """Waits until so many bytes are shown, and reads none of them."""
         end = time.monotonic() + LIMIT
-        while (unread := struct.unpack("i", fcntl.ioctl(self.file, termios.FIONREAD, bytes(4)))[0]) < count:
-            assert time.monotonic() < end, f"{unread} of {count} bytes are shown"
+        while unread(self.file) < count:
+            assert time.monotonic() < end, f"{unread(self.file)} of {count} bytes are shown"
             time.sleep(0.001)
 
 
@@ -117,10 +126,10 @@ class Machine:
     not, and turns of the event loop. The guest is held in vain each second time, and otherwise until the loop has
     made a turn and output was read."""
 
-    def __init__(self, text):
+    def __init__(self, text, polls=selectors):
         module = {"__name__": "example"}
         exec(compile(text, EXAMPLE.name, "exec"), module)
-        at_once = module["at_once"]
+        module["selectors"], at_once = polls, module["at_once"]
 
         def narrow(call, *words):   # the terminal takes a part of what it gets
             return at_once(call, *(word[:999] if isinstance(word, bytes) else word for word in words))
@@ -206,28 +215,44 @@ class Machine:
         for _ in range(3):
             self.write("THR", next(self.bytes))
 
+    def drain(self):
+        """The guest's driver reads what is held."""
+        while self.monitor.read("LSR") & 0x01:
+            self.follow(is_guest=True)
+            self.monitor.read("RBR")
+            self.follow(is_guest=True)
+        self.follow(is_guest=True)
+
     def turn(self):
         with self.monitor.lock:
             self.monitor.make_turn()
             self.follow()
 
+    def step(self, source):
+        kind = source.randrange(4)
+        if kind == 0 and len(self.typed) - len(self.received) < 1000:
+            data = source.randbytes(source.randrange(1, 200))
+            self.typed += data[:os.write(self.monitor.their_end, data)]
+        elif kind == 1:
+            self.read_shown(source.randrange(1, 4096))
+        elif kind == 2:
+            self.monitor.read(source.choice(["RBR", "IIR", "LSR"]))
+            self.follow(is_guest=True)
+        else:
+            self.write(*source.choice([("IER", 1), ("IER", 3), ("THR", next(self.bytes))]))
+
     def go_on(self, source):
-        for step in range(100):
-            kind = source.randrange(5)
-            if step % 25 == 24:
+        for number in range(100):
+            if number % 25 == 24:
                 self.send()
-            elif kind == 0 and len(self.typed) - len(self.received) < 1000:
-                data = source.randbytes(source.randrange(1, 200))
-                self.typed += data[:os.write(self.monitor.their_end, data)]
-            elif kind == 1:
-                self.read_shown(source.randrange(1, 4096))
-            elif kind == 2:
+            elif source.randrange(5) == 0:
                 self.turn()
-            elif kind == 3:
-                self.monitor.read(source.choice(["RBR", "IIR", "LSR"]))
-                self.follow(is_guest=True)
             else:
-                self.write(*source.choice([("IER", 1), ("IER", 3), ("THR", next(self.bytes))]))
+                self.step(source)
+
+    def close(self):
+        for file in (self.monitor.terminal, self.monitor.their_end, self.monitor.woken, self.monitor.waker):
+            os.close(file)
 
 
 @pytest.mark.parametrize("count", [0, 1, 999, 1000, 4096])
@@ -296,8 +321,7 @@ def play(text):
     try:
         machine.go_on(random_source("a monitor in Python"))
     finally:
-        for file in (machine.monitor.terminal, machine.monitor.their_end, machine.monitor.woken, machine.monitor.waker):
-            os.close(file)
+        machine.close()
     return machine.holds
 
 
@@ -311,3 +335,87 @@ def test_a_monitor_that_breaks_a_rule(rule, edit):
     assert text.count(edit[0]) == 1
     with pytest.raises(AssertionError, match=rule):
         play(text.replace(*edit))
+
+
+class Polls(dict):
+    """In place of the module `selectors`, and of the event loop's selector: the files that it has, with their events. A
+    poll ends when the others have made some steps, and have woken the loop more often than it wakes itself in a turn.
+    In the last one the guest is off, and somebody reads all."""
+
+    EVENT_READ, EVENT_WRITE, WAKES = selectors.EVENT_READ, selectors.EVENT_WRITE, 9
+    register, unregister = dict.__setitem__, dict.__delitem__
+
+    def __init__(self, count, source):
+        super().__init__()
+        self.left, self.source, self.wanted = count, source, []
+
+    def DefaultSelector(self):
+        return nullcontext(self)
+
+    def select(self, seconds=None):
+        machine, monitor, woken = self.machine, self.machine.monitor, unread(self.machine.monitor.woken)
+        assert not monitor.lock.locked(), "it polls with its lock"
+        machine.follow()
+        wants = machine.console.console.wants()
+        events = self.EVENT_READ * (wants.input > 0) | self.EVENT_WRITE * wants.output
+        files = {monitor.woken: self.EVENT_READ, **({monitor.terminal: events} if events else {})}
+        assert files == self, "it polls for something else than is wanted"
+        assert seconds == (PAUSE / 1000 if wants.turn else None), "its poll ends at another time"
+        assert woken < self.WAKES, "what has woken it wakes it again"
+        self.wanted.append((wants.input > 0, wants.output, wants.turn))
+        self.go_on(machine)
+        for _ in range(self.WAKES):
+            monitor.wake()
+
+    def go_on(self, machine):
+        self.left -= 1
+        if self.left <= 0:
+            machine.monitor.switch_off()
+            machine.read_shown(8192)
+        elif self.left % 25 == 0:
+            machine.send()
+        elif self.source.randrange(4):
+            machine.drain()
+        else:
+            for _ in range(self.source.randrange(6)):
+                machine.step(self.source)
+
+
+def play_loop(text):
+    """What the console wanted at each poll."""
+    polls = Polls(200, random_source("an event loop in Python"))
+    polls.machine = machine = Machine(text, polls)
+    try:
+        machine.monitor.run()
+        machine.follow()
+        assert not machine.console.console.output()
+    finally:
+        machine.close()
+    return polls.wanted
+
+
+def test_rules_of_the_event_loop():
+    """It polls for all that the console wants, and for nothing else: otherwise it stalls, or never sleeps."""
+    for wanted in zip(*play_loop(EXAMPLE.read_text(encoding="utf-8"))):
+        assert {*wanted} == {True, False}
+
+
+OTHER_LOOPS = at_least(9, [
+    ("for something else than is wanted", "selectors.EVENT_READ * (wants.input > 0)", "selectors.EVENT_READ"),
+    ("for something else than is wanted", "selectors.EVENT_WRITE * wants.output", "selectors.EVENT_WRITE"),
+    ("for something else than is wanted", "            selector.register(self.woken, selectors.EVENT_READ)\n", ""),
+    ("ends at another time", "TURN_AFTER if wants.turn else None", "None"),
+    ("ends at another time", "TURN_AFTER if wants.turn else None", "TURN_AFTER"),
+    ("ends at another time", "TURN_AFTER = 0.005 ", "TURN_AFTER = 5 "),
+    ("wakes it again", "                at_once(os.read, self.woken, 4096)\n", ""),
+    ("with its lock", "                selector.select(", "                with self.lock: selector.select("),
+    ("no turn", "                    self.make_turn()\n", ""),
+])
+
+
+@pytest.mark.parametrize("rule, old, new", OTHER_LOOPS)
+def test_an_event_loop_that_breaks_a_rule(rule, old, new):
+    text = EXAMPLE.read_text(encoding="utf-8")
+    assert text.count(old) == 1
+    with pytest.raises(AssertionError, match=rule):
+        play_loop(text.replace(old, new))
