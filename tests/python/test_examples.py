@@ -18,6 +18,7 @@ from contextlib import nullcontext, suppress
 import pytest
 from harness import LIMIT, ROOT, at_least
 from seeds import random_source
+from superio import Console as Port
 from superio import Work
 
 EXAMPLE = ROOT / "examples" / "python" / "pty_console.py"
@@ -419,3 +420,77 @@ def test_an_event_loop_that_breaks_a_rule(rule, old, new):
     assert text.count(old) == 1
     with pytest.raises(AssertionError, match=rule):
         play_loop(text.replace(old, new))
+
+
+class Asleep(Exception):
+    """The guest sleeps, and nothing interrupts it any more."""
+
+
+class Moments:
+    """A machine for the guest of the example, and its interrupt line. Before each thing that the guest does, the bytes
+    come whose moment this is. While the guest sleeps, time goes on to the next interrupt."""
+
+    def __init__(self, guest, *moments):
+        self.console, self.interrupt, self.is_off, self.is_up = Port(True), self, False, False
+        self.moments, self.count = moments, 0
+        with suppress(Asleep):
+            guest(self).run()
+
+    def carry_out(self, work):
+        self.is_up |= work.interrupts > 0
+
+    def begin(self):
+        typed = bytes(65 + place for place, moment in enumerate(self.moments) if moment == self.count)
+        self.carry_out(self.console.receive(typed).work)
+        self.count += 1
+
+    def read(self, offset):
+        self.begin()
+        done = self.console.read(offset)
+        self.carry_out(done.work)
+        return done.byte
+
+    def write(self, offset, value):
+        self.begin()
+        self.carry_out(self.console.write(offset, value))
+
+    def wait(self):
+        self.begin()
+        while not self.is_up and self.count <= max(self.moments):
+            self.begin()
+        if not self.is_up:
+            raise Asleep
+
+    def clear(self):
+        self.begin()
+        self.is_up = False
+
+
+def lost(text):
+    """The moments of two bytes, from the end of the greeting on, of which the guest does not echo both."""
+    module = {"__name__": "example"}
+    exec(compile(text, EXAMPLE.name, "exec"), module)
+    pairs = itertools.combinations_with_replacement(range(len(GREETING) - 1, len(GREETING) + 15), 2)
+    return [pair for pair in pairs if Moments(module["EchoGuest"], *pair).console.output() != GREETING + b"AB"]
+
+
+def test_the_guest_echoes_each_byte():
+    """Whenever it comes, none is left without an interrupt."""
+    assert lost(EXAMPLE.read_text(encoding="utf-8")) == []
+
+
+CLEARS = "            self.machine.interrupt.clear()\n"
+FORGETFUL_GUESTS = at_least(2, [
+    {CLEARS: "", '                    self.echo(self.machine.read("RBR"))\n':
+     f'                    self.echo(self.machine.read("RBR"))\n{CLEARS}'},
+    {f"            self.machine.interrupt.wait()\n{CLEARS}": f"{CLEARS}            self.machine.interrupt.wait()\n"},
+])
+
+
+@pytest.mark.parametrize("edits", FORGETFUL_GUESTS)
+def test_a_guest_that_loses_bytes(edits):
+    text = EXAMPLE.read_text(encoding="utf-8")
+    for old, new in edits.items():
+        assert text.count(old) == 1
+        text = text.replace(old, new)
+    assert lost(text)
