@@ -242,9 +242,35 @@ function contrast(one) {
 const named = (one) => [...["for", "aria-labelledby", "aria-describedby"].map((name) => one.getAttribute(name) ?? ""),
   /^#(.*)/.exec(one.getAttribute("href"))?.[1] ?? ""].join(" ").split(" ").filter(Boolean);
 
+/** How an element looks, with what is in it and what follows it. */
+const look = (one) => [one, ...one.children, one.nextElementSibling].filter(Boolean).map((each) => {
+  const style = page.getComputedStyle(each);
+  return Array.from(style, (name) => style.getPropertyValue(name)).join();
+}).join();
+
 /**
- * Tries whether the page fits its window, each text that is in use stands out, each control has a name, and what names
- * another element finds it.
+ * What is wrong with the classes by which the page marks what a call has changed, and all else: one that nobody sees on
+ * the first element with these classes, and one in the styles that no element has.
+ */
+function wrongClasses() {
+  STEPS.click("timeout", "timeout", "back"); // the first one raises RDA, and the second is a later call
+  const firsts = new Map(all("body [class]").reverse().map((one) => [one.getAttribute("class"), one]));
+  const unseen = Array.from(firsts.values()).flatMap((one) => Array.from(one.classList).filter((name) => {
+    const before = look(one);
+    one.classList.remove(name);
+    const after = look(one);
+    one.classList.add(name);
+    return before === after;
+  }));
+  const styles = page.document.querySelector("style").textContent.matchAll(/\.([a-z][\w-]*)(?=[^{}]*\{)/g);
+  const unused = Array.from(styles, ([, name]) => name).filter((name) => !all(`.${name}`).length);
+  return [...unseen.map((name) => `nobody sees the class ${name}`),
+    ...unused.map((name) => `nothing has the class ${name}`)];
+}
+
+/**
+ * Tries whether the page fits its window, each text that is in use stands out, each control has a name, what names
+ * another element finds it, and each class is seen.
  */
 async function tryLooks(width, scheme) {
   await open(shown, width, scheme);
@@ -264,8 +290,9 @@ async function tryLooks(width, scheme) {
     "names what is not there": all("*").filter((one) => named(one).some((id) => !by(id))),
     "has the id of another": all("[id]").filter((one) => by(one.id) !== one),
   };
-  tell("looks", `${width} ${scheme}`, Object.entries(faults).flatMap(([what, elements]) =>
-    elements.map((one) => `this ${what}: ${start(one)}`)), controls.length);
+  const wrong = Object.entries(faults).flatMap(([what, elements]) =>
+    elements.map((one) => `this ${what}: ${start(one)}`));
+  tell("looks", `${width} ${scheme}`, [...wrong, ...wrongClasses()], controls.length);
 }
 
 /**

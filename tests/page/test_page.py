@@ -192,8 +192,8 @@ def test_feature(told, name):
 @pytest.mark.needs("chromium")
 @pytest.mark.parametrize("name", LOOKS)
 def test_looks(told, name):
-    """At a width and in a scheme of colours, nothing is cut or too wide, each text stands out, and controls have
-    names."""
+    """At a width and in a scheme of colours, nothing is cut or too wide, each text stands out, controls have names, and
+    each class is seen, such as those of a bit that is set, or was changed by the last call."""
     said = told("looks", name)
     assert not said["wrong"]
     assert said["number"] >= LEAST_CONTROLS
