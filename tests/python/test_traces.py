@@ -192,6 +192,15 @@ def test_each_bar_is_at_its_calls(count):
         pytest.approx([120 + first * wide, wide], abs=0.1) for first in range(0, count, 3)]
 
 
+@pytest.mark.parametrize("count", [2, 799, 800, 801, 1000, 1599, 1600, 1601, 2399, 12_345])
+def test_each_call_is_in_the_picture(count):
+    """The first one at its left end, and the last one at its right end, however many share a column."""
+    read, other = steps_of(b"kr 04\nsc\n")
+    drawn = picture([read, *[other] * (count - 2), read], "both ends")
+    bars = [tuple(map(float, bar)) for bar in re.findall(r"M([\d.]+) 80v-[\d.]+h([\d.]+)v", drawn)]
+    assert (bars[0][0], sum(bars[-1])) == pytest.approx((120, 920), abs=0.1)
+
+
 @pytest.mark.parametrize("form", ["table", "svg"])
 def test_written(form, tmp_path):
     steps, path = steps_of(TRACE), tmp_path / "a file"
