@@ -371,7 +371,7 @@ class Polls(dict):
     def go_on(self, machine):
         self.left -= 1
         if self.left <= 0:
-            machine.monitor.switch_off()
+            self.switch_off(machine.monitor)
             machine.read_shown(8192)
         elif self.left % 25 == 0:
             machine.send()
@@ -380,6 +380,14 @@ class Polls(dict):
         else:
             for _ in range(self.source.randrange(6)):
                 machine.step(self.source)
+
+    @staticmethod
+    def switch_off(monitor):
+        wake, seen = monitor.wake, []
+        monitor.wake = lambda: seen.append(monitor.is_off)
+        monitor.switch_off()
+        monitor.wake = wake
+        assert seen == [True], "the loop does not see that the guest is off"
 
 
 def play_loop(text):
@@ -401,7 +409,7 @@ def test_rules_of_the_event_loop():
         assert {*wanted} == {True, False}
 
 
-OTHER_LOOPS = at_least(9, [
+OTHER_LOOPS = at_least(11, [
     ("for something else than is wanted", "selectors.EVENT_READ * (wants.input > 0)", "selectors.EVENT_READ"),
     ("for something else than is wanted", "selectors.EVENT_WRITE * wants.output", "selectors.EVENT_WRITE"),
     ("for something else than is wanted", "            selector.register(self.woken, selectors.EVENT_READ)\n", ""),
@@ -411,6 +419,9 @@ OTHER_LOOPS = at_least(9, [
     ("wakes it again", "                at_once(os.read, self.woken, 4096)\n", ""),
     ("with its lock", "                selector.select(", "                with self.lock: selector.select("),
     ("no turn", "                    self.make_turn()\n", ""),
+    ("that the guest is off", "        self.is_off = True\n        self.wake()\n", "        self.is_off = True\n"),
+    ("that the guest is off", "        self.is_off = True\n        self.wake()\n",
+     "        self.wake()\n        self.is_off = True\n"),
 ])
 
 
