@@ -1,9 +1,9 @@
 /* SPDX-License-Identifier: Apache-2.0 OR BSD-3-Clause */
 /* Watches the program of docs/C.md: the linker gives its calls to this file, by its option --wrap. The interrupt line
- * refuses each third edge. The reader takes nothing until the guest is held. Of three holds one ends by its time: then it
- * takes nothing until output was dropped. Another ends by its time just as there is room. So nothing depends on how busy
- * the host is. The first rule of superio.h that is broken ends the program with status 3, and is named. The last line says
- * what has happened. */
+ * refuses each third edge. The reader takes nothing until the guest is held. Each hold is first woken for nothing, as
+ * any may be. Of three holds one ends by its time: then it takes nothing until output was dropped. Another ends by its
+ * time just as there is room. So nothing depends on how busy the host is. The first rule of superio.h that is broken
+ * ends the program with status 3, and is named. The last line says what has happened. */
 #define _GNU_SOURCE
 #include <errno.h>
 #include <poll.h>
@@ -42,7 +42,7 @@ static int irq = -1, wake_up = -1;
 static int edges_left;       /* to be raised for the last call */
 static bool is_refused;      /* the last edge, which nobody has told the console */
 static bool has_to_wake;     /* the guest, before it releases the lock */
-static bool is_full, is_held, is_stuck, has_to_tell, has_room_late;
+static bool is_full, is_held, is_stuck, has_to_tell, has_room_late, is_woken_for_nothing;
 static size_t not_received, not_consumed;
 static uint64_t dropped;     /* when the guest was held in vain */
 static long edges, refusals, holds;
@@ -114,6 +114,10 @@ int __wrap_pthread_cond_timedwait(pthread_cond_t *condition, pthread_mutex_t *mu
     need(is_monotonic, "a limit is by a clock that can be set");
     need(end && is_full && !is_stuck, "a guest is held for nothing");
     release();
+    if ((is_woken_for_nothing = !is_woken_for_nothing)) {
+        has_lock = true;
+        return 0;
+    }
     if (++holds % 3 == 0) {
         has_lock = is_stuck = true;
         dropped = watched->dropped;

@@ -267,6 +267,7 @@ def test_output_that_waits_at_the_end(tmp_path):
 WATCH = ROOT / "tests" / "documents" / "console_rules.c"
 WRAPPED = [f"-Wl,--wrap={name}" for name in sorted({*re.findall(r"__wrap_(\w+)", WATCH.read_text(encoding="utf-8"))})]
 MANY = "the quick brown fox " * 2_000 + "\n"   # several times what waits as output
+WAIT = "pthread_cond_timedwait(&has_room, &lock, &end)"
 # A rule that a monitor breaks, by an edit of the program of the page.
 FORGETFUL = at_least(13, {
     "a refusal is not told": ("return superio_console_refuse(&console).wakes || work.wakes;", "break;"),
@@ -291,6 +292,7 @@ FORGETFUL += [("a limit is by a clock that can be set", edit) for edit in (
     ("clock_gettime(CLOCK_MONOTONIC", "clock_gettime(CLOCK_REALTIME"),
     ("&attributes, CLOCK_MONOTONIC", "&attributes, CLOCK_REALTIME"),
     ("pthread_condattr_setclock(&attributes, CLOCK_MONOTONIC);", ";"))]
+FORGETFUL += [("a guest is not held", (f"{WAIT} != 0 && superio", f"({WAIT}, true) && superio"))]
 
 
 @pytest.fixture(scope="module")
