@@ -52,7 +52,7 @@ static volatile bool is_over;
 /* Of the event loop. */
 static superio_console_wanted wanted;
 static int polls, turns;
-static bool is_woken;
+static bool is_woken, is_input_over;
 
 static void need(bool is_kept, const char *rule) {
     if (is_kept)
@@ -174,7 +174,8 @@ int __wrap_poll(struct pollfd *files, nfds_t count, int timeout) {
         return __real_poll(files, count, timeout);
     need(polls++ == 0 || turns == 1, "there is not one turn between two polls");
     need(!is_woken, "what has woken it wakes it again");
-    need(files[1].fd < 0 || wanted.input > 0, "it polls for input that is not wanted");
+    need((files[1].fd >= 0) == (wanted.input > 0 && !is_input_over),
+         "it does not poll for input exactly if that is wanted");
     need((files[2].fd >= 0) == wanted.output, "it does not poll for room exactly if that is wanted");
     need(timeout == (wanted.turn ? 5 : -1), "its poll ends at another time");
     turns = 0;
@@ -186,6 +187,7 @@ int __wrap_poll(struct pollfd *files, nfds_t count, int timeout) {
 ssize_t __wrap_read(int file, void *bytes, size_t count) {
     need(count <= wanted.input, "more input is read than is wanted");
     ssize_t result = __real_read(file, bytes, count);
+    is_input_over = result == 0;
     not_received = result > 0 ? (size_t)result : 0;
     return result;
 }

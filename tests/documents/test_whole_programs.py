@@ -269,7 +269,7 @@ WRAPPED = [f"-Wl,--wrap={name}" for name in sorted({*re.findall(r"__wrap_(\w+)",
 MANY = "the quick brown fox " * 2_000 + "\n"   # several times what waits as output
 WAIT = "pthread_cond_timedwait(&has_room, &lock, &end)"
 # A rule that a monitor breaks, by an edit of the program of the page.
-FORGETFUL = at_least(13, {
+FORGETFUL = at_least(17, {
     "a refusal is not told": ("return superio_console_refuse(&console).wakes || work.wakes;", "break;"),
     "an edge is not raised": ("i < work.interrupts", "i + 1 < work.interrupts"),
     "an edge is raised that nobody asks for": ("i < work.interrupts", "i < work.is_up"),
@@ -281,6 +281,8 @@ FORGETFUL = at_least(13, {
     "a guest that is held is not told of room": ("pthread_cond_broadcast(&has_room);", ""),
     "there is not one turn between two polls": ("interrupt(superio_console_turn(&console));",
                                                 "if (files[0].revents) interrupt(superio_console_turn(&console));"),
+    "it does not poll for input exactly if that is wanted": ("wants.input > 0 ? input", "wants.input > 32 ? input"),
+    "it does not poll for room exactly if that is wanted": ("wants.output ? output", "wants.input > 0 ? output"),
     "its poll ends at another time": ("wants.turn ? 5 : -1", "-1"),
     "what has woken it wakes it again": ("if (files[0].revents)", "if (files[1].revents)"),
     "more input is read than is wanted": ("bytes, wanted);", "bytes, sizeof bytes);"),
