@@ -52,7 +52,7 @@ DRAWN = """<svg xmlns="http://www.w3.org/2000/svg" width="{0}" height="{1}" view
 """
 FEATURES = re.sub(r"^# .*\n", "", (HERE / "features.txt").read_text("utf-8"), flags=re.M)
 FEATURES = expanded(FEATURES).strip().split("\n\n")
-FEATURES = {feature.split("\n")[0]: feature for feature in at_least(87, FEATURES)}
+FEATURES = {feature.split("\n")[0]: feature for feature in at_least(88, FEATURES)}
 LOOKS = {f"{width} {scheme}": (width, scheme) for width in (1280, 400) for scheme in ("light", "dark")}
 PICTURES = {picture[0]: picture for picture in PICTURES}
 LEAST_CONTROLS = 75   # in each of LOOKS
