@@ -279,6 +279,22 @@ def test_runs_until_it_is_there(tmp_path):
     assert len(runs) > 100 and sum(runs) < MOST_RUNS
 
 
+# Of a phone: how wide it is, how wide the page and what it has are there, and whether its parts stand in one column.
+ON_A_PHONE = """[screen.width, innerWidth, document.scrollingElement.scrollWidth,
+  new Set(Array.from(document.querySelectorAll("section"), (one) => one.offsetLeft)).size]"""
+
+
+@pytest.mark.needs("chromium")
+def test_a_phone(tmp_path):
+    """There the page is as wide as the screen, and not as wide as on a desk and then made small."""
+    with debugged(tmp_path) as tell:
+        tell("Emulation.setDeviceMetricsOverride", width=360, height=740, deviceScaleFactor=3, mobile=True)
+        tell("Page.navigate", url=PAGE.as_uri())
+        tell("Runtime.evaluate", expression=UNTIL_THERE, awaitPromise=True)
+        said = tell("Runtime.evaluate", expression=ON_A_PHONE, returnByValue=True)["result"]["value"]
+    assert said == [360, 360, 360, 1]
+
+
 # Asks another host for something in each way that a page has, and for a worker, which no other host can give. Gives the
 # ways that the browser refused, by the names that a policy has for them, once no further one comes.
 ASKS = """(async () => {
