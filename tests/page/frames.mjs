@@ -250,24 +250,33 @@ const look = (one) => [one, ...one.children, one.nextElementSibling].filter(Bool
   return Array.from(style, (name) => style.getPropertyValue(name)).join();
 }).join();
 
+/** Whether an element looks as before once it has got or lost a class or an attribute, which is then taken back. */
+function looksAsBefore(one, turn) {
+  const before = look(one);
+  turn();
+  const after = look(one);
+  turn();
+  return before === after;
+}
+
 /**
- * What is wrong with the classes by which the page marks what a call has changed, and all else: one that nobody sees on
- * the first element with these classes, and one in the styles that no element has.
+ * What is wrong with the marks of what a call has changed, and with all else that has a class: one that nobody sees on
+ * the first element with these classes, and one in the styles that no element has. Nor may a field look alike with a
+ * right value and with a wrong one, or a button that does something and one that does not.
  */
-function wrongClasses() {
+function wrongMarks() {
   STEPS.click("timeout", "timeout", "back"); // the first one raises RDA, and the second is a later call
   const firsts = new Map(all("body [class]").reverse().map((one) => [one.getAttribute("class"), one]));
-  const unseen = Array.from(firsts.values()).flatMap((one) => Array.from(one.classList).filter((name) => {
-    const before = look(one);
-    one.classList.remove(name);
-    const after = look(one);
-    one.classList.add(name);
-    return before === after;
-  }));
+  const unseen = Array.from(firsts.values()).flatMap((one) => Array.from(one.classList)
+    .filter((name) => looksAsBefore(one, () => one.classList.toggle(name))));
   const styles = page.document.querySelector("style").textContent.matchAll(/\.([a-z][\w-]*)(?=[^{}]*\{)/g);
   const unused = Array.from(styles, ([, name]) => name).filter((name) => !all(`.${name}`).length);
+  const states = { "aria-invalid": "input:not([type=range], [type=checkbox]), textarea", disabled: "button" };
+  const alike = Object.entries(states).flatMap(([name, of]) => all(of)
+    .filter((one) => looksAsBefore(one, () => one.toggleAttribute(name)))
+    .map((one) => `${name} changes nothing about ${start(one)}`));
   return [...unseen.map((name) => `nobody sees the class ${name}`),
-    ...unused.map((name) => `nothing has the class ${name}`)];
+    ...unused.map((name) => `nothing has the class ${name}`), ...alike];
 }
 
 /**
@@ -294,7 +303,7 @@ async function tryLooks(width, scheme) {
   };
   const wrong = Object.entries(faults).flatMap(([what, elements]) =>
     elements.map((one) => `this ${what}: ${start(one)}`));
-  tell("looks", `${width} ${scheme}`, [...wrong, ...wrongClasses()], controls.length);
+  tell("looks", `${width} ${scheme}`, [...wrong, ...wrongMarks()], controls.length);
 }
 
 /**
