@@ -161,17 +161,24 @@ def test_formatted(crate, tmp_path):
     copied_crate(tmp_path, crate=crate).check("fmt", "--check", "--", "--config-path", str(ROOT))
 
 
+def programs_of_tests(crate):
+    """The words by which Cargo builds the programs that have tests of a crate: that of its library has none in some."""
+    return ["--test=*", *["--lib"] * (number_of_tests(crate / "src") > 0)]
+
+
 @CRATES
 def test_as_released(crate, tmp_path):
     """With other random numbers for each commit."""
-    ran = copied_crate(tmp_path, crate=crate).test("--release", "--lib", "--tests")
+    settings = {"CARGO_PROFILE_RELEASE_CODEGEN_UNITS": "1"}   # several take longer in all
+    ran = copied_crate(tmp_path, crate=crate).test("--release", *programs_of_tests(crate), **settings)
     assert ran == number_of_tests(crate)
 
 
 @pytest.mark.needs("debian-rust")
 @pytest.mark.parametrize("crate, of_documentation", [(DEVICES, 5), (DROP_IN, 9)], ids=["superio", "vm-superio"])
 def test_with_the_oldest_rust(crate, of_documentation, tmp_path):
-    assert copied_crate(tmp_path, oldest(), crate).test() >= number_of_tests(crate) + of_documentation
+    flags = dict.fromkeys(["RUSTFLAGS", "RUSTDOCFLAGS"], "-C prefer-dynamic")   # else linking the examples takes longer
+    assert copied_crate(tmp_path, oldest(), crate).test(**flags) >= number_of_tests(crate) + of_documentation
 
 
 @pytest.mark.parametrize("target", [*(pytest.param(target, marks=pytest.mark.needs(tools[0]))
@@ -192,7 +199,7 @@ def test_on(target, crate, tmp_path):
                 "CARGO_PROFILE_DEV_OPT_LEVEL": "1",   # else the emulator takes long
                 "CARGO_PROFILE_DEV_CODEGEN_UNITS": "1"}   # several are optimized twice, each alone and together
     cargo = copied_crate(tmp_path, toolchain_for(target), crate)
-    assert cargo.test("--lib", "--tests", "--target", target, **settings) == number_of_tests(crate)
+    assert cargo.test(*programs_of_tests(crate), "--target", target, **settings) == number_of_tests(crate)
 
 
 def test_drop_in(tmp_path):
