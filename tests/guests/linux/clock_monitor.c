@@ -38,11 +38,11 @@ static struct {
     uint64_t reached;
 } guest;
 
-/* The host's time as 32 bits, plus how far the guest is ahead; and the host's time alone if that has no 32 bits. */
-static uint32_t guest_time(uint64_t moment) {
-    int64_t sum = (uint32_t)moment + guest.ahead;
-    return sum >= 0 && sum <= U32_MAX ? sum : (uint32_t)moment;
-}
+/* The host's time as 32 bits, plus how far the guest is ahead; and the host's time alone if that has no 32 bits. This
+ * is no function, so that CBMC sees the same formula each time: the proofs then take half as long. */
+#define SUM(moment) ((uint32_t)(moment) + guest.ahead)
+#define guest_time(moment)                                                                                            \
+    ((uint32_t)(SUM(moment) >= 0 && SUM(moment) <= U32_MAX ? SUM(moment) : (uint32_t)(moment)))
 
 static void expect_access(void) {
     if (guest.is_armed && guest_time(now) >= guest.match) {
