@@ -84,19 +84,21 @@ def port_code(has_level, faults):
 
 class Driver(NamedTuple):
     """A driver in a folder, by its own text, with the folder of its harness and what a compiler of C has to be told. The
-    driver is compiled once for all monitors, and each monitor once."""
+    driver is compiled once for all monitors, and each monitor once: for this driver, or for all that share a folder of
+    monitors."""
     folder: Path
     harness: Path
     words: list
     proof: list        # what CBMC has to be told beside it
     files: tuple = ()  # of C, beside each program of the harness
+    monitors: Path | None = None  # the folder that it shares
 
     def driver_object(self, compiler, file, *options):
         return compiled_once(compiler, file, self.folder / f"{file.stem}{''.join(options)}", *options, f"-I{self.folder}",
                              f"-I{self.folder}/include", f"-I{self.harness}", f"-I{ROOT}/bindings/c", *self.words)
 
     def monitor_object(self, compiler, monitor):
-        folder = self.folder / monitor.name
+        folder = (self.monitors or self.folder) / monitor.name
         folder.mkdir(exist_ok=True)
         (folder / "port.c").write_text(monitor.text(), encoding="utf-8")
         return compiled_once(compiler, HERE / "monitor" / "monitor.c", folder / "monitor", f"-I{folder}",

@@ -23,16 +23,21 @@ EDGES, LEVELS = False, True
 
 
 @pytest.fixture(scope="module")
-def driver(tmp_path_factory):
-    return linux_driver.write(tmp_path_factory.mktemp("linux"))
+def monitors(tmp_path_factory):
+    return tmp_path_factory.mktemp("monitors")
+
+
+@pytest.fixture(scope="module")
+def driver(tmp_path_factory, monitors):
+    return linux_driver.write(tmp_path_factory.mktemp("linux"))._replace(monitors=monitors)
 
 
 @pytest.fixture(scope="module", params=[
     pytest.param(name, marks=pytest.mark.where(f"version of Linux {name[6:]} with sums in tests/guests"))
     for name in ("linux-5.10", "linux-6.12")])
-def other_driver(request, tmp_path_factory):
+def other_driver(request, tmp_path_factory, monitors):
     """Linux of Debian 11 and of Debian 13."""
-    return linux_driver.write(tmp_path_factory.mktemp("linux"), request.param)
+    return linux_driver.write(tmp_path_factory.mktemp("linux"), request.param)._replace(monitors=monitors)
 
 
 def stalls(driver, monitor, most=EXCHANGES):

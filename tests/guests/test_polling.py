@@ -21,8 +21,10 @@ EDGES, LEVELS = False, True
 
 @pytest.fixture(scope="module")
 def written(tmp_path_factory):
-    """Writes a driver once."""
-    return lru_cache(maxsize=None)(lambda name: polling_drivers.write(name, tmp_path_factory.mktemp(name)))
+    """Writes a driver once. All of them have the same monitors."""
+    monitors = tmp_path_factory.mktemp("monitors")
+    return lru_cache(maxsize=None)(
+        lambda name: polling_drivers.write(name, tmp_path_factory.mktemp(name))._replace(monitors=monitors))
 
 
 # SeaBIOS's console loses input by itself.
