@@ -20,7 +20,7 @@ from contextlib import suppress
 import pytest
 from documents import Document
 from harness import LIMIT, ROOT, at_least, check, run
-from hosts import build_over_host
+from hosts import build_edited, build_over_host, compile_for_edits
 from monitors import HERE, WRAPPED, build_monitor, rust_port
 from places import is_place
 
@@ -56,6 +56,14 @@ def over_host(tmp_path_factory, request):
     folder = tmp_path_factory.mktemp("host")
     build_over_host(folder, rust_port(folder / "target") if request.param == "Rust" else "serial.c")
     (folder / "image").write_bytes(b"\xF4")
+    return folder
+
+
+@pytest.fixture(scope="module")
+def compiled(tmp_path_factory):
+    """The folder of what an edit leaves of the monitor over host.c."""
+    folder = tmp_path_factory.mktemp("compiled")
+    compile_for_edits(folder)
     return folder
 
 
@@ -120,10 +128,10 @@ BROKEN = {
 
 
 @pytest.mark.parametrize("fault", BROKEN)
-def test_a_broken_rule_is_seen(fault, tmp_path):
+def test_a_broken_rule_is_seen(fault, compiled, tmp_path):
     """So host.c notices it in a script, where the replies of the guest's port would not differ, and no lock is waited for
     without end. That is host.c's work, and not the sanitizers'."""
-    build_over_host(tmp_path, edits=[BROKEN[fault]], with_sanitizers=False)
+    build_edited(tmp_path, compiled, BROKEN[fault])
     (tmp_path / "image").write_bytes(b"\xF4")
     assert any(fault in seen_of(tmp_path, script, limit=30) for script in SCRIPTS)
 
@@ -158,11 +166,10 @@ def test_at_any_moment(over_host):
     check_moments(over_host)
 
 
-def test_a_wake_up_that_is_lost_is_seen(tmp_path):
+def test_a_wake_up_that_is_lost_is_seen(compiled, tmp_path):
     """A loop that also takes wake-ups after its turn forgets what came in between."""
     wait = "        if (poll(files, 4"
-    build_over_host(tmp_path, edits=[("main.c", wait, f"        eventfd_read(wakes, &(eventfd_t){{0}});\n{wait}")],
-                    with_sanitizers=False)
+    build_edited(tmp_path, compiled, ("main.c", wait, f"        eventfd_read(wakes, &(eventfd_t){{0}});\n{wait}"))
     (tmp_path / "image").write_bytes(b"\xF4")
     with pytest.raises(AssertionError):
         check_moments(tmp_path)
@@ -300,12 +307,11 @@ int main(void) {
 
 def test_who_is_held(tmp_path):
     """A guest that is held would keep a monitor that is to end, and one whose reader is stuck is held once."""
-    build_monitor("kvm", tmp_path)
     (tmp_path / "holds.c").write_text(HOLDS, "ascii")
-    others = [path for path in tmp_path.glob("*.c") if path.name not in ("main.c", "holds.c")]
+    others = [path for path in KVM.glob("*.c") if path.name != "main.c"]
     library = ROOT / "prebuilt" / "x86_64-linux" / "libsuperio_c.a"
-    check(["cc", "-std=c11", "-D_GNU_SOURCE", "-I", ROOT / "bindings/c", "holds.c", *others, library, "-pthread",
-           "-Wl,--wrap=pthread_cond_clockwait", "-o", "holds"], "", cwd=tmp_path)
+    check(["cc", "-std=c11", "-D_GNU_SOURCE", "-I", ROOT / "bindings/c", "-I", KVM, "holds.c", *others, library,
+           "-pthread", "-Wl,--wrap=pthread_cond_clockwait", "-o", "holds"], "", cwd=tmp_path)
     check([tmp_path / "holds"], "")
 
 
