@@ -188,7 +188,8 @@ class Console:
 
 def in_ring(ring, head, count):
     """The bytes of a ring, the oldest first."""
-    return bytes(ring[(head + place) % len(ring)] for place in range(min(count, len(ring))))
+    start = head % len(ring)
+    return (ring + ring)[start:start + min(count, len(ring))]
 
 
 # ---- random calls

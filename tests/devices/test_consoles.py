@@ -118,6 +118,11 @@ def differences(rows):
             yield f"{call} = {expected}\ngot: {got}"
 
 
+@pytest.fixture(scope="module")
+def random_rows():
+    return random_runs(seeds("consoles", RUNS)).splitlines()
+
+
 @pytest.fixture(params=["prebuilt", pytest.param("source", marks=pytest.mark.needs("cargo", "cc"))])
 def over_library(request, monkeypatch):
     monkeypatch.setenv(VARIABLE, request.getfixturevalue(f"{request.param}_library")._name)
@@ -129,13 +134,12 @@ def test_calls_by_hand(over_library):
     assert not [*differences(BY_HAND)][:3]
 
 
-def test_random_calls(over_library):
-    assert not [*differences(random_runs(seeds("consoles", RUNS)).splitlines())][:3]
+def test_random_calls(over_library, random_rows):
+    assert not [*differences(random_rows)][:3]
 
 
-def test_each_call_is_made():
-    calls = {row[:2] for row in random_runs(seeds("consoles", RUNS)).splitlines()}
-    assert calls == {name for name in vars(Made) if len(name) == 2}
+def test_each_call_is_made(random_rows):
+    assert {row[:2] for row in random_rows} == {name for name in vars(Made) if len(name) == 2}
 
 
 def end_of(row):

@@ -1,6 +1,7 @@
 # SPDX-License-Identifier: Apache-2.0 OR BSD-3-Clause
 """The recorded calls of tests/data/calls over the Python package, and every answer in every state."""
 import re
+from functools import cache
 
 import pytest
 from harness import at_least
@@ -10,15 +11,22 @@ from superio import Board, Command, Rtc, RtcState, Serial, SerialState
 from superio.board import Counts
 
 
+@cache   # many calls come again and again
+def parts_of(call):
+    """The name of a call, its fields, and which calls of the line are refused."""
+    line, words = re.fullmatch("(.*?)((?: [12nfiu])*)", call).groups()
+    name, *fields = line.split(" ")
+    return name, fields, ("1" in words) + 2 * ("2" in words)
+
+
 class Devices(Board):
     """A board for recorded calls. Methods with the name of a call make those that no line of a script makes, or that it
     makes or shows otherwise."""
 
     def make(self, call):
         """The reply of a call, and the calls of objects. The words `1` and `2` after it refuse those of the line."""
-        line, words = re.fullmatch("(.*?)((?: [12nfiu])*)", call).groups()
-        name, *fields = line.split(" ")
-        self.mask, self.calls, self._answers = ("1" in words) + 2 * ("2" in words), 0, []
+        name, fields, self.mask = parts_of(call)
+        self.calls, self._answers = 0, []
         self.output, self.counts = bytearray(), Counts()
         own = getattr(self, name, None)
         reply = own(*fields) if own else self.reply(Command(name, tuple(int(field, 16) for field in fields)))
@@ -65,6 +73,7 @@ class Devices(Board):
         return self.cs()
 
 
+@cache
 def of_device(reply):
     """What of a reply a device decides: whether a byte is written, and not what becomes of it."""
     return re.sub(r" W\w\w(?= W)| [Flo]\b", "", reply).replace("io", "ok")

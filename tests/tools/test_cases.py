@@ -25,9 +25,14 @@ from seeds import random_source, seeds
 FILES = at_least(7, sorted([*TESTS.glob("*.txt"), *TESTS.glob("*.xz"), *FURTHER_TESTS.glob("*.txt")]))
 
 
+@cache
+def loads():
+    return [*every_load()]
+
+
 def test_loads():
     """Each state is loaded as a port and as a clock, and saved after it. Each call is in a script, in order."""
-    calls = [*every_load()]
+    calls = loads()
     kinds = "load", "save", "clock_load", "clock_save"
     assert [call[0] for call in calls] == [*kinds] * (len(calls) // 4) and len(calls) > 60_000
     assert all(load[1] == clock[1] for load, clock in zip(calls[::4], calls[2::4]))
@@ -106,11 +111,10 @@ def faults_of(device):
 
 def test_loads_have_each_reply():
     """Of a port and of a clock: no fault, and each that there may be."""
-    calls = [*every_load()]   # of fewer, one of the replies might be missing
-    loads = [call for call in calls if call[0] in ("load", "clock_load")]
-    replies = replies_of(Board(model), loads)
+    calls = [call for call in loads() if call[0] in ("load", "clock_load")]   # of fewer, a reply might be missing
+    replies = replies_of(Board(model), calls)
     for name, device in ("load", "serial"), ("clock_load", "clock"):
-        found = {re.sub("(version) ..", r"\1", reply) for call, reply in zip(loads, replies) if call[0] == name}
+        found = {re.sub("(version) ..", r"\1", reply) for call, reply in zip(calls, replies) if call[0] == name}
         assert found == faults_of(device), name
 
 
