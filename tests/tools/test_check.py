@@ -240,6 +240,10 @@ def test_pytest_is_missing(machine):
     status, said, called = machine.run("tools/check", "--no-install")
     assert status == 1 and "install python3-pytest python3-pytest-xdist python3-hypothesis, or" in said
     assert len(called) == 3
+    machine.stand_in("apt-get", f"{STAND_INS['apt-get']}\n: > {machine.stubs}/xdist.py")
+    status, said, called = machine.run("tools/check")
+    assert (status, said.splitlines()[-1]) == (0, PASSED), "it is looked for again once it is installed"
+    assert installs(called)[-1].endswith(" install python3-hypothesis python3-pytest python3-pytest-xdist")
 
 
 @pytest.mark.parametrize("tool, command, package", [("tools/check", "cargo", "cargo"), (".ci/run", "coqc", "coq"),
