@@ -145,12 +145,17 @@ def load_scripts():
 
 
 def made_scripts(what, number):
-    """So many random scripts for a board that has the further lines, and a fifth of that for one that refuses them,
-    half of these without any such line. Each commit has others."""
+    """So many random scripts for a board that has the further lines, and a fifth of that for one that refuses them.
+    Each commit has others."""
     for seed in seeds(what, number):
         script = random_script(random.Random(seed))
         yield BoardScript(seed, script, False, *run_script(script))
-    for seed in seeds(f"{what} as the program", number // 5):
+    yield from refusing_scripts(what, number // 5)
+
+
+def refusing_scripts(what, number):
+    """So many for a board that refuses the further lines, half of them without any such line."""
+    for seed in seeds(f"{what} as the program", number):
         source = random.Random(seed)
         script = random_script(source, is_for_program=source.random() < 0.5)
         yield BoardScript(seed, script, True, *run_script(script, is_for_program=True))

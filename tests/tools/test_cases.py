@@ -19,7 +19,7 @@ from made import (CLOCK, CLOCK_CONTENTS, CLOCK_FIELDS, SHOWN, any_call, broken_l
 from recorded import Recorder, every_answer, random_recorded, read, recordings, rows_of
 from script import BYTES, FURTHER_LINES, LINES, call_of, replies_of
 from script_tests import (FURTHER_TESTS, TESTS, Script, board_scripts, kept_scripts, load_scripts, made_scripts,
-                          refused_scripts, scripts_of)
+                          refused_scripts, refusing_scripts, scripts_of)
 from seeds import random_source, seeds
 
 FILES = at_least(7, sorted([*TESTS.glob("*.txt"), *TESTS.glob("*.xz"), *FURTHER_TESTS.glob("*.txt")]))
@@ -45,13 +45,14 @@ def test_made_scripts(count):
     made = [*made_scripts("cases", count)]
     assert [test.is_for_program for test in made] == [False] * count + [True] * (count // 5)
     assert [test.place for test in made] == [*seeds("cases", count), *seeds("cases as the program", count // 5)]
+    assert made[count:] == [*refusing_scripts("cases", count // 5)]
     assert len({test.script for test in made}) == len(made)
     assert len(random_recorded(seeds("cases", count))) == len(seeds("cases", count)) == count
 
 
 def test_kinds_of_made_scripts():
     """Half of those for a board that refuses the further lines have one."""
-    made = [test.script for test in made_scripts("cases", 1_000) if test.is_for_program]
+    made = [test.script for test in refusing_scripts("cases", 200)]
     further = sum(any(line[:2] in FURTHER_LINES for line in script.splitlines()) for script in made)
     assert 50 < further < 150
 
