@@ -9,10 +9,11 @@ from itertools import groupby
 from os.path import commonprefix
 from typing import NamedTuple
 
+from board import Board
 from documents import documents
 from harness import ROOT
 from made import every_load, random_script
-from script import FURTHER_LINES, LINES, run_script, script_of, syntax_of
+from script import FURTHER_LINES, LINES, replies_of, run_script, script_of, syntax_of
 from seeds import seeds
 from superio.recording import entries_of
 
@@ -138,10 +139,10 @@ def kept_scripts():
 
 def load_scripts():
     """Loads of any bytes."""
-    calls = [*every_load()]
-    for place in range(0, len(calls), LOADS):
-        script = script_of(calls[place:place + LOADS])
-        yield BoardScript(f"load {place}", script, False, *run_script(script))
+    every_call = [*every_load()]
+    for place in range(0, len(every_call), LOADS):
+        calls = every_call[place:place + LOADS]
+        yield BoardScript(f"load {place}", script_of(calls), False, replies_of(Board(), calls), "")
 
 
 def made_scripts(what, number):
