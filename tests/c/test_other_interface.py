@@ -1,5 +1,6 @@
 # SPDX-License-Identifier: Apache-2.0 OR BSD-3-Clause
 """Each program to copy ends at once over a library of another binary interface."""
+import os
 import platform
 import shutil
 import signal
@@ -11,18 +12,30 @@ from harness import ROOT, check, run
 
 pytestmark = pytest.mark.needs("cc", "make")
 
-# The linker has this answer for the library, of an older or a newer one.
-OTHER = """#include <superio.h>
+NUMBERS = ["SUPERIO_ABI - 1", "SUPERIO_ABI + 1", "0", "UINT32_MAX"]
+# The linker has this answer for the library, of an older or a newer one. A program is built once for all numbers, and
+# PLACE says which one is told.
+OTHER = f"""#include <stdlib.h>
+#include <superio.h>
 uint32_t __wrap_superio_abi(void);
-uint32_t __wrap_superio_abi(void) {{ return {}; }}
+uint32_t __wrap_superio_abi(void) {{
+    static const uint32_t NUMBERS[] = {{{", ".join(NUMBERS)}}};
+    return NUMBERS[atoi(getenv("PLACE"))];
+}}
 """
 
 
-@pytest.fixture(params=["SUPERIO_ABI - 1", "SUPERIO_ABI + 1", "0", "UINT32_MAX"])
-def compiler(request, tmp_path):
+@pytest.fixture(scope="module")
+def compiler(tmp_path_factory):
     """A compiler whose programs find another number in the library."""
-    (tmp_path / "other.c").write_text(OTHER.format(request.param), encoding="ascii")
-    return ["cc", "-I", ROOT / "bindings/c", tmp_path / "other.c", "-Wl,--wrap=superio_abi"]
+    folder = tmp_path_factory.mktemp("other")
+    (folder / "other.c").write_text(OTHER, encoding="ascii")
+    return ["cc", "-I", ROOT / "bindings/c", folder / "other.c", "-Wl,--wrap=superio_abi"]
+
+
+@pytest.fixture(params=range(len(NUMBERS)), ids=NUMBERS)
+def environment(request):
+    return {**os.environ, "PLACE": str(request.param)}
 
 
 SAID = "the library has another interface than the header\n"
@@ -41,18 +54,31 @@ def test_every_program_to_copy():
     assert sorted(found) == sorted([*PROGRAMS, "examples/kvm/main.c"])
 
 
-@pytest.mark.parametrize("path", PROGRAMS)
-def test_program_to_copy(compiler, path, tmp_path):
-    library, program = PREBUILT / f"{platform.machine()}-linux" / STATIC, tmp_path / Path(path).stem
-    check([*compiler, ROOT / path, library, "-o", program], "")
-    ran = run([program], input="a line, after which a program ends that runs\n")
+@pytest.fixture(scope="module")
+def program_to_copy(request, compiler, tmp_path_factory):
+    """The path of a program, and what it is built to."""
+    library = PREBUILT / f"{platform.machine()}-linux" / STATIC
+    program = tmp_path_factory.mktemp("program") / Path(request.param).stem
+    check([*compiler, ROOT / request.param, library, "-o", program], "")
+    return request.param, program
+
+
+@pytest.mark.parametrize("program_to_copy", PROGRAMS, indirect=True)
+def test_program_to_copy(environment, program_to_copy):
+    path, program = program_to_copy
+    ran = run([program], input="a line, after which a program ends that runs\n", env=environment)
     assert (ran.returncode, ran.stdout) == PROGRAMS[path]
 
 
-@pytest.mark.where("Linux on x86-64")
-def test_monitor_for_kvm(compiler, tmp_path):
-    folder = tmp_path / "kvm"
+@pytest.fixture(scope="module")
+def monitor_for_kvm(compiler, tmp_path_factory):
+    folder = tmp_path_factory.mktemp("monitor") / "kvm"
     shutil.copytree(ROOT / "examples" / "kvm", folder, ignore=shutil.ignore_patterns("monitor"))
     check(["make", "-s", "-C", folder, f"ROOT={ROOT}", f"CC={' '.join(map(str, compiler))}"], "")
-    ran = run([folder / "monitor", "image"])
+    return folder / "monitor"
+
+
+@pytest.mark.where("Linux on x86-64")
+def test_monitor_for_kvm(environment, monitor_for_kvm):
+    ran = run([monitor_for_kvm, "image"], env=environment)
     assert (ran.returncode, ran.stdout) == (1, f"monitor: {SAID}")
