@@ -103,57 +103,66 @@ PREBUILT, SOURCE = at_least(5, cases("x86_64", "aarch64")), at_least(6, cases(HO
 needs_make, needs_cargo = pytest.mark.needs("make"), pytest.mark.needs("cargo", "make")
 
 
-def replay(compiler, processor, library, calls, folder):
+@pytest.fixture(scope="session")
+def kept(tmp_path_factory):
+    """Gives a folder for what a compiler makes of the programs, which are then linked with one library and the other."""
+    return cache(lambda compiler: tmp_path_factory.mktemp("kept"))
+
+
+@pytest.fixture
+def words(compiler, processor, kept, tmp_path):
+    """Gives the words of `make` that build programs with a library, and run them."""
+    def words(library, *goals):
+        return make_words(compiler, processor, library, tmp_path, f"KEPT={kept(compiler)}", *goals)
+    return words
+
+
+def replay(words, library, calls):
     path, number = calls
-    check(make_words(compiler, processor, library, folder, "calls", f"CALLS={path}"),
-          f"{number} calls did the same, 0 did not\n")
+    check(words(library, "calls", f"CALLS={path}"), f"{number} calls did the same, 0 did not\n")
 
 
-def call_each(compiler, processor, library, each, folder):
+def call_each(words, processor, library, each, folder):
     path, number, too_large = each
     passed_over = too_large if processor in WORDS_OF_32_BITS else 0
     (folder / "functions.h").write_text(functions_in_c(), "ascii")
-    check(make_words(compiler, processor, library, folder, "functions", f"EACH={path}"),
+    check(words(library, "functions", f"EACH={path}"),
           f"{number - passed_over} calls did the same, 0 did not, {passed_over} have a number that is too large\n")
 
 
-def exchange(compiler, processor, library, folder):
-    said = check(make_words(compiler, processor, library, folder, "exchanges", f"SEED={seed()}"))
-    assert sum(map(int, re.findall(r"^\d+ of (\d+) exchanges stalled: ", said, re.M))) >= 30_000
-
-
-def make_worlds(compiler, processor, library, folder):
-    check(make_words(compiler, processor, library, folder, "worlds", f"SEED={seed()}"), "2000 worlds came to rest\n")
+def make_worlds(words, library):
+    check(words(library, "worlds", f"SEED={seed()}"), "2000 worlds came to rest\n")
 
 
 @needs_make
 @pytest.mark.parametrize("compiler, processor", PREBUILT)
-def test_calls(compiler, processor, calls, tmp_path):
-    replay(compiler, processor, prebuilt(processor), calls, tmp_path)
+def test_calls(words, processor, calls):
+    replay(words, prebuilt(processor), calls)
 
 
 @needs_make
 @pytest.mark.parametrize("compiler, processor", PREBUILT)
-def test_each_function(compiler, processor, each, tmp_path):
-    call_each(compiler, processor, prebuilt(processor), each, tmp_path)
+def test_each_function(words, processor, each, tmp_path):
+    call_each(words, processor, prebuilt(processor), each, tmp_path)
 
 
 @needs_make
 @pytest.mark.parametrize("compiler, processor", in_c(PREBUILT))
-def test_examples(compiler, processor, tmp_path):
-    check(make_words(compiler, processor, prebuilt(processor), tmp_path, "examples"))
+def test_examples(words, processor):
+    check(words(prebuilt(processor), "examples"))
 
 
 @needs_make
 @pytest.mark.parametrize("compiler, processor", in_c(cases(HOST)))
-def test_exchanges(compiler, processor, tmp_path):
-    exchange(compiler, processor, prebuilt(processor), tmp_path)
+def test_exchanges(words, processor):
+    said = check(words(prebuilt(processor), "exchanges", f"SEED={seed()}"))
+    assert sum(map(int, re.findall(r"^\d+ of (\d+) exchanges stalled: ", said, re.M))) >= 30_000
 
 
 @needs_make
 @pytest.mark.parametrize("compiler, processor", in_c(cases(HOST)))
-def test_worlds(compiler, processor, tmp_path):
-    make_worlds(compiler, processor, prebuilt(processor), tmp_path)
+def test_worlds(words, processor):
+    make_worlds(words, prebuilt(processor))
 
 
 # Threads that meet often: a loop that waits goes round all the time, and who wakes it does so late. An eventfd orders
@@ -191,26 +200,26 @@ def test_threads_of_examples_by_gcc(tmp_path):
 
 @needs_cargo
 @pytest.mark.parametrize("compiler, processor", SOURCE)
-def test_calls_from_source(compiler, processor, calls, from_source, tmp_path):
-    replay(compiler, processor, from_source(processor), calls, tmp_path)
+def test_calls_from_source(words, processor, calls, from_source):
+    replay(words, from_source(processor), calls)
 
 
 @needs_cargo
 @pytest.mark.parametrize("compiler, processor", SOURCE)
-def test_each_function_from_source(compiler, processor, each, from_source, tmp_path):
-    call_each(compiler, processor, from_source(processor), each, tmp_path)
+def test_each_function_from_source(words, processor, each, from_source, tmp_path):
+    call_each(words, processor, from_source(processor), each, tmp_path)
 
 
 @needs_cargo
 @pytest.mark.parametrize("compiler, processor", in_c(SOURCE))
-def test_examples_from_source(compiler, processor, from_source, tmp_path):
-    check(make_words(compiler, processor, from_source(processor), tmp_path, "examples"))
+def test_examples_from_source(words, processor, from_source):
+    check(words(from_source(processor), "examples"))
 
 
 @needs_cargo
 @pytest.mark.parametrize("compiler, processor", in_c(SOURCE))
-def test_worlds_from_source(compiler, processor, from_source, tmp_path):
-    make_worlds(compiler, processor, from_source(processor), tmp_path)
+def test_worlds_from_source(words, processor, from_source):
+    make_worlds(words, from_source(processor))
 
 
 # What a program prints in place of one that tests/c/Makefile runs. The one that ENDS names ends badly after it, and the
