@@ -4,8 +4,9 @@
 Each fenced `sh` block is run by bash with an empty environment and a new home, with the programs of /usr/bin alone, and
 with those beside `rt` if a command is of KIT. It has to succeed, and to print what a `text` block after it shows, if
 there is one before a heading; what follows a prompt there, such as `superio> `, is its input. What takes long is
-shortened: `tools/check` and `tools/recheck` print their help, `tools/generate` takes its steps of a second, and pytest
-only collects. tests/recheck runs the second as a new user does.
+shortened: `tools/check` and `tools/recheck` print their help, `tools/generate` takes its steps of a second, pytest only
+collects, and an environment of Python has Debian's pip instead of its own. tests/recheck runs the second as a new user
+does. A shortened command of pytest or `tools/check` that several documents have runs once.
 
 The steps of RATTLE.md are carried out beside a link to this repository, with the file that it shows, up to a proved
 claim. This proves the libraries first, in minutes, unless `rt` proved them here.
@@ -31,7 +32,11 @@ PROMPT = re.compile(r"\w+> ")
 # At a terminal `./shell` is the shell. Here what is typed comes from a pipe.
 SHORTER = [(r"^\./shell$", "./shell --shell"), (r"^tools/((?:re)?check\b[^#\n]*)", r"tools/\1 --help "),
            (r"^tools/generate$", "tools/generate facts rust interface page"),
-           (r"^(python3 -m pytest)\b", r"\1 --collect-only -q --assert=plain")]
+           (r"^(python3 -m pytest)\b", r"\1 --collect-only -q --assert=plain"),
+           (r"^(python3 -m venv) (--system-site-packages (\S+).*\n)\3/bin/pip ",
+            r"\1 --without-pip \2\3/bin/python3 -m pip ")]
+# A shortened command that changes nothing, so that it does the same in each copy.
+CHANGES_NOTHING = re.compile(r"^(?:tools/check [^#\n]*--help|python3 -m pytest --collect-only [^#\n]*)", re.M)
 BUILT = "crates/superio/out/superio"
 
 
@@ -61,21 +66,29 @@ def cases():
                                    marks=pytest.mark.needs(*sorted(tools), *["kit"] * is_for_kit))
 
 
-def paste(folder, where, commands, typed, printed):
+@pytest.fixture(scope="module")
+def passed():
+    """The commands that change nothing, and have succeeded in a copy."""
+    return []
+
+
+def paste(folder, where, commands, typed, printed, passed):
     """Pastes commands into a folder. They do what their document says, and nothing asks a network."""
     assert "apt-get" not in commands, f"{where}: this needs a network, and fails while another apt-get runs"
     kit = [os.path.dirname(shutil.which("rt"))] if KIT.search(commands) else []
     for form, shorter in SHORTER:
         commands = re.sub(form, shorter, commands, flags=re.M)
+    commands = CHANGES_NOTHING.sub(lambda found: "" if found[0].split() in passed else found[0], commands)
     environment = {"HOME": str(folder.parent), "PATH": ":".join([*kit, "/usr/bin", "/bin"]), "PIP_NO_INDEX": "1",
                    "CARGO_NET_OFFLINE": "true"}
     ran = run(["/bin/bash", "-e", "-c", commands], cwd=folder, input=typed, env=environment)
     assert ran.returncode == 0 and "Traceback" not in ran.stdout, f"{where}: status {ran.returncode}\n{ran.stdout}"
     assert printed in ran.stdout, f"{where} printed:\n{ran.stdout}"
+    passed += [found.split() for found in CHANGES_NOTHING.findall(commands)]
 
 
 @pytest.mark.parametrize("blocks", at_least(9, cases()))
-def test_document(blocks, tmp_path):
+def test_document(blocks, passed, tmp_path):
     """A block finds what those before it left."""
     top = tmp_path / "fimolavand"
     copy_repository(top)
@@ -83,7 +96,7 @@ def test_document(blocks, tmp_path):
         (top / BUILT).parent.mkdir()
         shutil.copy(ROOT / BUILT, top / BUILT)
     for block in blocks:
-        paste(top, *block)
+        paste(top, *block, passed)
 
 
 @pytest.mark.needs("kit")
@@ -98,4 +111,4 @@ def test_first_crate(tmp_path):
     (tmp_path / "fimolavand").symlink_to(ROOT)
     (own / "own.rt").write_text("\n".join([*claim, ""]), encoding="utf-8")
     with alone():
-        paste(own, where, "\n".join(steps), typed, printed)
+        paste(own, where, "\n".join(steps), typed, printed, [])
