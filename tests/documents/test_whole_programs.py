@@ -115,6 +115,8 @@ TAKEN_ELSEWHERE = {
 }
 # What is no code: test_paste.py runs commands, and other tests compare what is printed.
 NO_CODE = {"console", "sh", "text"}
+# Of a program in C whose functions are called without its `main`. What only that calls is not even compiled.
+WITHOUT_MAIN = ("int main(", "__attribute__((unused)) static int main_of_the_page(")
 PAGES = ["README.md", *sorted(f"docs/{path.name}" for path in (ROOT / "docs").glob("*.md"))]
 
 
@@ -444,7 +446,7 @@ OTHER_ACCESSES = at_least(8, [
 
 def accesses(line, program, folder):
     """What accesses.c says of the accesses of a program."""
-    program = program.replace("int main(", "int main_of_the_page(")
+    program = program.replace(*WITHOUT_MAIN)
     assert (line == "levels") == (SET_LINE in program)
     program = program.replace(SET_LINE, SET_BOTH)
     program += (ROOT / "tests/documents/accesses.c").read_text(encoding="utf-8")
@@ -516,7 +518,7 @@ MACHINE = WITH_FILES["machine"]
 def clock(machine, folder):
     """What clock.c says of a file machine.c."""
     program = (ROOT / "tests/documents/clock.c").read_text(encoding="utf-8")
-    machine = edited(machine, [("int main(", "int main_of_the_page("),
+    machine = edited(machine, [WITHOUT_MAIN,
                                ("static void set_clock_line(", "static void set_clock_line_of_the_page(")])
     calls = at_least(14, sorted({*re.findall(r"\b(superio_\w+)\(&machine->", machine)}))
     calls = "".join(f"#define {call}(...) (need_lock(), {call}(__VA_ARGS__))\n" for call in calls)
@@ -597,7 +599,7 @@ OTHER_CLOCKS_THAT_FOLLOW = at_least(4, [
 def clock_that_follows(folder, *edits):
     """What clock_follows.c says of the machine."""
     program = (ROOT / "tests/documents/clock_follows.c").read_text(encoding="utf-8")
-    machine = edited(machine_that_follows(), [("int main(", "int main_of_the_page("), *edits])
+    machine = edited(machine_that_follows(), [WITHOUT_MAIN, *edits])
     compile_c(folder, "clock", edited(program, [("MACHINE\n\n", machine)]), LIBRARY, "-pthread", "-o", "clock")
     return run([folder / "clock"]).stdout
 
@@ -648,7 +650,7 @@ OTHER_EXITS = at_least(18, [
 def exits(handler, folder):
     """What exits.c says of a handler of exits."""
     program = (ROOT / "tests/documents/exits.c").read_text(encoding="utf-8")
-    machine = edited(MACHINE, [("int main(", "int main_of_the_page(")])
+    machine = edited(MACHINE, [WITHOUT_MAIN])
     compile_c(folder, "exits", edited(program, [("MACHINE\n\n", machine), ("HANDLER\n\n", handler)]), LIBRARY,
               "-pthread", "-o", "exits")
     return run([folder / "exits"]).stdout
