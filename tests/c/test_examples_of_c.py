@@ -9,6 +9,7 @@ import platform
 import re
 import subprocess
 import time
+from concurrent.futures import ThreadPoolExecutor
 
 import pytest
 from builds import run_rules
@@ -85,16 +86,23 @@ ssize_t __wrap_write(int file, const void *bytes, size_t count) {
 """
 
 
+def ran_at_once(commands):
+    """What becomes of programs, by their cases. A machine waits for two seconds until its alarm goes off."""
+    with ThreadPoolExecutor(len(commands)) as pool:
+        return dict(zip(commands, pool.map(lambda options: run(**options), commands.values())))
+
+
 @pytest.fixture(scope="module")
 def spoilt(tmp_path_factory):
-    """A folder with the programs, which spoil the read that PLACE names."""
+    """What becomes of the programs, which spoil the read that PLACE names."""
     folder = tmp_path_factory.mktemp("spoilt")
     for name, (device, *_) in PROGRAMS.items():
         (folder / f"{name}.c").write_text(SPOILT.format(device), encoding="ascii")
         check(["cc", "-I", ROOT / "bindings/c", folder / f"{name}.c", ROOT / f"examples/c/{name}.c",
                PREBUILT / f"{platform.machine()}-linux" / STATIC, f"-Wl,--wrap=superio_{device}_read", "-pthread",
                "-o", folder / name], "")
-    return folder
+    return ran_at_once({(name, place): {"command": [folder / name], "env": {**os.environ, "PLACE": f"{place}"},
+                                        "input": TYPED} for name, place in CASES})
 
 
 @pytest.mark.parametrize("name, place", CASES)
@@ -102,7 +110,7 @@ def test_another_byte_is_noticed(spoilt, name, place):
     *_, said = PROGRAMS[name]
     other = chr(ord("x") ^ 1 << place % 8)
     said = said or f"{TYPED[:place - 1]}{other}{TYPED[place:]}".upper()
-    ran = run([spoilt / name], env={**os.environ, "PLACE": f"{place}"}, input=TYPED)
+    ran = spoilt[name, place]
     assert ran.returncode == 0 and said in ran.stdout, ran.stdout
 
 
@@ -150,10 +158,17 @@ def test_locks_of_a_machine(locks):
     check([locks], (ROOT / "examples/c/expected").read_text("ascii"), input="hello\n")
 
 
+@pytest.fixture(scope="module")
+def without_one_lock(locks):
+    """What becomes of the machine without each of the calls."""
+    return ran_at_once({number: {"command": [locks, number], "input": "hello\n"}
+                        for number in range(len(CALLS_OF_LOCKS))})
+
+
 @pytest.mark.parametrize("number", range(len(CALLS_OF_LOCKS)), ids=lambda number: f"{number} {CALLS_OF_LOCKS[number]}")
-def test_a_machine_without_one_lock(locks, number):
+def test_a_machine_without_one_lock(without_one_lock, number):
     """Whichever call takes a lock, and releases it after that, or only releases it."""
-    ran = run([locks, number], input="hello\n")
+    ran = without_one_lock[number]
     assert ran.returncode == 1 and "may not do this" in ran.stdout, ran.stdout
 
 
