@@ -79,8 +79,7 @@ def _run(arguments: List[str], name: str) -> int:
         view(options.trace, options.table, options.svg)
         return 0
     options = _parser(name).parse_args(arguments)
-    is_typed = sys.stdin is not None and sys.stdin.isatty()
-    path = options.file or ("" if is_typed else "-")
+    path = options.file or ("" if sys.stdin.isatty() else "-")
     if path and not options.shell:
         return _run_program(path)
     sys.stdout.reconfigure(line_buffering=True)  # type: ignore[union-attr]  # each reply goes out at once
@@ -88,22 +87,28 @@ def _run(arguments: List[str], name: str) -> int:
     return 0
 
 
+def _fill_closed() -> None:
+    """Puts a file that fails in the place of each standard file that is closed. Else what goes to standard error would
+    be among the replies, and the next file that is opened would have the number of the closed one."""
+    for file, flags, mode in (("stdin", os.O_WRONLY, "r"), ("stdout", os.O_RDONLY, "w"), ("stderr", os.O_WRONLY, "w")):
+        if getattr(sys, file) is None:
+            setattr(sys, file, open(os.open(os.devnull, flags), mode, encoding="utf-8", closefd=False))
+
+
 def main(arguments: List[str], name: str = "python3 -m superio") -> int:
     """Runs the command line of a command that was called by this name. Returns the exit status."""
-    if sys.stdin is not None:
-        sys.stdin.reconfigure(errors="surrogateescape")  # type: ignore[union-attr]  # also takes what is not UTF-8
-    if sys.stdout is not None:  # which is closed otherwise
-        sys.stdout.reconfigure(errors="backslashreplace")  # type: ignore[union-attr]
-        if not sys.stdout.isatty():
-            signal.signal(signal.SIGPIPE, signal.SIG_DFL)  # a closed pipe ends in silence
+    _fill_closed()
+    sys.stdin.reconfigure(errors="surrogateescape")  # type: ignore[union-attr]  # also takes what is not UTF-8
+    sys.stdout.reconfigure(errors="backslashreplace")  # type: ignore[union-attr]
+    if not sys.stdout.isatty():
+        signal.signal(signal.SIGPIPE, signal.SIG_DFL)  # a closed pipe ends in silence
     try:
         try:
             return _run(arguments, name)
         except Leave:
             return 0
         finally:
-            if sys.stdout is not None:
-                sys.stdout.flush()
+            sys.stdout.flush()
     except KeyboardInterrupt:
         return 128 + signal.SIGINT
     except ValueError as error:

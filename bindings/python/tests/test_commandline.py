@@ -24,6 +24,7 @@ EXAMPLE = ROOT / "examples" / "three_devices.script"
 NOWHERE = "/nowhere/at/all: No such file or directory\n"
 SHELL, SCRIPT = ["--shell"], ["-"]
 NAME = f"{os.path.basename(sys.executable)} -m superio"
+CLOSED = f"{NAME}: Bad file descriptor\n"
 NO_FILE = "/proc/self/mem"  # which can be opened, and not read from its start
 
 # Arguments and standard input, and the status, the output and the errors.
@@ -122,9 +123,15 @@ COMMANDS = [
     (f"echo 'kr 04' | {SUPERIO} --shell > /dev/full", (2, "", "No space left on device")),
     (f"printf 'kr 04\\nkr 4' | {SUPERIO} > /dev/full", (2, "", "input or output fault\n")),
     (f"echo 'kr 4' | {SUPERIO} 2> /dev/full", (1, "", "")),
-    (f"echo 'kr 4' | {SUPERIO} 2>&-", (1, "", "")),
+    # A standard file that is closed fails in each form. What is said of a fault is then not among the replies.
     (f"echo 'kr 04' | {SUPERIO} >&-", (2, "", "input or output fault\n")),
     (f"{SUPERIO} <&-", (2, "", "input or output fault\n")),
+    *((f"echo 'kr 04' | {SUPERIO} {form} {closed}", (2, "", CLOSED)) for form, closed in (
+        ("--shell", "<&-"), ("--shell", ">&-"), (f"--shell {EXAMPLE}", ">&-"), ("view -", "<&-"), ("view -", ">&-"),
+        (f"view {EXAMPLE}", "<&- > /dev/null"), (f"view {EXAMPLE} --table", ">&-"), ("--version", ">&-"))),
+    *((f"printf 'kr 04\\nbad' | {SUPERIO} {form} 2>&-", done) for form, done in (
+        ("", (1, "00\n", "")), ("--shell", (1, "00\n", "")), ("view -", (1, "", "")), ("/nowhere", (2, "", "")),
+        ("--unknown", (2, "", "")))),
     (f"echo 'kr 04' | {SUPERIO} view - --table > /dev/full", (2, "", "No space left on device")),
     (f"echo 'save /dev/stdout' | {SUPERIO} --shell | tail -n 1", (0, "port and clock saved to /dev/stdout\n", "")),
     (f"SUPERIO_LIBRARY=/nowhere/lib.so {SUPERIO}", (2, "", f"{NAME}: /nowhere/lib.so cannot be loaded")),
