@@ -261,6 +261,7 @@ OWN, HERE = library.ABI, LIBRARY
     ("/nowhere/\udcff.so cannot be loaded", "/nowhere/\udcff.so", {}),
     ("none.so cannot be loaded: .* set SUPERIO_LIBRARY", "", {"FILE_NAME": "none.so"}),
     ("libc.so.6 cannot be loaded", "libc.so.6", {}),
+    ("has no function superio_later:", HERE, {"PROTOTYPES": {**library.PROTOTYPES, "superio_later": (None, [])}}),
     *((f"interface {OWN}, .* needs {other}:", HERE, {"ABI": other})   # newer than the package, or older
       for other in (OWN - 1, OWN + 1, OWN + 256))])
 def test_a_library_is_refused(said, named, constants, monkeypatch):

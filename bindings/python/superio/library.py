@@ -83,7 +83,9 @@ def _loaded(path: str) -> ctypes.PyDLL:
         raise LibraryError(f"{path} has the binary interface {found}, and this package needs {ABI}: "
                            "take package and library from the same version")
     for name, (result, parameters) in PROTOTYPES.items():
-        function = getattr(library, name)
+        function = getattr(library, name, None)
+        if not function:  # which a later version added, and no interface lost
+            raise LibraryError(f"{path} has no function {name}: take package and library from the same version")
         function.restype, function.argtypes = result, parameters
     return library
 
