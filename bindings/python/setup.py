@@ -64,6 +64,11 @@ class BuildWithLibrary(build_py):
 
 
 class SameSources(sdist):
+    def run(self):
+        # Else each file that the list of a build before has, and that is still there, would be among them.
+        Path(self.get_finalized_command("egg_info").egg_info, "SOURCES.txt").unlink(missing_ok=True)
+        super().run()
+
     def make_release_tree(self, base_dir, files):
         super().make_release_tree(base_dir, files)
         for name in SHARED:

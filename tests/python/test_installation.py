@@ -25,6 +25,7 @@ LIBRARY = library.open_library()._name
 BUILD = "from setuptools import build_meta; import sys; print(getattr(build_meta, sys.argv[1])(sys.argv[2]))"
 PYTHON = "/usr/bin/python3"   # which has what a build needs, as Debian's packages have it: no test asks a network
 MACHINES = sorted(path.parent.name.partition("-")[0] for path in ROOT.glob(f"prebuilt/*-linux/{library.FILE_NAME}"))
+FIRST_OF_ZIP = 315_532_800   # the first second of 1980
 TAGS = "manylinux_2_17_{0}.manylinux2014_{0}.musllinux_1_1_{0}"
 
 
@@ -110,11 +111,25 @@ def test_wheel(archives, machine):
     assert re.findall(r"\]\((?!https?://)[^)]*\)", said) == [], "links that an index cannot follow"
 
 
+def build_another_before(place, into, variables):
+    """Builds in a folder what was there once: with a module that is gone, and with more tests in the sources."""
+    module, listed = place / "superio" / "gone.py", place / "MANIFEST.in"
+    kept = listed.read_bytes()
+    module.touch()
+    listed.write_bytes(kept + b"graft tests\n")
+    for kind in ("build_sdist", "build_wheel"):
+        Archives.build(kind, place, into, **variables)
+    module.unlink()
+    listed.write_bytes(kept)
+
+
 @needs_python
 def test_others_make_the_same_bytes(archives):
-    """With other modes and another time zone, at another time, in another folder, and from the sources alone."""
+    """With other modes and another time zone, at another time, in another folder, where something else was built before,
+    and from the sources alone."""
     other, into = copied(archives.folder / "another place", 0o600), archives.folder / "again"
     variables = {"TZ": "Asia/Tokyo", "LC_ALL": "C", "_PYTHON_HOST_PLATFORM": f"linux-{MACHINES[0]}"}
+    build_another_before(other, archives.folder / "before", variables)
     before, wheel = os.umask(0o077), archives.wheels[MACHINES[0]]
     try:
         for kind, place, made in (("build_sdist", other, archives.sources), ("build_wheel", other, wheel),
@@ -124,6 +139,15 @@ def test_others_make_the_same_bytes(archives):
             assert (again.name, again.read_bytes()) == (made.name, made.read_bytes()), place
     finally:
         os.umask(before)
+
+
+@needs_python
+def test_sources_do_not_tell_who_made_them(archives):
+    """Each file has the same owner, mode and time, and the archive names no file of its own."""
+    with tarfile.open(archives.sources) as archive:
+        owners = {(file.uid, file.gid, file.uname, file.gname, file.mode, file.mtime, file.type) for file in archive}
+    assert owners == {(0, 0, "", "", 0o644, FIRST_OF_ZIP, tarfile.REGTYPE)}
+    assert archives.sources.read_bytes()[3:8] == b"\0" + FIRST_OF_ZIP.to_bytes(4, "little"), "flags, and the time"
 
 
 @needs_python
