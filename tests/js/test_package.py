@@ -169,6 +169,13 @@ def test_language():
     check(["node", "--print", "(12).toLocaleString()"], "\u06f1\u06f2\n", env={**os.environ, "LC_ALL": "fa_IR.UTF-8"})
 
 
+def test_each_call_that_depends_on_a_language_names_it():
+    """Also those of letters, which the language above does not change."""
+    called = re.compile(r"\b(?:toLocale\w+|localeCompare|Intl\.\w+)\(.{0,5}")
+    calls = [call for path in SOURCES for call in called.findall(path.read_text("utf-8"))]
+    assert [call for call in at_least(8, calls) if not call.endswith(('("en")', '("en",'))] == []
+
+
 def programs_of(place):
     """The programs of a document, each with what it prints: a block of text after it, or the numbers in its comments."""
     blocks = Document(place).blocks
