@@ -19,7 +19,9 @@ ROOT = PACKAGE if (PACKAGE / "prebuilt").is_dir() else PACKAGE.parent.parent
 TIMEOUT = 1800   # seconds: more than any of these takes on a busy machine
 
 sys.path.insert(0, str(PACKAGE))
-ENVIRONMENT = {**os.environ, "PYTHONPATH": str(PACKAGE), "SUPERIO_HISTORY": "", "TERM": "xterm"}
+# Python says of each file that nobody closed that it is open, and what is said is compared.
+ENVIRONMENT = {**os.environ, "PYTHONPATH": str(PACKAGE), "SUPERIO_HISTORY": "", "TERM": "xterm",
+               "PYTHONWARNINGS": "always::ResourceWarning"}
 for name in ("NO_COLOR", "PYTHONDONTWRITEBYTECODE", "PYTHONUNBUFFERED"):
     ENVIRONMENT.pop(name, None)
 
