@@ -7,6 +7,7 @@ import shutil
 import stat
 import sys
 import tarfile
+import time
 import zipfile
 from pathlib import Path
 
@@ -148,6 +149,16 @@ def test_sources_do_not_tell_who_made_them(archives):
         owners = {(file.uid, file.gid, file.uname, file.gname, file.mode, file.mtime, file.type) for file in archive}
     assert owners == {(0, 0, "", "", 0o644, FIRST_OF_ZIP, tarfile.REGTYPE)}
     assert archives.sources.read_bytes()[3:8] == b"\0" + FIRST_OF_ZIP.to_bytes(4, "little"), "flags, and the time"
+
+
+@needs_python
+def test_a_time_that_is_given(archives):
+    """As a distribution gives one: each file of the sources and of a wheel has it."""
+    made, given = archives.folder / "at a time", {"SOURCE_DATE_EPOCH": str(10 ** 9)}
+    with tarfile.open(archives.build("build_sdist", archives.place, made, **given)) as sources:
+        assert {file.mtime for file in sources} == {10 ** 9}
+    with zipfile.ZipFile(archives.build("build_wheel", archives.place, made, **given)) as wheel:
+        assert {file.date_time for file in wheel.infolist()} == {time.gmtime(10 ** 9)[:6]}
 
 
 @needs_python
