@@ -180,6 +180,9 @@ fn types_have_the_traits_and_errors_the_texts_of_vm_superio() {
     let refused: Box<dyn StdError> = Error::Trigger(io::Error::from(io::ErrorKind::WouldBlock)).into();
     assert_eq!(refused.to_string(), "Failed to trigger interrupt: operation would block");
     assert!(refused.source().is_none());
+    let told = [Error::Trigger(" why\n"), Error::IOError(io::Error::new(io::ErrorKind::Other, " why\n"))];
+    let texts = ["Failed to trigger interrupt:  why\n", "Couldn't write/flush to the given destination:  why\n"];
+    assert_eq!(told.map(|error| error.to_string()), texts);
 }
 
 #[test]
