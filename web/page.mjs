@@ -533,7 +533,8 @@ id("choice").onchange = () => {
 id("list").onkeydown = (event) => {
   const { at, calls } = tape();
   const to = { ArrowUp: at - 1, ArrowLeft: at - 1, ArrowDown: at + 1, ArrowRight: at + 1, Home: 0, End: calls.length };
-  if (event.key in to) { event.preventDefault(); go(to[event.key]); }
+  const isAlone = !(event.altKey || event.ctrlKey || event.metaKey || event.shiftKey); // Alt+Left is the browser's
+  if (isAlone && event.key in to) { event.preventDefault(); go(to[event.key]); }
 };
 
 /** Runs the script that the address has. */

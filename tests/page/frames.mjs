@@ -107,11 +107,13 @@ const STEPS = {
   },
   /** Waits until the page has told the time again, as it does each second. */
   second: () => new Promise((done) => page.setTimeout(done, 1100)),
-  /** A key goes to what has the focus, which the list takes. */
-  key: (key) => {
+  /** A key goes to what has the focus, which the list takes. Another may be held, as Alt in `Alt+End`. */
+  key: (keys) => {
+    const [key, ...held] = keys.split("+").reverse();
     by("list").focus();
-    const pressed = new KeyboardEvent("keydown", { key, cancelable: true, bubbles: true });
-    if (!page.document.activeElement.dispatchEvent(pressed)) taken += `${key} `;
+    const pressed = new KeyboardEvent("keydown", { key, cancelable: true, bubbles: true,
+      ...Object.fromEntries(held.map((one) => [`${one.toLowerCase()}Key`, true])) });
+    if (!page.document.activeElement.dispatchEvent(pressed)) taken += `${keys} `;
   },
   /** Runs a pasted script: lines, then others so many times, with a semicolon after each. */
   script: (...words) => {
