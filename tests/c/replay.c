@@ -410,12 +410,12 @@ static void follow(char *text) {
 /* All bytes of the input are taken one by one: for what the C library has for text, an emulator takes twice as long. */
 static bool is_equals(const char *text) { return text[0] == ' ' && text[1] == '=' && text[2] == ' '; }
 
-/* Reads a line, without its end. Returns whether there is one. */
-static bool read_line(char *line) {
+/* Reads a line that fits, without its end. Returns whether there is one. */
+static bool read_line(char *line, size_t size) {
     int byte = getc_unlocked(stdin);
     if (byte == EOF)
         return false;
-    for (; byte != '\n' && byte != EOF; byte = getc_unlocked(stdin))
+    for (; byte != '\n' && byte != EOF && --size > 0; byte = getc_unlocked(stdin))
         *line++ = (char)byte;
     *line = '\0';
     return true;
@@ -433,7 +433,7 @@ int main(void) {
     *port = superio_serial_new();
     *rtc = superio_rtc_new();
     superio_console_new(console, false);
-    while (read_line(line)) {
+    while (read_line(line, sizeof line)) {
         size_t count = 0;
         for (; line[count] && !is_equals(line + count); count++)
             text[count] = line[count];
