@@ -28,6 +28,8 @@ BOTH = """fn both(&mut self) -> Result<u32, Error<T::E>> { self.trigger.trigger(
     self.out.flush().map_err(Error::IOError)?; Ok(9) }"""
 SOME = "fn some(&self) -> Option<u32> { if self.n == 7 { Some(self.n) } else { None } }"
 
+MORE = "fn more(&mut self) -> Result<(), T::E> { self.n = 5; self.trigger.trigger() }"
+
 TIME = """use std::time::{SystemTime, UNIX_EPOCH};
 fn moment_of(time: SystemTime) -> u64 { time.duration_since(UNIX_EPOCH).map_or(0, |since| since.as_secs()) }
 fn moment() -> u64 { moment_of(SystemTime::now()) }"""
@@ -50,6 +52,14 @@ RIGHT = {
     "map of a range": device("let twice = (1..4).map(|i| i * 2); let all: Vec<usize> = twice.collect(); all[2] as u32 * 10 + all.len() as u32"),
     "map that panics": device("let all: Vec<usize> = (0..4).map(|i| 6 / i).collect(); all.len() as u32"),
     "map of a result": device("match self.both().map(|n| n + 1) { Ok(n) => n, Err(_) => 3 }", BOTH),
+    "a method of and_then's closure that changes": device(
+        "match self.trigger.trigger().and_then(|()| self.more()) { Ok(()) => self.n, Err(_) => self.n + 100 }", MORE),
+    "a method of map's closure that changes": device(
+        "match self.more().map(|()| self.counted()) { Ok(n) => n * 10 + self.n, Err(_) => self.n + 100 }",
+        MORE + "fn counted(&mut self) -> u32 { set(&mut self.n, 4); self.n }"),
+    "a method of map_or's closure that changes": device(
+        "if self.some().map_or(false, |n| self.is_more(n)) { self.n } else { self.n + 100 }", SOME + MORE
+        + "fn is_more(&mut self, n: u32) -> bool { match self.more() { Ok(()) => n == 7, Err(_) => false } }"),
     "map_or": device("if self.some().map_or(false, |n| n == 7) { self.n = 8; } if self.some().map_or(true, |n| n == 7) { self.n } else { 2 }", SOME),
     "map_or of none": device("self.n = 8; if self.some().map_or(false, |n| n == 7) { 1 } else { 2 }", SOME),
     "the host's time": device("if moment() > 1000 { self.events.out_byte(); 1 } else { 2 }", items=TIME),
@@ -92,6 +102,8 @@ REFUSED = {
     "the pattern of a list": ("the pattern of a list", device("let [a, b] = [1u32, 2]; a + b")),
     "a range from another number": ("the range of try_for_each", device(
         "let n: u8 = 3; match (1..n).try_for_each(|_| self.trigger.trigger()) { Ok(()) => 1, Err(_) => 2 }")),
+    "a method of try_for_each's closure that changes": ("try_for_each of", device(
+        "let n: u8 = 3; match (0..n).try_for_each(|_| self.more()) { Ok(()) => self.n, Err(_) => 2 }", MORE)),
     "map_err with a closure": ("map_err", device("match self.both() { Ok(n) => n, Err(_) => 3 }",
         "fn both(&mut self) -> Result<u32, Error<T::E>> { self.trigger.trigger().map_err(|e| Error::Trigger(e))?; Ok(9) }")),
     "a default that calls": ("ok_or", device("match self.found() { Ok(n) => n, Err(_) => 3 }", SOME
