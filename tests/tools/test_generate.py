@@ -4,7 +4,11 @@ the repository holds is of its sources."""
 import importlib.machinery
 import importlib.util
 import re
+import runpy
+import shutil
 import sys
+from contextlib import suppress
+from pathlib import Path
 
 import booting
 import pytest
@@ -203,6 +207,34 @@ def test_a_step_comes_after_what_it_reads(own):
     assert {("facts", "rust"), ("facts", "lines"), ("facts", "interface"), ("rust", "module"), ("lines", "page"),
             ("module", "page"), ("page", "pictures"), ("rust", "statements"), ("libraries", "counts")} <= {*needs}
     assert [(name, other) for name, other in needs if order.index(name) > order.index(other)] == []
+
+
+def writing_options():
+    """The options by which what is otherwise compared is written."""
+    texts = [(ROOT / name).read_text("utf-8") for name in ("conftest.py", "recheck/rerun.py")]
+    return [option for text in texts for option in re.findall(r'\.add(?:option|_argument)\("(--write-[a-z]+)"', text)]
+
+
+@pytest.mark.parametrize("option", at_least(4, writing_options()))
+def test_what_is_compared_is_written(own, option):
+    """By one step. Without the option it would compare, and fail each time that something has changed."""
+    assert sum(option in step.command.split() for step in own.STEPS.values()) == 1
+
+
+@pytest.mark.parametrize("name", WRITTEN)
+def test_each_step_writes_all_its_files(own, name, monkeypatch):
+    """And each with what stands there, since the repository is up to date. Here nothing is written."""
+    written = {}
+    monkeypatch.setattr(Path, "write_text", lambda path, text, **_: written.update({path: text.encode()}))
+    monkeypatch.setattr(Path, "write_bytes", lambda path, content: written.update({path: content}))
+    monkeypatch.setattr(shutil, "copy", lambda source, folder: written.update(
+        {folder / source.name: source.read_bytes()}))
+    command = own.STEPS[name].command
+    program = command if command == "tools/erase" else f"tools/generators/{command.removeprefix(own.MADE_BY)}.py"
+    monkeypatch.setattr(sys, "argv", [program])
+    with suppress(SystemExit):
+        runpy.run_path(str(ROOT / program), run_name="__main__")
+    assert written == {path: path.read_bytes() for path in WRITTEN[name]}
 
 
 # The code of each step that has a tool, which its tests or its commands need.
