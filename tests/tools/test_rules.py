@@ -1,6 +1,7 @@
 # SPDX-License-Identifier: Apache-2.0 OR BSD-3-Clause
 """Nothing passes for not having run: the rules of conftest.py, of sums.txt, of at_least and of tools/check, with tests
 that break them."""
+import configparser
 import json
 import os
 import re
@@ -14,9 +15,10 @@ from types import SimpleNamespace
 
 import pytest
 from common import rattle
+from common.requirements import TOOLS
 from common.results import OF_CARGO, counted, of_gate
 from common.results import run as run_part
-from harness import LIMIT, ROOT, run
+from harness import LIMIT, ROOT, at_least, run
 
 HEAD = "import pytest\nfrom harness import at_least\n"
 RUN = HEAD + "def test():\n    "
@@ -206,6 +208,16 @@ def test_sums_are_written(tmp_path, run_pytest):
     assert re.sub("^#.*\n", "", text, flags=re.M) == "tests: 3\ntests, Deno: 1\n"
 
 
+def test_what_the_rules_name_is_there():
+    """The files that begin first, the folders of tests, and those of modules: pytest passes over a name of nothing."""
+    [first] = re.findall(r"^DEAREST = \[(.*?)\]", (ROOT / "conftest.py").read_text("utf-8"), re.M | re.S)
+    settings = configparser.ConfigParser()
+    settings.read(ROOT / "pytest.ini", "utf-8")
+    folders = [settings["pytest"][name].split() for name in ("testpaths", "pythonpath")]
+    for words in (re.findall('"(.*?)"', first), *folders):
+        assert [name for name in at_least(7, words) if not (ROOT / name).exists()] == []
+
+
 def test_a_missing_tool_names_its_package(ran):
     said = ran["a tool that is missing"][1]
     assert "chromium is missing: install chromium, or run with --without chromium" in said
@@ -293,6 +305,21 @@ def test_a_program_that_is_given(tmp_path, run_pytest):
     (tmp_path / "given").write_text("a program\n", "ascii")
     assert " 3 passed in " in f" {run_pytest(tmp_path, '--program=given').stdout}"
     assert " 3 errors in " in f" {run_pytest(tmp_path).stdout}"
+
+
+# Each other tool that has a command: there is none where these tests run. Python's modules may be there.
+OTHERS = [tool for tool, parts in TOOLS.items() if tool != "kit" and any(part[0] != "/" for part in parts)
+          and not any(part.startswith("import ") for part in parts)]
+
+
+def test_a_program_that_is_given_is_no_other_tool(tmp_path, run_pytest):
+    """What a test needs beside it or in its place is missing as ever."""
+    needs = [words for tool in at_least(20, OTHERS) for words in (f"'{tool}'", f"'kit', '{tool}'")]
+    write_tests(tmp_path, HEAD + "\n".join(f"@pytest.mark.needs({words})\ndef test_{number}(): pass"
+                                           for number, words in enumerate(needs)))
+    failed = [re.findall(r"^ERROR tests/test_it.py::(\w+)", run_pytest(tmp_path, "-rE", *words).stdout, re.M)
+              for words in ([], ["--program=given"])]
+    assert failed[0] == failed[1] == [f"test_{number}" for number in range(len(needs))]
 
 
 def test_a_program_is_that_of_its_sources(tmp_path, monkeypatch):
