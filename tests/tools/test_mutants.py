@@ -4,10 +4,13 @@ three in a hundred of those of its part may. On a small sample the tool does wha
 import json
 import os
 import re
+import signal
 import socket
 import subprocess
 import sys
-from contextlib import nullcontext
+import time
+from concurrent.futures import ThreadPoolExecutor
+from contextlib import nullcontext, suppress
 from importlib.machinery import SourceFileLoader
 from importlib.util import module_from_spec, spec_from_loader
 from itertools import product
@@ -16,7 +19,7 @@ from types import SimpleNamespace
 
 import pytest
 from generators import facts, lines
-from harness import ROOT, at_least, check, run
+from harness import LIMIT, ROOT, at_least, check, run
 from mutation import reach, rules, runner
 from mutation.copies import Ended
 
@@ -303,6 +306,15 @@ def test_lines_of_a_script_that_a_page_made(tmp_path):
     assert found["code.mjs"] == {2: True, 3: True, 4: False, 5: False, 6: False}
 
 
+def processes_in(folder):
+    """The processes that work in a folder."""
+    found = []
+    for place in Path("/proc").glob("[0-9]*/cwd"):
+        with suppress(OSError):
+            found += [int(place.parent.name)] * (os.readlink(place) == str(folder))
+    return found
+
+
 @pytest.fixture
 def copy(tmp_path):
     (tmp_path / "code").mkdir()
@@ -338,6 +350,24 @@ def test_a_command_can_do_no_harm(copy, tmp_path):
     assert copy.run("setsid sleep 1000 & mkdir /tmp/left; echo > /tmp/left/file; echo > /dev/shm/left").how == "passed"
     assert copy.run("! pgrep sleep && test ! -e /tmp/left -a ! -e /dev/shm/left -a -e here").how == "passed"
     assert [copy.run(command).how for command in ("kill -9 $PPID", "true")] == ["failed", "passed"]
+
+
+@pytest.mark.needs("mutants")
+def test_a_command_ends_with_the_tool(copy):
+    """Whatever it has started, also if the tool is killed and can end nothing itself."""
+    with ThreadPoolExecutor(1) as pool:
+        ended = pool.submit(copy.run, f"touch begun; setsid sleep {LIMIT} & sleep {LIMIT}")
+        while not (copy.folder / "begun").exists():
+            time.sleep(0.01)
+        below = processes_in(copy.folder)
+        copy.runner.kill()
+        assert ended.result().how == "failed"
+    deadline = time.monotonic() + 60
+    while (left := processes_in(copy.folder)) and time.monotonic() < deadline:
+        time.sleep(0.01)
+    for number in left:
+        os.kill(number, signal.SIGKILL)
+    assert (len(below) >= 3, left) == (True, [])
 
 
 @pytest.mark.needs("mutants")
