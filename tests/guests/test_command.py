@@ -18,7 +18,7 @@ import proofs
 import pytest
 import sources
 from debian import apt_get, make_whole, replace_links
-from guest import Monitor
+from guest import Monitor, assertions
 
 
 def test_sums(monkeypatch, capsys):
@@ -31,11 +31,27 @@ def test_sums(monkeypatch, capsys):
         "By CBMC 6, in 9 s of a processor:\n1 of 2 proved, linux: one\n3 of 3 refuted, linux: two\n")
 
 
+# What judge.py fetches, and what it says without it.
+UNTRIED = {"the archive": "Debian's archive did not give what is needed: ",
+           "CBMC": "there is no CBMC 6, which is fetched for x86-64 alone"}
+
+
 def judged(tmp_path, monkeypatch, words=(), failing="nothing"):
     """The status of judge.py if this fails, how many exchanges each test made, which checks, and how many at a time."""
-    made = {}
+    made, marks = {}, [tmp_path / "unreachable", tmp_path / "packages" / "unreachable"]
+    for mark in marks:   # of a run before, when the archive gave nothing
+        mark.parent.mkdir(exist_ok=True)
+        mark.touch()
+
+    def given(found):
+        """What the archive gives, which is asked even after a run to which it gave nothing."""
+        assert not any(mark.exists() for mark in marks)
+        if failing == "the archive":
+            raise subprocess.CalledProcessError(100, "apt-get")
+        return found
 
     def run(words, env, **_):
+        assert failing not in UNTRIED
         made["exchanges"] = env["GUESTS_EXCHANGES"]
         return subprocess.CompletedProcess(words, int(failing == "an exchange"))
 
@@ -45,8 +61,9 @@ def judged(tmp_path, monkeypatch, words=(), failing="nothing"):
     lacking = "xen" if failing == "a version without sums" else ""
     for module, name, value in [
             (sys, "argv", ["judge.py", *words]), (sources, "KEPT", tmp_path), (sources, "told", str),
-            (cbmc, "fetched", lambda: ["cbmc"]), (cbmc, "version", lambda command: "6"),
-            (sources, "is_recorded", lambda name: name != lacking), (subprocess, "run", run), (judge, "make", make)]:
+            (cbmc, "fetched", lambda: given(["cbmc"] * (failing != "CBMC"))), (cbmc, "version", lambda command: "6"),
+            (sources, "is_recorded", lambda name: given(name != lacking)), (subprocess, "run", run),
+            (judge, "make", make)]:
         monkeypatch.setattr(module, name, value)
     return judge.main(), made["exchanges"], made["checks"], made["jobs"]
 
@@ -57,6 +74,36 @@ def test_status(failing, tmp_path, monkeypatch, capsys):
     status, *_ = judged(tmp_path, monkeypatch, failing=failing)
     assert status == (failing != "nothing")
     assert ("NOT TRIED: xen, " in capsys.readouterr().out) == (failing == "a version without sums")
+
+
+@pytest.mark.parametrize("failing", UNTRIED)
+def test_what_cannot_be_tried(failing, tmp_path, monkeypatch):
+    """Without what it fetches it ends, and tells why, before it makes an exchange or a proof."""
+    with pytest.raises(SystemExit, match=f"^{UNTRIED[failing]}"):
+        judged(tmp_path, monkeypatch, failing=failing)
+
+
+# What CBMC prints of two assertions, one of which fails.
+PRINTED = """[prove.assertion.1] line 3 some byte is read: SUCCESS
+[prove.assertion.2] line 4 reached: the end: FAILURE
+** 1 of 2 failed (2 iterations)
+VERIFICATION FAILED
+"""
+
+
+def test_what_is_read_of_a_verifier():
+    """Each assertion. What is not whole, or of another form, or does not fit together, is refused."""
+    def read(printed):
+        return assertions(["sh", "-c", 'printf %s "$0"', printed])
+    assert read(PRINTED) == [("some byte is read", True), ("reached: the end", False)]
+    lines = PRINTED.splitlines(keepends=True)
+    cut = ["".join(lines[:place] + lines[place + 1:]) for place in range(len(lines))]
+    turned = [PRINTED.replace(old, new) for old, new in [
+        ("SUCCESS\n", "UNKNOWN\n"), ("SUCCESS\n", "FAILURE\n"), ("FAILURE\n", "SUCCESS\n"), ("1 of 2", "0 of 2"),
+        ("1 of 2", "1 of 3"), ("FAILED", "SUCCESSFUL"), ("line 4", "file prove.c line 4")]]
+    for printed in (*cut, *turned, ""):
+        with pytest.raises(AssertionError):
+            read(printed)
 
 
 def checks_of(parts):
