@@ -3,8 +3,10 @@
 import re
 
 import pytest
-from generators.counts import (BY_HAND, COLUMNS, CONSOLE, DOCUMENT, LIBRARY, PORT, RUST, THEIRS, counts_of, enqueue_slope, goal,
-                    host_time_of, is_above_goal, read_rows)
+from documents import table
+from generators.counts import (ALARM_GOAL, BY_HAND, C_GOAL, CLOCK_GOAL, COLUMNS, CONSOLE, CONSOLE_FACTOR, CONSOLE_GOAL,
+                               DOCUMENT, LIBRARY, PORT, PORT_GOAL, RUST, THEIRS, counts_of, enqueue_slope, goal,
+                               host_time_of, is_above_goal, read_rows)
 from harness import at_least
 from places import PLACES
 
@@ -29,6 +31,22 @@ def cases(columns, rows=ROWS):
 
 def test_compilers_are_known():
     assert {RUSTC, GCC} <= set(PLACES)
+
+
+def test_goals_are_those_of_the_page():
+    """By which a number is bold or not."""
+    said = [float(goal.split()[0]) for _, _, goal, _ in table(TEXT, "Row | Other column")]
+    assert said == [PORT_GOAL, C_GOAL, CLOCK_GOAL, ALARM_GOAL, CONSOLE_GOAL, CONSOLE_FACTOR]
+
+
+def test_results_of_a_console():
+    """The page sums up the most that a read through a console takes beyond the port, and how many times as many."""
+    said = {name: result.split()[0] for name, _, _, result in table(TEXT, "Row | Other column")}
+    rows = [row for row in ROWS if {PORT, CONSOLE} <= {*row.numbers}]
+    reads = [row.numbers[CONSOLE] - row.numbers[PORT] for row in rows if [word[0] for word in row.repeated] == ["r"]]
+    factors = [row.numbers[CONSOLE] / row.numbers[PORT] for row in rows if len(row.repeated) == 65]
+    assert f"{max(at_least(3, reads))}" == said["A read through a console"]
+    assert f"{max(at_least(2, factors)):.1f}" == said["64 bytes in and out through a console"]
 
 
 @pytest.mark.parametrize("row", ROWS, ids=lambda row: f"{row.columns[-1]}: {row.name}")
