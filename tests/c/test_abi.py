@@ -10,10 +10,11 @@ import re
 from pathlib import Path
 
 import pytest
-from abi import CONSTANTS, FUNCTIONS, STRUCTS
+from abi import CONSTANTS, FUNCTIONS, STRUCTS, TYPES, Parameter
 from board import fault
 from common.facts import KINDS
 from console import console_fault
+from generators.header import read_header
 from generators.libraries import SHARED
 from harness import ROOT, at_least, check
 from random_calls import Place, call, places, random_calls, random_device, value_of
@@ -54,6 +55,22 @@ def made(library):
 def failures(calls, is_good):
     """The functions of which a call is bad."""
     return {function.name for function, *rest in calls if not is_good(function, *rest)}
+
+
+def of_header(kind, length):
+    """A parameter as the header declares it. How many bytes a pointer leads to, the next parameter says."""
+    name = kind.removeprefix("const ").removesuffix(" *")
+    number = CONSTANTS[length] if length else None if kind.endswith("uint8_t *") else 1
+    return Parameter({**TYPES, **STRUCTS}[name], kind.endswith("*") or bool(length), kind.startswith("const "), number)
+
+
+def test_parameters():
+    """What the calls are made of is what the header declares: behind which pointer how much is, and what may change."""
+    header = {name: [of_header(kind, length) for kind, _, length in function.parameters]
+              for name, function in read_header().functions.items()}
+    assert {function.name: function.parameters for function in FUNCTIONS} == header
+    constant = [parameter.is_const for parameters in header.values() for parameter in parameters if parameter.is_pointer]
+    assert constant.count(True) >= 10 and constant.count(False) >= 20
 
 
 @pytest.mark.needs("cc")
