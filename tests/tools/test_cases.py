@@ -11,8 +11,9 @@ import model
 import pytest
 import script_tests
 from board import OFTEN, Board
-from common.facts import ERRORS, FIFO_SIZE, OUTPUT_SIZE, word_of
+from common.facts import DLAB, ERRORS, FIFO_SIZE, LOOPBACK, OUTPUT_SIZE, word_of
 from documents import CODE, Document, table
+from facts import BITS, ENABLED_BY, FRESH
 from harness import at_least
 from made import (CLOCK, CLOCK_CONTENTS, CLOCK_FIELDS, SHOWN, any_call, broken_lines, clock_state, every_load,
                   random_calls, saved)
@@ -242,12 +243,25 @@ def test_each_field_of_a_clock_is_shown(name):
     assert shown(state) != shown({**state, name: state[name] ^ 1})
 
 
+def told_apart(start):
+    """What rules tell apart of a port's state: which conditions are enabled and which are pending, the divisor latch,
+    loopback, and how many bytes there are."""
+    registers, held = (bytes.fromhex(word.strip("-")) for word in start.split(" ")[1:])
+    port = dict(zip(FRESH, registers))
+    return (tuple(bool(port["IER"] & bit) for bit in ENABLED_BY.values()),
+            tuple(bool(port["IIR"] & BITS["IIR"][condition]) for condition in ENABLED_BY),
+            bool(port["LCR"] & DLAB), bool(port["MCR"] & LOOPBACK), len(held))
+
+
 def test_every_answer():
     """Each state has each call, between a line that makes the state and one that shows it."""
     lines, states = [*every_answer()], 4 * 4 * 2 * 2 * 3
     answers = lines[:-6 * 256]
     starts = list(dict.fromkeys(answers[::3]))
     assert len(starts) == states and {*answers[2::3]} == {"ss"}
+    assert sorted(map(told_apart, starts)) == sorted(product(
+        product((False, True), repeat=2), product((False, True), repeat=2), (False, True), (False, True),
+        (0, 1, FIFO_SIZE)))
     of_first = answers[1:len(answers) // states:3]
     assert answers == [line for start, call in product(starts, of_first) for line in (start, call, "ss")]
     assert [re.sub(" .*", "", line) for line in lines[-6 * 256:]] == ["kr", "kw", "kw"] * 512
