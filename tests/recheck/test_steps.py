@@ -2,11 +2,12 @@
 """What tools/recheck does around its steps, for which there are stand-ins here: each option reaches the step that it is
 for, and the first step that fails ends the run, which then does not say that all is proved."""
 import os
+import re
 import sys
 from pathlib import Path
 
 import pytest
-from harness import ROOT
+from harness import ROOT, run
 
 import antt2coq
 import rerun
@@ -19,6 +20,7 @@ STEPS = {"translated": (({"Code": "(* made *)"}, ["rs_f"]), rust2coq.Refused),
          "compare": (None, Failed), "coqchk": (None, None)}
 PLACES = {"translated": (rerun, "translated"), "rustc": (rerun.expanded, "compare"), "check": (rerun, "check"),
           "audit": (rerun, "audit"), "compare": (rerun.statements, "compare")}
+CHECK = "import coq, sys; from pathlib import Path; coq.check(Path(sys.argv[1]), 2)"
 ALL = ["--chk", "--rustc", "a-rustc"]   # options without which a step is left out
 
 
@@ -102,3 +104,25 @@ def test_there_is_no_coq(recheck, monkeypatch):
     monkeypatch.setattr(rerun.shutil, "which", lambda _: None)
     end, called = recheck()
     assert "there is no coqc" in end and not called
+
+
+# What files require, and which of them can be checked by none after the ones that it requires.
+CYCLES = {"itself": ({"A": "A"}, "A"), "each other": ({"A": "B", "B": "A"}, "A, B"),
+          "in a ring, beside others": ({"A": "B C", "B": "D", "C": "", "D": "A"}, "A, B, D"),
+          "by a file above a ring": ({"A": "B", "B": "C", "C": "B"}, "A, B, C"), "none": ({"A": "B", "B": ""}, "")}
+
+
+@pytest.mark.parametrize("name", CYCLES)
+def test_files_that_require_each_other(name, tmp_path):
+    """They are named, and the run ends. It is another process, since one without an end would hold up this one."""
+    files, named = CYCLES[name]
+    for file, required in files.items():
+        lines = "".join(f"Require Import Recheck.{other}.\n" for other in required.split())
+        (tmp_path / f"{file}.v").write_text(lines, "ascii")
+    (tmp_path / "coqc").write_text("#!/bin/sh\n", "ascii")
+    (tmp_path / "coqc").chmod(0o755)
+    ran = run([sys.executable, "-c", CHECK, tmp_path], timeout=60,
+              env={"PATH": f"{tmp_path}:/usr/bin:/bin", "PYTHONPATH": str(ROOT / "recheck")})
+    found = re.findall("^coq.Failed: these files require each other: (.*)$", ran.stdout, re.M)
+    assert (ran.returncode, [", ".join(sorted(names.split(", "))) for names in found]) == (
+        (1, [named]) if named else (0, [])), ran.stdout
