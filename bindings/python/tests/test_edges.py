@@ -59,8 +59,9 @@ LOCALES = [{"PYTHONUTF8": "1", "PYTHONIOENCODING": "utf-8:strict"},
 # Makes the runs of a file, each a folder and arguments, as `python3 -m superio` does. Each has a process of its own,
 # which is forked after the slow part of a start. Prints how each ends.
 FORKED = f"""import json, os, runpy, signal, sys
+from pathlib import Path
 import superio.program, superio.prompt, superio.session, superio.view
-for folder, *arguments in json.load(open(sys.argv[1])):
+for folder, *arguments in json.loads(Path(sys.argv[1]).read_text()):
     if not (child := os.fork()):
         signal.alarm({TIMEOUT})
         for number, name in enumerate(("stdin", "stdout", "stderr")):
