@@ -9,9 +9,7 @@ from typing import List
 
 from . import __version__, program
 from .library import LibraryError
-from .prompt import Leave, use_history
 from .script import reason_of
-from .session import Session
 
 _EPILOG = """\
 exit status, without --shell that of the program superio:
@@ -61,20 +59,23 @@ def _run_program(path: str) -> int:
 
 
 def _run_shell(path: str) -> None:
+    from .prompt import Leave, use_history   # here, as no script of the program has to wait for them
+    from .session import Session
     session = Session(sys.stdout)
-    if not path:
-        use_history()
-        session.run_prompt()
-    elif path == "-":
-        session.run_lines("<stdin>", sys.stdin.buffer)
-    else:
-        session.run_file(path)
+    with suppress(Leave):
+        if not path:
+            use_history()
+            session.run_prompt()
+        elif path == "-":
+            session.run_lines("<stdin>", sys.stdin.buffer)
+        else:
+            session.run_file(path)
 
 
 def _run(arguments: List[str], name: str) -> int:
     """Carries out the command line, and returns the exit status."""
     if arguments[:1] == ["view"]:
-        from .view import view   # whose imports are a tenth of what a start takes, and nothing else needs them
+        from .view import view   # here, as no other start has to wait for it
         options = _viewer_parser(name).parse_args(arguments[1:])
         view(options.trace, options.table, options.svg)
         return 0
@@ -105,8 +106,6 @@ def main(arguments: List[str], name: str = "python3 -m superio") -> int:
     try:
         try:
             return _run(arguments, name)
-        except Leave:
-            return 0
         finally:
             sys.stdout.flush()
     except KeyboardInterrupt:

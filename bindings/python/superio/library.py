@@ -5,11 +5,11 @@ import ctypes
 import os
 import re
 from functools import lru_cache
-from pathlib import Path
 from typing import Any, Dict, List
 
-_PACKAGE = Path(__file__).resolve().parent
-_TABLE = (_PACKAGE / "superio.abi").read_text(encoding="ascii")
+_PACKAGE = os.path.dirname(os.path.realpath(__file__))
+with open(os.path.join(_PACKAGE, "superio.abi"), encoding="ascii") as _file:
+    _TABLE = _file.read()
 
 
 def _found(row: str) -> List[Any]:
@@ -32,6 +32,7 @@ CONSOLE_SAVED_MAX = _CONSTANTS["CONSOLE_SAVED_MAX"]
 _TYPES = {"void": None, "bool": ctypes.c_bool, "size_t": ctypes.c_size_t, "const uint8_t *": ctypes.c_char_p,
           **{f"{name}_t": getattr(ctypes, f"c_{name}") for name in ("uint8", "uint16", "uint32", "uint64", "int64")}}
 
+_FIELDS = _found(r"field (\w+)\.(\w+) (\w+) at (\d+) size (\d+)")
 
 STRUCTS: Dict[str, Any] = {}
 """The structs of superio.h by their names there."""
@@ -40,7 +41,7 @@ STRUCTS: Dict[str, Any] = {}
 def _struct(name: str) -> Any:
     """The struct of this name. Its fields may be other structs."""
     if name not in STRUCTS:
-        fields = _found(rf"field {name}\.(\w+) (\w+) at (\d+) size (\d+)")
+        fields = [row[1:] for row in _FIELDS if row[0] == name]
         kinds = {kind: _TYPES.get(kind) or _struct(kind) for _, kind, _, _ in fields}
         STRUCTS[name] = type(name, (ctypes.Structure,), {"_fields_": [
             (field, kinds[kind] * int(size) if kind == "uint8_t" and size != "1" else kinds[kind])
@@ -96,17 +97,17 @@ def open_library() -> ctypes.PyDLL:
 
     Raises `LibraryError` if there is none, or if the first one found cannot be used.
     """
-    # The folder of the sources alone, and the repository.
-    above = [place for number, place in enumerate(_PACKAGE.parents) if number in (0, 2)]
-    places = [_PACKAGE / FILE_NAME, *(place / "prebuilt" / f"{os.uname().machine}-linux" / FILE_NAME
-                                      for place in above)]
-    named = os.environ.get(VARIABLE) or next((str(path) for path in places if path.is_file()), "")
+    # The folder of the sources alone, and the repository. A package that is less deep is in none.
+    above = [os.path.normpath(os.path.join(_PACKAGE, *[".."] * up)) for up in (1, 3) if up <= _PACKAGE.count(os.sep)]
+    places = [os.path.join(_PACKAGE, FILE_NAME),
+              *(os.path.join(place, "prebuilt", f"{os.uname().machine}-linux", FILE_NAME) for place in above)]
+    named = os.environ.get(VARIABLE) or next(filter(os.path.isfile, places), "")
     if named:
         return _loaded(named)
     try:
         return _loaded(FILE_NAME)
     except LibraryError as error:
-        raise LibraryError(f"{error}, nor is it {' or '.join(map(str, places))}: set {VARIABLE} to its path") from None
+        raise LibraryError(f"{error}, nor is it {' or '.join(places)}: set {VARIABLE} to its path") from None
 
 
 load = lru_cache(maxsize=None)(open_library)

@@ -50,13 +50,12 @@ def syntax_of(name: str) -> str:
     return " ".join([name, *(field.syntax for field in LINE_FIELDS[name])])
 
 
+@lru_cache(maxsize=len(LINE_FIELDS))
 def _pattern(name: str) -> "re.Pattern[str]":
+    """What matches a line of this name."""
     fields = (f" ([0-9A-Fa-f]{{{field.digits}}})" if field.digits else "(?: ((?:[0-9A-Fa-f]{2}){1,128}))?"
               for field in LINE_FIELDS[name])
     return re.compile(name + "".join(fields))
-
-
-_PATTERNS = {name: _pattern(name) for name in LINE_FIELDS}
 
 
 def parse(line: bytes, is_first: bool = False, is_for_program: bool = False) -> Command:
@@ -78,7 +77,7 @@ def _parse(line: bytes, is_first: bool) -> Command:
     name = text.partition(" ")[0]
     if name not in LINE_FIELDS:
         raise ScriptError("no line has this name")
-    found = _PATTERNS[name].fullmatch(text)
+    found = _pattern(name).fullmatch(text)
     if not found:
         raise ScriptError(f"the syntax is: {syntax_of(name)}")
     if name == MASK and not is_first:

@@ -202,9 +202,9 @@ class Runs(FolderTest):
         self.assertEqual((-signal.SIGINT, "", ""), ended([sys.executable, "-c", program], env=ENVIRONMENT))
 
     def test_ctrl_c_ends_each_form(self):
-        for arguments, call in (("'-'", "os.read"), ("'--shell', '-'", "it.Session.run_lines"),
+        for arguments, call in (("'-'", "os.read"), ("'--shell', '-'", "superio.session.Session.run_lines"),
                                 ("'view', '-'", "superio.view._steps")):
-            program = ("import os, sys, unittest.mock, superio.__main__ as it, superio.view\n"
+            program = ("import os, sys, unittest.mock, superio.__main__ as it, superio.session, superio.view\n"
                        f"{call} = unittest.mock.Mock(side_effect=KeyboardInterrupt)\n"
                        f"sys.exit(it.main([{arguments}]))")
             self.assertEqual((128 + signal.SIGINT, "", ""), ended([sys.executable, "-c", program], env=ENVIRONMENT))
