@@ -82,6 +82,33 @@ def contents(device):
     return bytes(device._struct) if hasattr(device, "_struct") else pickle.dumps(device)
 
 
+# Makes the runs of a file, each with a folder, arguments and a standard input, as `python3 -m superio` does. Each has a
+# process of its own, which is forked after the slow part of a start. Prints how each ends.
+FORKED = f"""import gc, os, pickle, runpy, signal, sys
+from contextlib import suppress
+import argparse, superio.program, superio.prompt, superio.session, superio.view
+with open(sys.argv[1], "rb") as file:
+    runs = pickle.load(file)
+gc.freeze()  # so that no fork copies all of that when it ends
+for place, (folder, arguments, script) in enumerate(runs):
+    source, pipe = os.pipe()
+    if not (child := os.fork()):
+        signal.alarm({TIMEOUT})
+        os.close(pipe)
+        os.dup2(source, 0)
+        for number, name in ((1, "stdout"), (2, "stderr")):
+            os.dup2(os.open(f"{{sys.argv[1]}}.{{place}}.{{name}}", os.O_WRONLY | os.O_CREAT), number)
+        os.chdir(folder)
+        sys.argv[1:] = map(os.fsdecode, arguments)
+        runpy.run_module("superio", run_name="__main__", alter_sys=True)
+    os.close(source)
+    with suppress(BrokenPipeError), open(pipe, "wb") as file:
+        file.write(script)
+    status = os.waitpid(child, 0)[1]
+    print(-os.WTERMSIG(status) if os.WIFSIGNALED(status) else os.WEXITSTATUS(status), flush=True)
+"""
+
+
 class FolderTest(unittest.TestCase):
     """A test with a folder of its own, and the name of a file in it."""
 
@@ -102,3 +129,17 @@ def ended(command, script=b"", **options):
 def run(*arguments, script=b"", **options):
     """Those of `python3 -m superio`."""
     return ended([sys.executable, "-m", "superio", *arguments], script, **options)
+
+
+def run_each(runs, **options):
+    """Those of each run of a list, given by its folder, its arguments and its standard input. It takes less time than by
+    `run`, since they share one start."""
+    with tempfile.TemporaryDirectory() as folder:
+        listed = Path(folder, "runs")
+        listed.write_bytes(pickle.dumps([(os.fsencode(place), [os.fsencode(word) for word in arguments], script)
+                                         for place, arguments, script in runs]))
+        status, statuses, errors = ended([sys.executable, "-c", FORKED, listed], **options)
+        assert (status, errors) == (0, ""), errors
+        said = [[Path(f"{listed}.{place}.{name}").read_bytes().decode() for name in ("stdout", "stderr")]
+                for place in range(len(runs))]
+        return [(int(status), *texts) for status, texts in zip(statuses.split(), said)]

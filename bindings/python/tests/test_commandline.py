@@ -7,6 +7,7 @@ import resource
 import signal
 import subprocess
 import sys
+import tempfile
 import threading
 import time
 import unittest
@@ -14,7 +15,7 @@ from contextlib import suppress
 from pathlib import Path
 from unittest import mock
 
-from support import ENVIRONMENT, ROOT, TIMEOUT, FolderTest, ended, run
+from support import ENVIRONMENT, ROOT, TIMEOUT, FolderTest, ended, run, run_each
 
 import superio
 from superio import Rtc, RtcState, Serial, SerialState, registers
@@ -27,13 +28,21 @@ NAME = f"{os.path.basename(sys.executable)} -m superio"
 CLOSED = f"{NAME}: Bad file descriptor\n"
 NO_FILE = "/proc/self/mem"  # which can be opened, and not read from its start
 
-# Arguments and standard input, and the status, the output and the errors.
+# Arguments and standard input, and the status, the output and the errors. Each of these is started by itself.
+STARTS = [
+    (SHELL, b"\n   # indented\n  kr 04  \t\r\nread LSR\r\n\r\nkr 04", (0, "00\nLSR = 0x60  THRE TEMT\n00\n", "")),
+    ([*SHELL, "/"], b"", (2, "", f"{NAME}: /: Is a directory\n")),
+    (SCRIPT, b"refuse 0000000000000001\nsw 01 02\nkr 04", (0, "trigger\n00\n", "")),
+    (SCRIPT, b"kr 04\nsr 5\nkr 04\n", (1, "00\n", "bad line 2\n")),
+    (["view", "-"], b"sr\n", (1, "", '<stdin>:1: "sr": the syntax is: sr OO\n')),
+    (["--version"], b"", (0, f"superio {superio.__version__}\n", "")),
+]
+# These share one start.
 RUNS = [
     (SHELL, b"# comment\nkr 04\nread XYZ\nkr 04\n",
      (1, "00\n", '<stdin>:3: "read XYZ": XYZ is no offset, and no register: '
                  f"those are {' '.join(registers.SERIAL)}\n")),
     (SHELL, b"\xff\x1b\n", (1, "", '<stdin>:1: "\\xff\\x1b": no command is called \\xff\\x1b: help lists them\n')),
-    (SHELL, b"\n   # indented\n  kr 04  \t\r\nread LSR\r\n\r\nkr 04", (0, "00\nLSR = 0x60  THRE TEMT\n00\n", "")),
     (SHELL, b"# " + b"x" * 200_000 + b"\nkr 04\nkr", (1, "00\n", '<stdin>:3: "kr": the syntax is: kr OO\n')),
     (SHELL, b"kr " + b"1" * 100,
      (1, "", f'<stdin>:1: "kr {"1" * 57}..": {"1" * 24}.. is no offset: it is from 0 to 0xff\n')),
@@ -42,19 +51,15 @@ RUNS = [
     (SHELL, b"kr 04\nload /nowhere/at/all\nkr 04\n", (1, "00\n", '<stdin>:2: "load /nowhere/at/all": ' + NOWHERE)),
     (SHELL, b"load /proc/self/mem\n", (1, "", f'<stdin>:1: "load {NO_FILE}": {NO_FILE}: Input/output error\n')),
     ([*SHELL, NO_FILE], b"", (2, "", f"{NAME}: {NO_FILE}: Input/output error\n")),
-    ([*SHELL, "/"], b"", (2, "", f"{NAME}: /: Is a directory\n")),
     (["/"], b"", (2, "", "input or output fault\n")),
     # A script, of which `tests/python` runs many. What the shell alone takes is bad.
     *((SCRIPT, b"kr 04\n" + line + b"\nkr 04\n", (1, "00\n", "bad line 2\n")) for line in (
-        b"sr 5", b"si", b"# read LSR", b"kr 04\r")),
-    (SCRIPT, b"refuse 0000000000000001\nsw 01 02\nkr 04", (0, "trigger\n00\n", "")),
+        b"si", b"# read LSR", b"kr 04\r")),
     (SCRIPT, b"", (0, "", "")),
     (SCRIPT, b"kr 04\n" * 10_923, (4, "", "script too long\n")),
     (["/nowhere/at/all"], b"", (2, "", f"{NAME}: {NOWHERE}")),
     (["view", "/nowhere/at/all"], b"", (2, "", f"{NAME}: {NOWHERE}")),
-    (["view", "-"], b"sr\n", (1, "", '<stdin>:1: "sr": the syntax is: sr OO\n')),
     (["view", "-"], b"# nothing\n", (1, "", "- has no call\n")),
-    (["--version"], b"", (0, f"superio {superio.__version__}\n", "")),
 ]
 
 HELD = "hi".ljust(64, "*")  # as many bytes as a port holds
@@ -142,20 +147,22 @@ COMMANDS = [
 
 class Runs(FolderTest):
     def test_runs(self):
-        for arguments, script, expected in RUNS:
+        started = [run(*arguments, script=script) for arguments, script, _ in STARTS]
+        forked = run_each([(self.folder, arguments, script) for arguments, script, _ in RUNS])
+        for (arguments, script, expected), done in zip(STARTS + RUNS, started + forked):
             with self.subTest((arguments, script[:50])):
-                self.assertEqual(expected, run(*arguments, script=script))
+                self.assertEqual(expected, done)
 
     def test_files(self):
-        for before, script, expected, said, new in FILES:
-            for path in self.folder.iterdir():
-                path.unlink()
+        folders = [Path(tempfile.mkdtemp(dir=self.folder)) for _ in FILES]
+        for folder, (before, *_) in zip(folders, FILES):
             for name, text in before.items():
-                (self.folder / name).write_text(text)
+                (folder / name).write_text(text)
+        ends = run_each([(folder, SHELL, script.encode()) for folder, (_, script, *_) in zip(folders, FILES)])
+        for folder, (before, script, expected, said, new), (*done, errors) in zip(folders, FILES, ends):
             with self.subTest(script, before=before):
-                *done, errors = run("--shell", script=script.encode(), cwd=self.folder)
                 self.assertEqual((expected, True), (tuple(done), said in errors if said else not errors), errors)
-                self.assertEqual({**before, **new}, {path.name: path.read_text() for path in self.folder.iterdir()})
+                self.assertEqual({**before, **new}, {path.name: path.read_text() for path in folder.iterdir()})
 
     def test_file_pipe_and_dash_are_the_same(self):
         expected = run(script=EXAMPLE.read_bytes())

@@ -2,18 +2,16 @@
 """Numbers, dates and names at the edges of their types, as the devices, the shell and the viewer show them."""
 import calendar
 import io
-import json
 import os
 import re
 import shlex
-import sys
 import tempfile
 import unittest
 from pathlib import Path
 from unittest import mock
 from xml.etree import ElementTree
 
-from support import ENVIRONMENT, TIMEOUT, FolderTest, ended, run
+from support import ENVIRONMENT, FolderTest, run, run_each
 
 from superio import Board, Console, ConsoleState, Rtc, RtcState, Serial, SerialState, parse
 from superio.__main__ import _parser, _viewer_parser
@@ -55,22 +53,6 @@ SHOWN = re.compile(r"caf(?:\\udc|\\x)e9")
 # Locales: one of UTF-8, where Python refuses what is none in standard input, and one of ASCII.
 LOCALES = [{"PYTHONUTF8": "1", "PYTHONIOENCODING": "utf-8:strict"},
            {"PYTHONUTF8": "0", "PYTHONCOERCECLOCALE": "0", "LC_ALL": "C"}]
-
-# Makes the runs of a file, each a folder and arguments, as `python3 -m superio` does. Each has a process of its own,
-# which is forked after the slow part of a start. Prints how each ends.
-FORKED = f"""import json, os, runpy, signal, sys
-from pathlib import Path
-import superio.program, superio.prompt, superio.session, superio.view
-for folder, *arguments in json.loads(Path(sys.argv[1]).read_text()):
-    if not (child := os.fork()):
-        signal.alarm({TIMEOUT})
-        for number, name in enumerate(("stdin", "stdout", "stderr")):
-            os.dup2(os.open(os.path.join(folder, name), os.O_RDWR | os.O_CREAT), number)
-        os.chdir(os.path.join(folder, "files"))
-        sys.argv[1:] = [os.fsdecode(bytes.fromhex(word)) for word in arguments]
-        runpy.run_module("superio", run_name="__main__", alter_sys=True)
-    print(os.waitpid(child, 0)[1], flush=True)
-"""
 
 
 def session_at(now, *lines):
@@ -342,24 +324,16 @@ class Names(FolderTest):
 
     def ends(self, name, cases, locale):
         """How a run of each case with this name ends, and what it leaves, in which the name is then the plain one."""
-        top, runs = Path(tempfile.mkdtemp(dir=self.folder)), []
-        for place, (kind, arguments, lines) in enumerate(cases):
-            folder = top / str(place)
-            (folder / "files").mkdir(parents=True)
-            (folder / "stdin").write_bytes(os.fsencode(lines.format(name)))
+        runs = []
+        for kind, arguments, lines in cases:
+            folder = Path(tempfile.mkdtemp(dir=self.folder))
             for given in ["a script", *[name] * (kind == "there")]:
-                (folder / "files" / given).write_bytes(b"kr 04\n")
-            runs.append([str(folder), *(os.fsencode(word.format(name)).hex() for word in arguments)])
-        (top / "runs").write_text(json.dumps(runs))
-        status, statuses, errors = ended([sys.executable, "-c", FORKED, top / "runs"], env={**ENVIRONMENT, **locale})
-        self.assertEqual((0, ""), (status, errors))
-        return [[int(status), *self.left(Path(folder), name)] for status, (folder, *_) in zip(statuses.split(), runs)]
-
-    def left(self, folder, name):
-        """What a run has said, and the files."""
-        said = [SHOWN.sub(PLAIN, (folder / stream).read_text("utf-8")) for stream in ("stdout", "stderr")]
-        return [*said, {path.name.replace(name, PLAIN): SHOWN.sub(PLAIN, path.read_text("utf-8"))
-                        for path in (folder / "files").iterdir()}]
+                (folder / given).write_bytes(b"kr 04\n")
+            runs.append((folder, [word.format(name) for word in arguments], os.fsencode(lines.format(name))))
+        done = run_each(runs, env={**ENVIRONMENT, **locale})
+        return [[status, *(SHOWN.sub(PLAIN, text) for text in said), {
+            path.name.replace(name, PLAIN): SHOWN.sub(PLAIN, path.read_text("utf-8")) for path in folder.iterdir()}]
+            for (status, *said), (folder, *_) in zip(done, runs)]
 
     def test_each_place_where_a_file_can_be_named_is_tried(self):
         named = {action.dest for parser in (_parser("it"), _viewer_parser("it")) for action in parser._actions
