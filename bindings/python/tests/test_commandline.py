@@ -173,10 +173,11 @@ class Runs(FolderTest):
     def test_the_program_at_the_top_is_the_same(self):
         self.path.symlink_to(TOP)
         bare = {name: text for name, text in ENVIRONMENT.items() if name == "SUPERIO_LIBRARY"}
+        expected = run(EXAMPLE)
         for program in (TOP, self.path):
             def called(*arguments):
                 return ended([program, *arguments], cwd=self.folder, env={"PATH": "/usr/bin:/bin", **bare})
-            self.assertEqual(run(EXAMPLE), called(EXAMPLE))
+            self.assertEqual(expected, called(EXAMPLE))
             # What it says of itself has the name by which it was called.
             self.assertEqual((2, "", f"{program}: {NOWHERE}"), called("/nowhere/at/all"))
             for words in ([], ["view"]):
