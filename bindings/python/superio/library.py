@@ -101,7 +101,7 @@ def open_library() -> ctypes.PyDLL:
     above = [os.path.normpath(os.path.join(_PACKAGE, *[".."] * up)) for up in (1, 3) if up <= _PACKAGE.count(os.sep)]
     places = [os.path.join(_PACKAGE, FILE_NAME),
               *(os.path.join(place, "prebuilt", f"{os.uname().machine}-linux", FILE_NAME) for place in above)]
-    named = os.environ.get(VARIABLE) or next(filter(os.path.isfile, places), "")
+    named = os.environ.get(VARIABLE) or next((path for path in places if os.path.isfile(path)), "")
     if named:
         return _loaded(named)
     try:
