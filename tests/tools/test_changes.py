@@ -1,7 +1,7 @@
 # SPDX-License-Identifier: Apache-2.0 OR BSD-3-Clause
 """Whoever follows a list of CONTRIBUTING.md edits no file by hand that the list does not name. Each file of the folder
 `changes` has the edits of one change. They are made in a copy of the repository, where `tools/generate` runs.
-Then tests that such a change can break pass there, which are TESTS or those that the file names. They use the C library
+Then tests that such a change can break pass there: TESTS, and those that the file names. They use the C library
 as Cargo compiles it of the edited code. The prover is not asked here, so nothing tells whether the edited definitions
 and code fit each other."""
 import os
@@ -18,19 +18,23 @@ from harness import ROOT, at_least, check
 CHANGES = {path.stem: tomllib.loads(path.read_text("utf-8"))
            for path in at_least(6, sorted((ROOT / "tests/tools/changes").glob("*.toml")))}
 # Those in a row are made in one copy, because what follows takes half a minute: none of them edits what another does.
-TOGETHER = "line bit clock error", "number", "device"
+# So `clock` and `number` are apart. Tests that `device` names take no other bit of IER, and no other number of the
+# interface, so those are not with it.
+TOGETHER = "line clock device", "bit error number"
 GUIDE = Document("CONTRIBUTING.md").text
 CRATES = re.findall(r"(\w+) is `(crates/\w+)`", GUIDE)
 STEPS = "facts", "rust", "lines", "interface"
 BUILD = ["cargo", "rustc", "--crate-type", "cdylib", "--release", "--quiet", "--offline", "--target-dir", "out",
          "--manifest-path", "bindings/c/from-source/Cargo.toml"]
-# Of the boards only the scripts that are kept: the random ones take a minute.
+# Of the boards only the scripts that are kept, since the random ones take a minute. Of traces only that of a console.
 TESTS = ["tests/documents/test_differences.py", "tests/documents/test_registers.py",
          "tests/documents/test_saved_states.py", "tests/documents/test_tables_of_devices.py",
-         "tests/tools/test_made_facts.py", "tests/python/test_boards.py", "tests/python/test_traces.py",
-         "bindings/python/tests/test_every_call.py", "-k",
-         "documents or made_facts or test_lines or test_made or test_syntax or kept_script or recording and console or "
-         "state_goes"]
+         "tests/tools/test_made_facts.py", "tests/python/test_traces.py::test_table_of_a_recording",
+         "tests/python/test_traces.py::test_numbers_that_pages_say",
+         *(f"tests/python/test_boards.py::{name}" for name in (
+             "test_lines", "test_lines_of_no_device", "test_made", "test_syntax_of_the_document", "test_kept_script")),
+         "bindings/python/tests/test_every_call.py::EveryState"]
+CHOSEN = "not test_traces or console"
 PATHS = "tools:tests/common:tests/devices:bindings/python"
 SCRIPTS = ("import json; from script_tests import kept_scripts, made_scripts; "
            "print(json.dumps([*kept_scripts(), *made_scripts('changes', 200)]))")
@@ -120,8 +124,8 @@ def test_changes(names, tmp_path):
     if any(file.startswith("rust/vm-superio/src/") for file in files):
         Cargo(tmp_path / "rust/vm-superio").check("check")
     library = {**os.environ, "SUPERIO_LIBRARY": str(tmp_path / "out/release/libsuperio_c.so")}
-    tests = changes[0].get("tests", TESTS)
-    check([sys.executable, "-m", "pytest", "-q", "--without", "kit", *tests], cwd=tmp_path, env=library)
+    tests = [*TESTS, *(test for change in changes for test in change.get("tests", []))]   # pytest runs each once
+    check([sys.executable, "-m", "pytest", "-q", "--without", "kit", "-k", CHOSEN, *tests], cwd=tmp_path, env=library)
     if any("superio_script" in file for file in files):   # over the page's devices, which the step `module` makes
         scripts = check([sys.executable, "-c", SCRIPTS], cwd=tmp_path, env={**os.environ, "PYTHONPATH": PATHS})
         check(["node", "bindings/js/tests/run_scripts.mjs"], cwd=tmp_path, input=scripts)

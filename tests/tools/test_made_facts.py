@@ -53,9 +53,9 @@ def test_rows(name):
 @pytest.mark.parametrize("name, form, value", at_least(25, facts.PLACES))
 def test_place(name, form, value):
     """Another value takes the place of this one, and nothing else changes."""
-    text = text_of(name)
-    other = facts.replaced(text, form, "7")
-    assert other != text and facts.replaced(other, form.replace(r"(\d+)", "(7)"), str(value)) == text
+    text, digit = text_of(name), "8" if str(value) == "7" else "7"
+    other = facts.replaced(text, form, digit)
+    assert other != text and facts.replaced(other, form.replace(r"(\d+)", f"({digit})"), str(value)) == text
 
 
 # The kinds of manifests and sources. One of them is a copy that the step interface makes.
