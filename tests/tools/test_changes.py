@@ -20,7 +20,7 @@ CHANGES = {path.stem: tomllib.loads(path.read_text("utf-8"))
 # Those in a row are made in one copy, because what follows takes half a minute: none of them edits what another does.
 # So `clock` and `number` are apart. Tests that `device` names take no other bit of IER, and no other number of the
 # interface, so those are not with it.
-TOGETHER = "line clock device", "bit error number"
+TOGETHER = "clock device", "line bit error number"
 GUIDE = Document("CONTRIBUTING.md").text
 CRATES = re.findall(r"(\w+) is `(crates/\w+)`", GUIDE)
 STEPS = "facts", "rust", "lines", "interface"
