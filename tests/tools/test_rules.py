@@ -108,7 +108,9 @@ for line in sys.stdin:
 @pytest.fixture(scope="module")
 def run_pytest():
     """Runs the tests of a folder without any tool, with these words and variables of the environment."""
-    with subprocess.Popen([sys.executable, "-c", FORKED], env={"PATH": "/nowhere"}, text=True,
+    # Nearly every folder has one run, to which what it compiles is of no further use.
+    environment = {"PATH": "/nowhere", "PYTHONDONTWRITEBYTECODE": "1"}
+    with subprocess.Popen([sys.executable, "-c", FORKED], env=environment, text=True,
                           stdin=subprocess.PIPE, stdout=subprocess.PIPE) as process:
         def run_pytest(folder, *words, **variables):
             print(json.dumps([str(folder), words, variables]), file=process.stdin, flush=True)
