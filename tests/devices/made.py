@@ -161,7 +161,7 @@ def random_calls(source, is_for_program=False):
     clock_start = clock_used(source) if is_for_program else [("clock_load", saved_clock(source))]
     port, clock, others = SCRIPT_CALLS if is_for_program else BOARD_CALLS
     others_start = drawn(source, others, source.randrange(16))
-    full = [("serial_write", 0, value) for value in source.randbytes(255)]
+    full = (("serial_write", 0, value) for value in source.randbytes(255))
     start, table = source.choices(
         [([], port), (port_start, port), (full, port), ([], clock), (clock_start, clock),
          ([*port_start, *clock_start, *others_start], [*port, *clock, *others, *others])], [8, 8, 1, 4, 4, 4])[0]

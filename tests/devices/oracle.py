@@ -1,9 +1,9 @@
 # SPDX-License-Identifier: Apache-2.0 OR BSD-3-Clause
 """What devices show, by a search of all that was done before: slow, and plainly right.
 
-There are no registers, and no rule is shared with the definitions that the proofs use. Of each call a fact is kept:
-what it wrote, raised and acknowledged, and which bytes were accepted and read out. What a call shows is found by a
-search of the facts before it. A search ends at the latest at the newest start state, a fact of the past too.
+There are no registers, and no rule is shared with the definitions that the proofs use. Of each call that did something
+a fact is kept: what it wrote, raised and acknowledged, and which bytes were accepted and read out. What a call shows is
+found by a search of the facts before it. A search ends at the latest at the newest start state, a fact of the past too.
 docs/DEVICES.md has the rules. The map of registers and bits is that of interface.toml, by facts.py.
 """
 from typing import NamedTuple
@@ -38,6 +38,11 @@ class Device:
             if name in fact.made:
                 return fact.made[name]
         raise KeyError(name)
+
+    def remember(self, made, **fact):
+        """Keeps the fact of a call, if it did anything. Without the others a search has less to look at."""
+        if made or fact:
+            self.past.append(Fact(made, **fact))
 
 
 class Port(Device):
@@ -93,7 +98,7 @@ class Port(Device):
 
     def done(self, reply, made, is_taken=True, **fact):
         """Remembers a call, and returns its reply. A refusal takes the place of any other reply."""
-        self.past.append(Fact(made, **fact))
+        self.remember(made, **fact)
         return reply if is_taken else "trigger"
 
     def read(self, offset):
@@ -205,7 +210,7 @@ class Clock(Device):
         is_reached = self.last("armed") and guest_time >= self.last("MR")
         name, found = CLOCK_AT.get(offset), {"RIS": 1, "armed": 0} if is_reached else {}
         if value is None:
-            self.past.append(Fact(found))
+            self.remember(found)
             return self.shown(name, guest_time) if name else ID_AT.get(offset)
         writes = {
             "MR": {"MR": value, "armed": int(value > guest_time)} | ({"RIS": 1} if value == guest_time else {}),
@@ -214,5 +219,5 @@ class Clock(Device):
             "IMSC": {"IMSC": value & 1},
             "ICR": {"cleared": value}}
         is_taken = name is not None and name not in READ_ONLY
-        self.past.append(Fact(found | writes.get(name, {name: value} if is_taken else {})))
+        self.remember(found | writes.get(name, {name: value} if is_taken else {}))
         return 0 if is_taken else None
