@@ -43,6 +43,11 @@ def loads():
     return calls, replies_of(Board(oracle), calls)
 
 
+@cache
+def random_runs():
+    return random_recorded(seeds("Rust", RUNS))
+
+
 def test_number_of_calls():
     assert sum(len(recorded()[name]) for name in RECORDINGS) >= 211_850
     assert sum(len(recorded()[path.name]) for path in FURTHER) >= 150
@@ -59,7 +64,7 @@ def test_models(name, devices):
 
 def test_models_agree():
     """Both models do the same in every answer, in loads and in random calls."""
-    runs = [rows_of(recording_of(calls)) for calls in random_recorded(seeds("Rust", RUNS))]
+    runs = [rows_of(recording_of(calls)) for calls in random_runs()]
     for rows in [answers(), *runs]:
         recorder = Recorder(model)
         assert not difference(rows, [recorder.make(call) for call, _ in rows])
@@ -98,7 +103,7 @@ def test_every_load_in_rust(rust):
 @pytest.mark.needs("cargo", "cc")
 def test_random_calls_in_rust(rust):
     """A failure shows the fewest calls of a run that differ from new devices on, or else the run."""
-    runs, recorder = random_recorded(seeds("Rust", RUNS)), Recorder()
+    runs, recorder = random_runs(), Recorder()
     made = iter(rust([call for calls in runs for call in calls]))
     for calls in runs:
         rows = rows_of(recording_of(calls, recorder))   # a run goes on with the devices of the run before

@@ -6,6 +6,7 @@ that do, as rows of a script with both replies.
 import random
 import re
 from concurrent.futures import ThreadPoolExecutor
+from functools import cache
 from itertools import groupby
 
 import made
@@ -32,14 +33,6 @@ def calls_of(seed, is_for_program):
     return [*random_calls(random.Random(seed), is_for_program), *(SHOWN if is_for_program else SAVED)]
 
 
-def compare(seed, calls, ends, replies, expected):
-    """Fails with the fewest calls that differ, if any do. Both functions give the replies to calls."""
-    if replies(calls) != expected(calls):
-        few = fewest(calls[:-len(ends)], lambda fewer: replies([*fewer, *ends]) != expected([*fewer, *ends]))
-        calls = [*few, *ends]
-        pytest.fail(f"seed {seed}\n{shown(calls, replies(calls), expected(calls))}", pytrace=False)
-
-
 def by_search(calls):
     return replies_of(Board(oracle), calls)
 
@@ -48,12 +41,29 @@ def by_steps(calls):
     return replies_of(Board(model), calls)
 
 
+@cache   # two tests make the calls of most seeds
+def of_seed(seed, is_for_program):
+    """The calls of a seed, and what the model of steps replies."""
+    calls = calls_of(seed, is_for_program)
+    return calls, by_steps(calls)
+
+
+def compare(seed, is_for_program, replies):
+    """Fails with the fewest calls that differ, if any do: a function gives the replies to calls."""
+    calls, expected = of_seed(seed, is_for_program)
+    if replies(calls) != expected:
+        ends = SHOWN if is_for_program else SAVED
+        few = fewest(calls[:-len(ends)], lambda fewer: replies([*fewer, *ends]) != by_steps([*fewer, *ends]))
+        calls = [*few, *ends]
+        pytest.fail(f"seed {seed}\n{shown(calls, replies(calls), by_steps(calls))}", pytrace=False)
+
+
 @pytest.mark.needs("kit")
 def test_program(program):
     def by_program(calls):
         return run(program, script_of(calls))[0].split("\n")[:-1]
     for seed in seeds("program", FOR_PROGRAM):
-        compare(seed, calls_of(seed, True), SHOWN, by_program, by_steps)
+        compare(seed, True, by_program)
 
 
 @pytest.mark.parametrize("library", ["prebuilt", pytest.param("source", marks=pytest.mark.needs("cargo", "cc"))])
@@ -64,7 +74,7 @@ def test_python(library, request, monkeypatch):
     monkeypatch.setattr("superio.saved.load", lambda: opened)
     monkeypatch.setattr("superio.devices.load", lambda: opened)
     for seed in seeds("board", FOR_BOARD)[["prebuilt", "source"].index(library)::2]:
-        compare(seed, calls_of(seed, False), SAVED, lambda calls: replies_of(PythonBoard(), calls), by_steps)
+        compare(seed, False, lambda calls: replies_of(PythonBoard(), calls))
 
 
 @pytest.mark.parametrize("what, number, is_for_program", [("program", FOR_SEARCH, True), ("board", FOR_BOARD, False)])
@@ -72,7 +82,7 @@ def test_models(what, number, is_for_program):
     """The search of the past and the model of steps agree on all calls that the boards make, and on a quarter of those
     that the program makes. A board makes each call of the program too, from more states."""
     for seed in seeds(what, number):
-        compare(seed, calls_of(seed, is_for_program), SHOWN if is_for_program else SAVED, by_search, by_steps)
+        compare(seed, is_for_program, by_search)
 
 
 def run_all(program, scripts):
