@@ -127,7 +127,9 @@ def test_same_again(library, made):
         again = [Place(source, argument.content_before()) if isinstance(argument, Place) else argument
                  for argument in arguments]
         result_again, left_again = call(library, function, again)
-        if (result_again, fields_left(function, left_again)) != (result, fields_left(function, left)):
+        # Bytes that are equal have equal fields.
+        is_left = left_again == left or fields_left(function, left_again) == fields_left(function, left)
+        if result_again != result or not is_left:
             different.add(function.name)
     assert not different
 
@@ -244,7 +246,8 @@ def test_there_and_back(library, kind):
 
 def in_ring(ring, head, count):
     """The bytes of a ring, the oldest first."""
-    return [ring[(head + place) % len(ring)] for place in range(min(count, len(ring)))]
+    start = head % len(ring)
+    return (ring[start:] + ring[:start])[:count]
 
 
 def kept(device):
