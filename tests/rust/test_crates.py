@@ -204,7 +204,7 @@ def test_on(target, crate, tmp_path):
 
 def test_drop_in(tmp_path):
     """The program that makes calls compiles over the crate with the names of vm-superio 0.8.2 alone."""
-    built = Comparison(tmp_path, DROP_IN).build()
+    built = Comparison(tmp_path, DROP_IN).build(CARGO_PROFILE_RELEASE_OPT_LEVEL="0")   # it does not run
     assert built.returncode == 0, built.stdout
 
 
