@@ -209,7 +209,7 @@ def test_the_order_of_libraries(tmp_path, monkeypatch):
               "The library in the folder `prebuilt`": tmp_path / name,
               "The library in the package": package / library.FILE_NAME,
               "The library that your system": Path(library.FILE_NAME)}
-    monkeypatch.setattr(library, "_PACKAGE", str(package))
+    monkeypatch.setattr(library, "_PACKAGE", package)
     monkeypatch.setattr(library, "_loaded", Path)
     monkeypatch.delenv(library.VARIABLE, raising=False)
     for said in reversed(at_least(4, FOUND)):

@@ -59,7 +59,7 @@ def _run_program(path: str) -> int:
 
 
 def _run_shell(path: str) -> None:
-    from .prompt import Leave, use_history   # here, as no script of the program has to wait for them
+    from .prompt import Leave, use_history   # here, since a script of the program needs neither
     from .session import Session
     session = Session(sys.stdout)
     with suppress(Leave):
@@ -75,7 +75,7 @@ def _run_shell(path: str) -> None:
 def _run(arguments: List[str], name: str) -> int:
     """Carries out the command line, and returns the exit status."""
     if arguments[:1] == ["view"]:
-        from .view import view   # here, as no other start has to wait for it
+        from .view import view   # here, since nothing else needs its imports
         options = _viewer_parser(name).parse_args(arguments[1:])
         view(options.trace, options.table, options.svg)
         return 0

@@ -5,11 +5,11 @@ import ctypes
 import os
 import re
 from functools import lru_cache
+from pathlib import Path
 from typing import Any, Dict, List
 
-_PACKAGE = os.path.dirname(os.path.realpath(__file__))
-with open(os.path.join(_PACKAGE, "superio.abi"), encoding="ascii") as _file:
-    _TABLE = _file.read()
+_PACKAGE = Path(__file__).resolve().parent
+_TABLE = (_PACKAGE / "superio.abi").read_text(encoding="ascii")
 
 
 def _found(row: str) -> List[Any]:
@@ -97,17 +97,17 @@ def open_library() -> ctypes.PyDLL:
 
     Raises `LibraryError` if there is none, or if the first one found cannot be used.
     """
-    # The folder of the sources alone, and the repository. A package that is less deep is in none.
-    above = [os.path.normpath(os.path.join(_PACKAGE, *[".."] * up)) for up in (1, 3) if up <= _PACKAGE.count(os.sep)]
-    places = [os.path.join(_PACKAGE, FILE_NAME),
-              *(os.path.join(place, "prebuilt", f"{os.uname().machine}-linux", FILE_NAME) for place in above)]
-    named = os.environ.get(VARIABLE) or next((path for path in places if os.path.isfile(path)), "")
+    # The folder of the sources alone, and the repository.
+    above = [place for number, place in enumerate(_PACKAGE.parents) if number in (0, 2)]
+    places = [_PACKAGE / FILE_NAME, *(place / "prebuilt" / f"{os.uname().machine}-linux" / FILE_NAME
+                                      for place in above)]
+    named = os.environ.get(VARIABLE) or next((str(path) for path in places if path.is_file()), "")
     if named:
         return _loaded(named)
     try:
         return _loaded(FILE_NAME)
     except LibraryError as error:
-        raise LibraryError(f"{error}, nor is it {' or '.join(places)}: set {VARIABLE} to its path") from None
+        raise LibraryError(f"{error}, nor is it {' or '.join(map(str, places))}: set {VARIABLE} to its path") from None
 
 
 load = lru_cache(maxsize=None)(open_library)

@@ -60,7 +60,7 @@ def write_text(path: str, text: str) -> None:
 
 
 def _replace(target: str, text: str) -> None:
-    import tempfile   # here, as no other start has to wait for it
+    import tempfile   # here, since only a command that writes a file needs it
     with tempfile.TemporaryDirectory(prefix=".superio-", dir=os.path.dirname(target)) as folder:
         beside = os.path.join(folder, "new")
         with open(beside, "w", encoding="utf-8") as file:
@@ -101,7 +101,7 @@ class Prompt(cmd.Cmd):
     def entry(self, name: str) -> Help:
         """The command of this name. If there is none, the fault suggests one that is written much like it."""
         if name not in self.help:
-            import difflib   # here, as no other start has to wait for it
+            import difflib   # here, since only this fault needs it
             like = difflib.get_close_matches(name.lower(), self.help, 1)
             suggested = f"did you mean {like[0]}? " if like else ""
             raise ScriptError(f"no command is called {shown(name)}: {suggested}help lists them")

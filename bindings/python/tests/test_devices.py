@@ -231,7 +231,7 @@ class Arguments(unittest.TestCase):
         for first in [*map(str, places), library.FILE_NAME]:
             for named in (None, "", "/nowhere/lib.so"):
                 with self.subTest(first=first, named=named), mock.patch.dict(os.environ), \
-                        mock.patch.object(library, "_PACKAGE", str(package)), \
+                        mock.patch.object(library, "_PACKAGE", package), \
                         mock.patch.object(library, "_loaded", lambda path: path):
                     os.environ.pop(library.VARIABLE, None)
                     os.environ.update({library.VARIABLE: named} if named is not None else {})
