@@ -37,7 +37,8 @@ async function open(fragment, width = WIDTH, scheme = SCHEME) {
   if (!opens) throw new Error("the page has not opened before");
   const frame = document.createElement("iframe");
   Object.assign(frame, { src: address + fragment, width, height: HEIGHT });
-  frame.style.colorScheme = scheme;
+  // Beside the window, where it is laid out as in it, but not painted: nothing here looks at its picture.
+  Object.assign(frame.style, { colorScheme: scheme, position: "fixed", left: "-10000px" });
   document.body.replaceChildren(frame);
   opens = false;
   await until(() => frame.contentWindow.superio, 20_000);
