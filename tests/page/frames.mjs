@@ -164,7 +164,8 @@ const SEEN = {
   ring: () => all("#fifo path").map((path) => path.getAttribute("class") || "-").join(" "),
   "rule-link": () => by("rule").querySelector("a").getAttribute("href"),
   focus: () => labels(":focus"),
-  regions: () => all("body *").filter((one) => /^(alert|log|status)$/.test(one.computedRole))
+  // No other element has such a role. Each that is asked for makes the browser find the roles of the whole page.
+  regions: () => all("body [role], body output").filter((one) => /^(alert|log|status)$/.test(one.computedRole))
     .map((one) => `${one.id} ${one.computedRole}`).join(", "),
   hash: () => page.location.hash,
   taking: () => String(!by("take-over").hidden),
