@@ -248,19 +248,24 @@ function contrast(one) {
 const named = (one) => [...["for", "aria-labelledby", "aria-describedby"].map((name) => one.getAttribute(name) ?? ""),
   /^#(.*)/.exec(one.getAttribute("href"))?.[1] ?? ""].join(" ").split(" ").filter(Boolean);
 
-/** How an element looks, with what is in it and what follows it. */
-const look = (one) => [one, ...one.children, one.nextElementSibling].filter(Boolean).map((each) => {
-  const style = page.getComputedStyle(each);
+/** How an element looks. */
+function look(one) {
+  const style = page.getComputedStyle(one);
   return Array.from(style, (name) => style.getPropertyValue(name)).join();
-}).join();
+}
 
-/** Whether an element looks as before once it has got or lost a class or an attribute, which is then taken back. */
+/**
+ * Whether an element, what is in it and what follows it look as before once it has got or lost a class or an attribute,
+ * which is then taken back. They are looked at one by one, until one is changed: mostly that is the element itself.
+ */
 function looksAsBefore(one, turn) {
-  const before = look(one);
-  turn();
-  const after = look(one);
-  turn();
-  return before === after;
+  return [one, ...one.children, one.nextElementSibling].filter(Boolean).every((each) => {
+    const before = look(each);
+    turn();
+    const after = look(each);
+    turn();
+    return before === after;
+  });
 }
 
 /**
