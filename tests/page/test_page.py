@@ -32,6 +32,9 @@ MOST_RUNS = 70_000   # of functions and of their parts, until the page is there
 BROWSER = ["chromium", "--headless", "--disable-gpu", "--no-first-run", "--hide-scrollbars", "--window-size=1300,900",
            "--force-prefers-reduced-motion", "--enable-logging=stderr", "--allow-file-access-from-files",
            "--enable-blink-features=ComputedAccessibilityInfo", *(["--no-sandbox"] if os.geteuid() == 0 else [])]
+# So a browser knows each element's name all the time. Otherwise it finds those of a whole page whenever it is asked for
+# one; but to know them costs more than that where few are asked for.
+FOR_A_READER = "--force-renderer-accessibility=basic"
 TOLD = re.compile(r'CONSOLE\S+ "(.*)", source: ')
 # A Linux whose driver reads 256 bytes of a paste, as it does at an interrupt, while 17 more arrive. As many wait then.
 BOOT = ";".join(f"sw 00 {byte:02x}" for byte in b"ttyS0 at I/O 0x3f8 is a 16550A\r\n\r\n~ # head -c 4096 | md5sum\r\n")
@@ -124,13 +127,13 @@ def test_a_label_of_the_documents(label):
 
 # In a browser
 
-def browse(folder, tried):
+def browse(folder, tried, *options):
     """What frames.mjs tells in a browser. What the page tells, and an early end, is wrong."""
     text = json.dumps({"address": PAGE.as_uri(), "shown": SHOWN, **tried}).replace("<", r"\u003c")
     page = folder / "frames.html"
     page.write_text(f'<!doctype html><body><script type="application/json" id="tried">{text}</script>'
                     f'<script type="module" src="{(HERE / "frames.mjs").as_uri()}"></script>', "ascii")
-    words = [*BROWSER, f"--user-data-dir={folder}", page.as_uri()]
+    words = [*BROWSER, *options, f"--user-data-dir={folder}", page.as_uri()]
     last = deque(maxlen=5)   # lines
     with subprocess.Popen(words, stdout=subprocess.DEVNULL, stderr=subprocess.PIPE, encoding="utf-8") as browser:
         timer = threading.Timer(LIMIT, browser.kill)
@@ -149,8 +152,16 @@ def browse(folder, tried):
             browser.terminate()
 
 
+def browse_all(folders, tried):
+    """What is told of all that is tried: of the looks in a browser for a screen reader."""
+    looks = {**dict.fromkeys(tried, []), "looks": tried["looks"]}
+    yield from browse(folders.mktemp("browser"), {**tried, "looks": []})
+    if tried["looks"]:
+        yield from browse(folders.mktemp("reader"), looks, FOR_A_READER)
+
+
 class Told:
-    """What a browser tells, of which no more is awaited than a test needs."""
+    """What browsers tell, of which no more is awaited than a test needs."""
 
     def __init__(self, more):
         self.rows, self.more = [], more
@@ -171,14 +182,14 @@ class Told:
 
 @pytest.fixture(scope="module")
 def told(request, tmp_path_factory):
-    """Opens the browser once, for the tests of this file that are run."""
+    """Opens the browsers once, for the tests of this file that are run."""
     items = [item for item in request.session.items if item.path == Path(__file__)]
     names = {item.callspec.params.get("name") for item in items if hasattr(item, "callspec")}
     has_scripts = any(item.name == "test_scripts" for item in items)
     tried = {kind: [row for name, row in rows.items() if name in names] for kind, rows in (
         ("features", FEATURES), ("looks", LOOKS), ("pictures", PICTURES))}
     tried["scripts"] = board_scripts("page", RANDOM_SCRIPTS) if has_scripts else []
-    more = browse(tmp_path_factory.mktemp("browser"), tried)
+    more = browse_all(tmp_path_factory, tried)
     yield Told(more)
     more.close()
 
