@@ -93,7 +93,7 @@ def _fill_closed() -> None:
     be among the replies, and the next file that is opened would have the number of the closed one."""
     for file, flags, mode in (("stdin", os.O_WRONLY, "r"), ("stdout", os.O_RDONLY, "w"), ("stderr", os.O_WRONLY, "w")):
         if getattr(sys, file) is None:
-            setattr(sys, file, open(os.open(os.devnull, flags), mode, encoding="utf-8", closefd=False))
+            setattr(sys, file, open(os.open(os.devnull, flags), mode, encoding="utf-8"))
 
 
 def main(arguments: List[str], name: str = "python3 -m superio") -> int:
