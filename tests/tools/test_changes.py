@@ -33,7 +33,8 @@ TESTS = ["tests/documents/test_differences.py", "tests/documents/test_registers.
          "tests/python/test_traces.py::test_numbers_that_pages_say",
          *(f"tests/python/test_boards.py::{name}" for name in (
              "test_lines", "test_lines_of_no_device", "test_made", "test_syntax_of_the_document", "test_kept_script")),
-         "bindings/python/tests/test_every_call.py::EveryState"]
+         "bindings/python/tests/test_every_call.py::EveryState",
+         "bindings/python/tests/test_devices.py::States::test_what_is_shown"]
 CHOSEN = "not test_traces or console"
 PATHS = "tools:tests/common:tests/devices:bindings/python"
 SCRIPTS = ("import json; from script_tests import kept_scripts, made_scripts; "
