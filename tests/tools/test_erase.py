@@ -21,13 +21,13 @@ REFUSED = ["ensures", "requires", "ghost", "async", "await", "crate::a", "extern
 LICENSE = "// SPDX-License-Identifier: Apache-2.0 OR BSD-3-Clause\n"   # with which each source begins
 
 
-def erase(*words):
-    """How the tool ends with these words, and all that it says. It runs in this process: most of what it takes in another
-    is Python's start."""
+def erase(*words, root=ROOT):
+    """How the tool of a repository ends with these words, and all that it says. It runs in this process: most of what it
+    takes in another is Python's start."""
     said = io.StringIO()
     with (mock.patch.object(sys, "argv", [str(TOOL), *map(str, words)]), redirect_stdout(said), redirect_stderr(said),
           pytest.raises(SystemExit) as end):
-        exec(PROGRAM, {"__name__": "__main__", "__file__": str(TOOL)})
+        exec(PROGRAM, {"__name__": "__main__", "__file__": str(root / "tools" / "erase")})
     status = end.value.code
     return (1, f"{said.getvalue()}{status}\n") if isinstance(status, str) else (status or 0, said.getvalue())
 
@@ -76,3 +76,26 @@ def test_refused(word, tmp_path):
     source.write_text(f"// {word}\n", encoding="utf-8")
     assert erase(*folders) == (0, "")
     assert (folders[1] / "mod.rs").read_text(encoding="utf-8").endswith(f"// {word}\n")
+
+
+# The files of a repository that the tool reads when no folder is named.
+READ = [f"crates/{crate}/src/{name}" for crate in ("superio_core", "superio_console")
+        for name in ("a.rt", "lib.rt", "z/z.rt")]
+
+
+@pytest.mark.parametrize("fault", READ)
+def test_a_fault_in_any_file_leaves_all_files_as_they_were(fault, tmp_path):
+    """Also those of the files and of the folder before it."""
+    def erased(name):
+        for path in (tmp_path / read for read in READ):
+            path.parent.mkdir(parents=True, exist_ok=True)
+            path.write_text(f"fn {name}() {{}}\n", encoding="utf-8")
+        if name == "fault":
+            (tmp_path / fault).write_text("fn fault() { unsafe {} }\n", encoding="utf-8")
+        ended = erase(root=tmp_path)
+        return ended, {path: path.read_text("utf-8") for path in (tmp_path / "rust").rglob("*") if path.is_file()}
+    (status, said), made = erased("fault")
+    assert (status, made) == (1, {}) and said.startswith(f"tools/erase: {fault}:1: ")
+    ended, made = erased("before")
+    assert (ended, len(made)) == ((0, ""), len(READ))
+    assert erased("fault") == ((1, said), made)
