@@ -15,7 +15,11 @@ BESIDE = {
     "a mask that is no first line": ("sr 05\nrefuse 2\n", "60\n", ["sr 05 60", "refuse 2"]),
     "an empty reply": ("so\nsr 05\n", "\n60\n", ["so", "sr 05 60"]),
     "an end at a bad line": ("sr 05\nno\nsr 05\n", "60\n", ["sr 05 60", "no", "sr 05"]),
+    "an end without a line feed": ("sr 05\nsr 05", "60\n60\n", ["sr 05 60", "sr 05 60"]),
     "no line": ("", "", []),
+    "empty lines at the end": ("sr 05\n\n\n", "60\n", ["sr 05 60", "", ""]),
+    "empty lines around a line": ("\n\nsr 05\n\n\n", "", ["", "", "sr 05", "", ""]),
+    "an empty line alone": ("\n", "", [""]),
 }
 
 KIT = """#!/bin/sh
