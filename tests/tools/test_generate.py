@@ -114,6 +114,18 @@ def test_faults(generate, monkeypatch, capfd, tmp_path):
     assert not (tmp_path / "record.txt").exists()
 
 
+@pytest.mark.parametrize("above", ["__pycache__", "target", "Cargo.lock"])
+def test_what_is_built_counts_nowhere(above, own, monkeypatch, tmp_path):
+    """But a repository may be in a folder of such a name."""
+    root = tmp_path / above / "repository"
+    monkeypatch.setattr(own, "ROOT", root)
+    for name in "one", "deep/two", "__pycache__/three", "deep/target/four", "target", "deep/Cargo.lock":
+        (root / "source" / name).parent.mkdir(parents=True, exist_ok=True)
+        (root / "source" / name).touch()
+    found = own.files_of(own.Step("", reads="source", writes="source/deep/*"))
+    assert found == {root / "source/one", root / "source/deep/two"}
+
+
 def test_words():
     for words, status in (["--help"], 0), (["nothing"], 2), (["--check", "page"], 0):
         assert run([TOOL, *words]).returncode == status
