@@ -49,8 +49,10 @@ def check_header(root: Path, crate: Any) -> None:
     of parameters."""
     text = header(root)
     numbers = once(re.findall(r"^#define (SUPERIO_\w+) (\d+)$", text, re.M))
-    for name in numbers.keys() & set(re.findall(r"^#undef (\w+)", text, re.M)):
-        raise Refused(f"{HEADER}: {name} is undefined")
+    loads = re.findall(r"SUPERIO_LOAD_(\w+) = (\d+)", text)
+    # What defines a number once more, in whatever form, gives it another value.
+    named = [*re.findall(r"^#(?:define|undef) (\w+)", text, re.M), *(f"SUPERIO_LOAD_{name}" for name, _ in loads)]
+    once((name, "") for name in named if name in numbers or name.startswith("SUPERIO_LOAD_"))
     declared = once((name, fields_of(body, numbers)) for name, body in STRUCT.findall(text))
     structs = {name: name_in_c(name) for name in crate.types if name_in_c(name) in declared}
     types = PLAIN | structs
@@ -58,7 +60,6 @@ def check_header(root: Path, crate: Any) -> None:
     for name, constant in NUMBERS.items():
         if crate.number(crate.consts[constant].value) != int(numbers[name]):
             raise Refused(f"{HEADER}: {name} is not {constant}")
-    loads = re.findall(r"SUPERIO_LOAD_(\w+) = (\d+)", text)
     same({name.replace("_", "").lower(): int(number) for name, number in loads}, faults(crate))
     prototypes = PROTOTYPE.findall(text)
     same(once((name, (result, parameters_of(given))) for result, name, given in prototypes), functions(root, types))
@@ -74,6 +75,8 @@ def header(root: Path) -> str:
     text = (root / HEADER).read_text("utf-8")
     if (root / "bindings/c/from-source/superio.h").read_text("utf-8") != text:
         raise Refused("bindings/c/from-source/superio.h is not that of bindings/c")
+    if cut := re.search(r"\S+\\\n.*", text):
+        raise Refused(f"{HEADER}: a word may go on in the next line: {cut[0]}")
     text = re.sub(r"/\*.*?\*/", " ", text, flags=re.S)
     for line in re.findall(r"^ *#.*", text, re.M):
         if not DIRECTIVE.match(line):

@@ -6,6 +6,7 @@ import re
 import shutil
 import subprocess
 from functools import cache
+from pathlib import Path
 
 import pytest
 from harness import at_least, run
@@ -15,6 +16,8 @@ import expanded
 import rerun
 import rust2coq
 import rust_tokens
+from c_functions import safe_part
+from c_header import check_header
 
 CORE = "rust/superio/src/"
 QUICK = "pub(crate) fn guest_time(_offset: i64, time: u32) -> u32 {\n    time\n}\n"
@@ -250,6 +253,36 @@ def test_each_number_of_the_header_is_compared(name, sources, tmp_path):
     changed(sources, tmp_path / "root", in_header(line, line.replace(NUMBERS[name], f"{int(NUMBERS[name]) + 1}")))
     with pytest.raises(rust2coq.Refused, match=rf"superio\.h: {name} is not |superio\.h: superio_\w+: "):
         rerun.translated(tmp_path / "root")
+
+
+# Each number of the header, with lines that give it another value: C takes the last one. A line may cut a name in two.
+AGAIN = ["#define {0} (7)", "#define {0} 7", "#define {0} 0x7", "#define {0}() 7", "#undef {0}",
+         "#undef {0}\n#define {0} (7)", "#define {1}\\\n{2} 7", "#undef {1}\\\n{2}"]
+NAMED = at_least(18, re.findall(r"^(?:#define| +) *(SUPERIO_\w+)(?: =)? \d+\b",
+                                (ROOT / HEADERS[0]).read_text("ascii"), re.M))
+LINES_AGAIN = [(name, again.format(name, name[:9], name[9:])) for name in NAMED
+               for again in (AGAIN if name in ("SUPERIO_ABI", "SUPERIO_LOAD_OK") else AGAIN[:1])]
+ENDS = "#ifdef __cplusplus\n}\n"   # which stands below all that the header declares
+
+
+@pytest.fixture(scope="module")
+def devices(sources):
+    """The crate of the devices, with the C functions."""
+    left = rerun.left_out()[0]
+    functions = safe_part(rust_tokens.source(sources / C_FUNCTIONS), left["c"][Path("lib.rs")])
+    return rust2coq.Crate(sources / CORE, functions, left["core"])
+
+
+def test_no_number_of_the_header_gets_another_value(devices, sources, tmp_path):
+    """Neither a size nor what a load returns."""
+    shutil.copytree(sources / "bindings/c", tmp_path / "bindings/c")
+    text = (sources / HEADERS[0]).read_text("ascii")
+    check_header(tmp_path, devices)
+    for name, lines in LINES_AGAIN:
+        for header in HEADERS:
+            (tmp_path / header).write_text(text.replace(ENDS, f"{lines}\n{ENDS}"), "ascii")
+        with pytest.raises(rust2coq.Refused, match=rf"superio\.h: ({name} twice|a word may go on in the next line: )"):
+            check_header(tmp_path, devices)
 
 
 # What Cargo and rustup read in a folder, for all that is built below it: in each folder from the root to the three crates,
