@@ -13,6 +13,7 @@ import time
 from collections import Counter
 from pathlib import Path
 
+import kept
 import pytest
 import sums
 from common.requirements import TOOLS, advice
@@ -22,6 +23,7 @@ from hypothesis import HealthCheck, settings
 from places import is_place
 
 LEFT_OUT = pytest.StashKey()   # of a test that --without leaves out
+TAKEN = kept.taken   # the proofs of earlier runs that were enough, until a report names them
 # The files that take longest, also because they wait. They begin first, so that no worker is left with one of them at
 # the end.
 DEAREST = ["tests/packages/test_releases.py", "tests/rust/test_crates.py", "tests/c/test_programs.py",
@@ -46,6 +48,7 @@ def pytest_addoption(parser):
     parser.addoption("--without", default="", metavar="TOOL,..",
                      help=f"leave out the tests that need one of these: {', '.join(TOOLS)}")
     parser.addoption("--write-pictures", action="store_true", help="write the pictures of the page anew")
+    parser.addoption("--again", action="store_true", help="make also the proofs that an earlier run made")
     parser.addoption("--boot", action="store_true", help="boot Linux, also if it has passed with these sources")
     parser.addoption("--write-record", action="store_true", help="write tests/kvm/linux.record if Linux passes")
     parser.addoption("--sums", action="store_true", help="fail if fewer tests are tried than tests/sums.txt says")
@@ -73,6 +76,7 @@ def pytest_xdist_setupnodes():
 
 @pytest.hookimpl(tryfirst=True)
 def pytest_configure(config):
+    kept.again = config.getoption("--again")
     if hasattr(config, "workerinput"):   # what a worker runs has an order of its own again
         del os.environ["PYTHONHASHSEED"]
     if config.getoption("--hypothesis-seed") is None:   # which hypothesis reads after this
@@ -138,6 +142,8 @@ def pytest_runtest_makereport(item):
     if report.skipped and LEFT_OUT not in item.stash:
         report.outcome, report.longrepr = "failed", f"skipped itself: {report.longrepr}"
         vars(report).pop("wasxfail", None)   # with which pytest ends with status 0
+    report.user_properties.extend(("kept", name) for name in TAKEN)
+    TAKEN.clear()
 
 
 @pytest.hookimpl(hookwrapper=True)
@@ -155,6 +161,10 @@ def pytest_terminal_summary(terminalreporter, config):
     reasons = Counter(report.longrepr[2].removeprefix("Skipped: ") for report in skipped)
     for reason, number in sorted(reasons.items()):
         terminalreporter.write_line(f"NOT TRIED: {number} tests, since {reason}")
+    reports = [report for reports in terminalreporter.stats.values() for report in reports]
+    if taken := {value for report in reports for name, value in getattr(report, "user_properties", ()) if name == "kept"}:
+        terminalreporter.write_line(f"NOT PROVED AGAIN, without --again: {len(taken)} proofs that an earlier run made of "
+                                    "the same files")
     if {"failed", "error"} & {*terminalreporter.stats}:
         terminalreporter.write_line(f"What was random began at {VARIABLE}={seed()}, with which it is the same again")
 

@@ -1,6 +1,6 @@
 # SPDX-License-Identifier: Apache-2.0 OR BSD-3-Clause
 """CBMC 6, a verifier of C: the one of this machine or, since Debian 12 has an older one, Debian 13's, unpacked into
-out/guests/cbmc."""
+~/.cache/fimolavand/guests/cbmc."""
 import shutil
 import subprocess
 from pathlib import Path

@@ -1,14 +1,29 @@
 # SPDX-License-Identifier: Apache-2.0 OR BSD-3-Clause
 """What CBMC proves of drivers and the code of docs/PORT.md, and what it has to refute."""
+from functools import lru_cache
 from typing import NamedTuple
 
+import cbmc
+import kept
 import linux_clock
 import linux_driver
+import sources
 import xen_driver
 from guest import Monitor
+from harness import ROOT, check
 
 EDGES, LEVELS = False, True
 NO_LIMIT = ("NO_LIMIT",)
+
+
+# Of what a check is made, beside a driver's source, whose sums are here, and the programs that make it.
+MADE_OF = [sources.HERE, ROOT / "tests/common", ROOT / "tools/common", ROOT / "bindings/c/superio.h", ROOT / "docs/PORT.md"]
+
+
+@lru_cache(maxsize=None)
+def programs():
+    """What the programs that make a check say of their versions."""
+    return f"{cbmc.version(cbmc.installed())}\n{check(['gcc', '--version'])}"
 
 
 class Check(NamedTuple):
@@ -38,6 +53,12 @@ class Check(NamedTuple):
             return all(said) and all(reached) and len(reached) > 0
         is_complete = all(holds for text, holds in found if "unwinding" in text)   # no loop is cut
         return is_complete and not all(said)
+
+    def make(self, driver):
+        """Fails unless CBMC says so, now or in an earlier run."""
+        def make(_):
+            assert self.is_met(driver, cbmc.installed())
+        kept.proof(f"CBMC: {self}", [*MADE_OF, repr(self), sources.told(self.source), programs()], make)
 
 
 def clock(entry, *faults, outcome="proved"):

@@ -15,12 +15,13 @@ from functools import lru_cache
 from pathlib import Path
 from typing import NamedTuple
 
+import kept
 from debian import download, download_sources, make_whole
 from harness import ROOT
 
 HERE = Path(__file__).resolve().parent
 HEADER = 512  # bytes before each file in an archive of tar
-KEPT = ROOT / "out" / "guests"
+KEPT = kept.FOLDER / "guests"
 PACKAGES = ROOT / "out" / "packages"  # where tools/install-packages unpacks packages for another user than root
 
 

@@ -1,5 +1,8 @@
 # SPDX-License-Identifier: Apache-2.0 OR BSD-3-Clause
 """What the tests of the proofs share."""
+import shutil
+
+import kept
 import pytest
 from coq_text import words
 from harness import ROOT, check
@@ -7,12 +10,27 @@ from harness import ROOT, check
 import coq
 
 
+# What tools/recheck reads.
+READ = [ROOT / name for name in ("bindings/c", "docs/PROOFS.md", "recheck", "rust", "tools/common", "tools/recheck")]
+
+
 @pytest.fixture(scope="session")
-def checked(tmp_path_factory):
-    """The folder with all files, after tools/recheck has passed as a new user runs it, and what it printed."""
+def made_of():
+    """What the proofs are made of."""
+    return [*READ, *sorted(ROOT.glob("crates/*/specs")), check(["coqc", "--version"])]
+
+
+@pytest.fixture(scope="session")
+def checked(made_of, tmp_path_factory):
+    """A folder with all files, after tools/recheck has passed as a new user runs it, and what it printed."""
     folder = tmp_path_factory.mktemp("recheck")
-    environment = {"HOME": str(folder.parent), "PATH": "/usr/bin:/bin"}
-    return folder, check([ROOT / "tools/recheck", "--keep", folder], env=environment)
+
+    def make(new):
+        environment = {"HOME": str(folder), "PATH": "/usr/bin:/bin"}
+        said = check([ROOT / "tools/recheck", "--keep", new], env=environment)
+        (new / "said").write_text(said, "utf-8")
+    shutil.copytree(kept.proof("Coq proves the claims", made_of, make), folder, dirs_exist_ok=True)
+    return folder, (folder / "said").read_text("utf-8")
 
 
 @pytest.fixture

@@ -2,7 +2,10 @@
 """The proofs in Coq, and what makes their run fail: a claim without a theorem, an axiom, a proof that is left out."""
 import re
 import shutil
+import sys
+from pathlib import Path
 
+import kept
 import pytest
 from coq_text import together
 from harness import ROOT, check
@@ -21,18 +24,22 @@ def test_every_claim_is_proved(checked):
     assert theorems >= 209 and items <= 34
 
 
-def test_code_does_what_coq_computes(checked, tmp_path):
+def test_code_does_what_coq_computes(checked, made_of):
     """Random calls of every public function, 100,000 of them: the compiled code and the translation give the same."""
-    folder, turns, seed = checked[0], 80_000, 88172645463325252
-    check(["rustc", "--edition", "2021", "-o", tmp_path / "calls", ROOT / "tests/recheck/differential/main.rs"])
-    calls, total = map(int, check([tmp_path / "calls", turns, seed]).split())
-    assert calls >= 100_000
-    expected = f"Some ({calls}, {total}%uint63)"
-    same = f"Goal found {turns} {seed} = {expected}.\nProof. vm_cast_no_check (eq_refl ({expected})). Qed.\n"
-    files = [*(folder / f"{name}.v" for name in ("Prelude", "Machine", "Types", "Code")),
-             ROOT / "tests/recheck/differential/Differential.v"]
-    (tmp_path / "Differential.v").write_text(f"Require Import Uint63.\n{together(*files)}{same}")
-    coq.coqc(tmp_path, "Differential")
+    sources, turns, seed = ROOT / "tests/recheck/differential", 80_000, 88172645463325252
+
+    def make(new):
+        check(["rustc", "--edition", "2021", "-o", new / "calls", sources / "main.rs"])
+        calls, total = map(int, check([new / "calls", turns, seed]).split())
+        assert calls >= 100_000
+        expected = f"Some ({calls}, {total}%uint63)"
+        same = f"Goal found {turns} {seed} = {expected}.\nProof. vm_cast_no_check (eq_refl ({expected})). Qed.\n"
+        files = [*(checked[0] / f"{name}.v" for name in ("Prelude", "Machine", "Types", "Code")),
+                 sources / "Differential.v"]
+        (new / "Differential.v").write_text(f"Require Import Uint63.\n{together(*files)}{same}")
+        coq.coqc(new, "Differential")
+    parts = [*made_of, sources, ROOT / "tests/recheck/coq_text.py", Path(__file__), check(["rustc", "-vV"])]
+    kept.proof("Coq computes what the code does", parts, make)
 
 
 # What is done to which file, and what the run says then. The name of a function without a theorem still stands there: in
@@ -63,9 +70,21 @@ GAPS = {
 }
 
 
+opened = set()   # whenever a file is opened
+
+
 @pytest.fixture(scope="module")
 def functions():
+    sys.addaudithook(lambda event, words: opened.add(words[0]) if event == "open" else None)
     return rerun.translated(ROOT)[1]
+
+
+def test_each_file_that_is_read_counts(functions, made_of):
+    """What tools/recheck translates is among what the proofs are made of."""
+    found = {Path(path).resolve() for path in opened if isinstance(path, (str, Path))}
+    read = {path for path in found if ROOT in path.parents and "__pycache__" not in path.parts and path.suffix != ".py"}
+    parts = {file for part in made_of if isinstance(part, Path) for file in kept.files_of(part)}
+    assert len(read) >= 50 and read <= parts, read - parts
 
 
 def changed(checked, folder, texts):

@@ -13,6 +13,7 @@ from itertools import product
 from pathlib import Path
 
 import common.cargo
+import kept
 import pytest
 from common.cargo import DROP_IN, DEVICES, Cargo, add_crate, copied_crate
 from common.comparison import ORIGINAL, Comparison
@@ -259,9 +260,9 @@ def test_a_dropped_result_warns(tmp_path):
 
 @pytest.mark.needs("debian-rust", "serde")
 def test_states_through_serde():
-    """States go through JSON and bincode, with Debian's crates of these and its Rust. Those stay in `out`, since to build
+    """States go through JSON and bincode, with Debian's crates of these and its Rust. Those stay there, since to build
     them takes long, and ours are built anew."""
-    folder = ROOT / "out" / "states"
+    folder = kept.FOLDER / "states"
     folder.mkdir(parents=True, exist_ok=True)
     with (folder / "lock").open("w") as lock:
         fcntl.flock(lock, fcntl.LOCK_EX)   # two may run at once

@@ -215,7 +215,9 @@ def test_words(tool, machine):
     status, said, called = machine.run(tool, "--no-install", "--without", "cargo,coq")
     assert (status, said.splitlines()[-1]) == (0, "7 passed, 0 failed, 1 skipped"), said
     workers = len(os.sched_getaffinity(0)) + 1
-    assert called == ["rt ci", f"pytest -q -n {workers} --dist loadfile --sums --without=cargo,coq"]
+    words_of_pytest = f"pytest -q -n {workers} --dist loadfile --sums --without=cargo,coq"
+    assert called == ["rt ci", words_of_pytest]
+    assert machine.run(tool, "--again", "--no-install", "--without", "cargo,coq")[2] == ["rt ci", f"{words_of_pytest} --again"]
     for words in (["--without", "cargos"], ["--without=cargo,Coq"], ["--without"], ["--install"], ["cargo"]):
         status, said, called = machine.run(tool, *words)
         assert (status, called) == (2, []) and said.splitlines()[-1].startswith("check: error: "), said

@@ -229,6 +229,25 @@ def test_what_was_not_tried_is_named(ran):
     assert "NOT TRIED: 1 tests, since --without names node\n" in ran["a tool that is left out"][1]
 
 
+# Proofs by name and, one to a text, a test that makes some of them: in its begin, more than once, or before it fails.
+PROVES = {"abc": "import kept\ndef prove(names):\n    for name in names:\n        kept.proof(name, [], lambda folder: None)\n"
+                 "prove('c')\ndef test_one(): prove('ab')\ndef test_other(): prove('bb')",
+          "de": HEAD + "import kept\n@pytest.fixture\ndef one(): kept.proof('d', [], lambda folder: None)\n"
+                       "def test(one):\n    kept.proof('e', [], lambda folder: None)\n    assert 0"}
+
+
+@pytest.mark.parametrize("words", [(), ("-n2", "--dist=loadfile")], ids=" ".join)
+def test_what_was_not_proved_again_is_named(words, tmp_path, run_pytest):
+    """With how many proofs there are, each once, unless all are made again."""
+    write_tests(tmp_path, PROVES["abc"])
+    write_test(tmp_path, PROVES["de"], "test_other.py")
+    said = [run_pytest(tmp_path, *words, *more, XDG_CACHE_HOME=str(tmp_path / "kept")).stdout
+            for more in ((), (), ("--again",), ())]
+    line = "NOT PROVED AGAIN, without --again: 5 proofs that an earlier run made of the same files\n"
+    assert [line in text for text in said] == [False, True, False, True], said
+    assert all(" 1 failed, 2 passed in " in f" {text}" for text in said)
+
+
 def test_a_failure_names_the_seed(tmp_path, run_pytest):
     said = []
     for end in ("pass", "assert 0"):
