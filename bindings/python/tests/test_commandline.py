@@ -113,6 +113,9 @@ FILES = [
     ({}, "kr 04\nreset\nsr 07\ntrace on\nread SCR\ntrace off\nread SCR\ntrace\ntrace new\n",
      (0, "00\na fresh board\n00\ntrace is on\nsr 07\nSCR = 0x00\ntrace is off\nSCR = 0x00\nsr 07\nsr 07\nsr 07\n"
          "the calls since the last reset are in new\n"), "", {"new": "sr 07\nsr 07\nsr 07\n"}),
+    # A reset changes the board, and not what the session shows of calls.
+    ({}, "trace on\nkr 04\nreset\nkr 04\ntrace off\nreset\nkr 04\n",
+     (0, "trace is on\nkr 04\n00\na fresh board\nkr 04\n00\ntrace is off\na fresh board\n00\n"), "", {}),
 ]
 
 
@@ -139,6 +142,10 @@ COMMANDS = [
         ("--unknown", (2, "", "")))),
     (f"echo 'kr 04' | {SUPERIO} view - --table > /dev/full", (2, "", "No space left on device")),
     (f"echo 'save /dev/stdout' | {SUPERIO} --shell | tail -n 1", (0, "port and clock saved to /dev/stdout\n", "")),
+    # A file may be a pipe, into which a program writes when it can. Each form waits for it, and takes all.
+    *((f"{SUPERIO} {form} <(sleep 0.3; echo 'kr 04'; sleep 0.1; echo 'sr 05') {after}", (0, said, ""))
+      for form, after, said in (("", "", "00\n60\n"), ("--shell", "", "00\n60\n"),
+                                ("view", "--table | wc -l", "3\n"))),
     (f"SUPERIO_LIBRARY=/nowhere/lib.so {SUPERIO}", (2, "", f"{NAME}: /nowhere/lib.so cannot be loaded")),
     *((f"{SUPERIO} {wrong}", (2, "", f"usage: {NAME} ")) for wrong in (
         "--unknown", "a b", "view", "view --unknown a")),
@@ -237,6 +244,15 @@ class Runs(FolderTest):
                 self.assertTrue(self.path.read_text().startswith(begin), self.path.read_text()[:80])
                 self.assertEqual({link, recording, self.path}, {*self.folder.iterdir()})
 
+    def test_a_new_file_has_the_mode_that_the_user_leaves(self):
+        forms = [(SHELL, "save new\n"), (SHELL, "sr 05\ntrace new\n"), (SHELL, "sr 05\nscript new\n"),
+                 (["view", "--table", "new", "-"], "sr 05\n"), (["view", "--svg", "new", "-"], "sr 05\n")]
+        folders = [Path(tempfile.mkdtemp(dir=self.folder)) for _ in forms]
+        self.addCleanup(os.umask, os.umask(0o027))
+        ends = run_each([(folder, words, script.encode()) for folder, (words, script) in zip(folders, forms)])
+        self.assertEqual([(0, 0o640)] * len(forms),
+                         [(end[0], (folder / "new").stat().st_mode & 0o777) for folder, end in zip(folders, ends)])
+
     def test_a_path_may_begin_with_the_home(self):
         home = {"env": {**ENVIRONMENT, "HOME": str(self.folder)}, "cwd": "/"}
         for command in ("save", "trace", "script"):
@@ -275,7 +291,7 @@ CONTROL = re.compile(r"\x1b\[\??[0-9;]*[a-zA-Z]|\x07")
 SESSIONS = [
     ([("write IER RDA", "ok\n"), ('type "hi"', "2 bytes received; interrupt for RDA\n"),
       ("read IIR", "IIR = 0xc4  RDA\n"), ("read RBR", 'RBR = 0x68  "h"\n')], CTRL_D),
-    ([("foo", "no command is called foo: help lists them\n"), ("", ""), ("sr 05", "60\n"),
+    ([("foo", "no command is called foo: help lists them\n"), ("", ""), ("sr 05", "60\n"), ("reset", "a fresh board\n"),
       ("sl 00", "too short\n1 byte came, and a saved serial port has 17 to 81\n")], "quit\r"),
     ([("write SCR 7", "ok\n"), ("read SCR", "SCR = 0x07\n"), (UP + UP + "1", "ok\n"),  # write SCR 71
       ("ead SCR" + HOME + "r", "SCR = 0x47\n"), ("read LR" + LEFT + "S", "LSR = 0x60  THRE TEMT\n")], "exit\r"),
