@@ -248,6 +248,24 @@ function contrast(one) {
 const named = (one) => [...["for", "aria-labelledby", "aria-describedby"].map((name) => one.getAttribute(name) ?? ""),
   /^#(.*)/.exec(one.getAttribute("href"))?.[1] ?? ""].join(" ").split(" ").filter(Boolean);
 
+/** What labels an element by its text: what a user sees, and says to a browser that listens. */
+const seenName = (one) => (one.matches("a, button") ? [one] : Array.from(one.labels ?? []))
+  .flatMap((label) => Array.from(label.childNodes)).filter((node) => !node.contains(one))
+  .map((node) => node.textContent.trim().replace(/\s+/g, " ")).filter((text) => /[a-z]/i.test(text));
+
+/** Whether an element shows that it has the focus, which a user of a keyboard has given it. */
+function showsFocus(one) {
+  const style = page.getComputedStyle(one);
+  const hasOutline = () => style.outlineStyle !== "none" && parseFloat(style.outlineWidth) > 0;
+  const marks = () => [hasOutline() && style.outline, style.borderColor, style.boxShadow, style.backgroundColor].join();
+  const before = marks();
+  one.focus();
+  const { width, height } = one.getBoundingClientRect();
+  const isShown = page.document.activeElement === one && marks() !== before && width > 4 && height > 4;
+  one.blur();
+  return isShown;
+}
+
 /** How an element looks. */
 function look(one) {
   const style = page.getComputedStyle(one);
@@ -289,8 +307,8 @@ function wrongMarks() {
 }
 
 /**
- * Tries whether the page fits its window, each text that is in use stands out, each control has a name, what names
- * another element finds it, and each class is seen.
+ * Tries whether the page fits its window, each text that is in use stands out, each control has a name of its own with
+ * the words that are seen of it, and shows the focus, what names another element finds it, and each class is seen.
  */
 async function tryLooks(width, scheme) {
   await open(shown, width, scheme);
@@ -298,11 +316,19 @@ async function tryLooks(width, scheme) {
   const hasText = (one) => Array.from(one.childNodes).some((node) => node.nodeType === 3 && node.textContent.trim());
   const unused = "svg, script, .hidden, .skip, :disabled, .later";
   const controls = visible.filter((one) => one.matches("a, button, input, select, textarea"));
+  const names = [...controls, ...visible.filter((one) => one.matches("section, ol, [role=log], [role=group]"))]
+    .map((one) => [one, one.computedName]).filter(([, name]) => name);
   const faults = {
     "hardly stands out": visible.filter((one) => hasText(one) && !one.closest(unused) && contrast(one) < 4.5),
     "is cut": visible.filter((one) => one.matches("button, label, .bit, .register b") && one.clientWidth &&
       one.scrollWidth > one.clientWidth + 1),
     "has no name": controls.filter((one) => !one.computedName),
+    "has a name that differs from what is seen": controls.filter((one) =>
+      seenName(one).some((text) => !one.computedName.includes(text))),
+    "has the name of another": names.filter(([one, name]) =>
+      names.some(([other, same]) => other !== one && same === name)).map(([one]) => one),
+    "shows no focus": controls.filter((one) => !one.disabled && !showsFocus(one)),
+    "is reached by Tab out of turn": all("*").filter((one) => one.tabIndex > 0),
     "is not reached by Tab": visible.filter((one) => one.tabIndex < 0 && !one.disabled && (controls.includes(one) ||
       /auto|scroll/.test(page.getComputedStyle(one).overflowY) && one.scrollHeight > one.clientHeight + 1)),
     "is too wide": [page.document.scrollingElement].filter((one) => one.scrollWidth > width),

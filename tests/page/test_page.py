@@ -297,13 +297,15 @@ ON_A_PHONE = """[screen.width, innerWidth, document.scrollingElement.scrollWidth
 
 @pytest.mark.needs("chromium")
 def test_a_phone(tmp_path):
-    """There the page is as wide as the screen, and not as wide as on a desk and then made small."""
+    """There the page is as wide as the screen, and not as wide as on a desk and then made small, and can be enlarged."""
     with debugged(tmp_path) as tell:
         tell("Emulation.setDeviceMetricsOverride", width=360, height=740, deviceScaleFactor=3, mobile=True)
         tell("Page.navigate", url=PAGE.as_uri())
         tell("Runtime.evaluate", expression=UNTIL_THERE, awaitPromise=True)
         said = tell("Runtime.evaluate", expression=ON_A_PHONE, returnByValue=True)["result"]["value"]
-    assert said == [360, 360, 360, 1]
+        tell("Emulation.setPageScaleFactor", pageScaleFactor=3)
+        scale = tell("Runtime.evaluate", expression="visualViewport.scale", returnByValue=True)["result"]["value"]
+    assert said == [360, 360, 360, 1] and scale == 3
 
 
 # Asks another host for something in each way that a page has, and for a worker, which no other host can give. Gives the
