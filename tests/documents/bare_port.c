@@ -3,7 +3,8 @@
  * A guest, an event loop and an interrupt controller around the functions of docs/PORT.md. The guest sends back what it
  * receives. All of it comes back in order, whatever the controller refuses, for drivers that read IIR once or until
  * nothing is pending, and take few bytes or many, in machines that slept and were reset before. Input goes in at once
- * while the guest polls, and otherwise once its driver is ready, also after a sleep and after a reset.
+ * while the guest polls, and otherwise once its driver is ready, also after a sleep and after a reset. The loop comes
+ * back soon, and sleeps while IER enables nothing.
  */
 #include <stdio.h>
 #include <stdlib.h>
@@ -22,7 +23,7 @@ static uint8_t input[ROOM];    /* what waits for the guest */
 static size_t waiting, typed;  /* how much, and how much has come from the source so far */
 static size_t sent, in_order;  /* output, and how much of it is what was typed */
 static unsigned edges;         /* that the guest has not taken */
-static bool takes_levels, is_up, is_timed;
+static bool takes_levels, is_up, is_timed, is_restless;
 
 bool raise_interrupt(void) {
     if (takes_levels || rand() % 4 == 0)
@@ -34,7 +35,7 @@ void set_line(bool level) {
     takes_levels = true;
     is_up = level;
 }
-void make_turn_in(int milliseconds) { is_timed = milliseconds > 0; }
+void make_turn_in(int milliseconds) { is_timed = is_timed || (milliseconds > 0 && milliseconds < 20); }
 void queue_output(uint8_t byte) { in_order += byte == (uint8_t)sent++; }
 void write_output(void) {}
 void read_input(void) {
@@ -74,10 +75,15 @@ static void start(void) {
     write_access(1, 0x01); /* and is ready */
 }
 
-/* The guest prints a message as Linux does, with IER clear meanwhile. The event loop finds nothing enabled then. */
+/* The guest prints a message as Linux does, with IER clear meanwhile. The event loop finds nothing enabled then, so it
+ * has nothing to come back for. */
 static void message(void) {
+    bool was_timed = is_timed;
+    is_timed = false;
     write_access(1, 0x00);
     turn();
+    is_restless = is_restless || is_timed;
+    is_timed = is_timed || was_timed;
     write_access(1, 0x01);
 }
 
@@ -177,6 +183,6 @@ int main(void) {
             return 1;
         }
     }
-    puts("all came back");
-    return 0;
+    puts(is_restless ? "the event loop comes back for nothing" : "all came back");
+    return is_restless;
 }

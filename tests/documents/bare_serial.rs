@@ -58,10 +58,13 @@ fn handle(machine: &mut Machine<Line>, line: &Line, most: usize, is_until_none: 
     }
 }
 
-/// The guest prints a message as Linux does, with IER clear meanwhile. The event loop finds nothing enabled then.
+/// The guest prints a message as Linux does, with IER clear meanwhile. The event loop finds nothing enabled then, so it
+/// has nothing to come back for.
 fn message(machine: &mut Machine<Line>) {
     machine.write_access(1, 0x00);
+    assert!(!machine.wants_turn(), "the event loop comes back for nothing");
     machine.turn();
+    assert!(!machine.wants_turn(), "the event loop comes back for nothing again");
     machine.write_access(1, 0x01);
 }
 
