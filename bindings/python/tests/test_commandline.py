@@ -196,6 +196,13 @@ class Runs(FolderTest):
         called = ended([self.path, "-m", "superio", "/nowhere/at/all"], env=ENVIRONMENT)
         self.assertEqual((2, "", f"{self.path.name} -m superio: {NOWHERE}"), called)
 
+    def test_now_is_the_time_of_the_host(self):
+        """In seconds since 1970, wherever the shell tells it."""
+        begin = int(time.time())
+        said = run("--shell", script=b"cr now DR\nclock read DR\ncr now+0 DR\nregs clock\n")[1]
+        told = [int(word, 16) for word in re.findall(r"^(?:DR = 0x|  DR   0x|)([0-9a-f]{8})\b", said, re.M)]
+        self.assertEqual((4, True), (len(told), {*told} <= {*range(begin, int(time.time()) + 1)}), said)
+
     def test_a_full_disk_leaves_what_was_there(self):
         """A limit on the size of files stands for it."""
         self.path.write_text("what was there\n")
@@ -434,6 +441,8 @@ class Terminal(FolderTest):
         lines = self.kept("kr 04", SUPERIO_HISTORY=path)["a file"].splitlines()
         self.assertEqual([*(f"read {number}" for number in range(1, 1000)), "kr 04"], lines)
         self.path.unlink()
-        with mock.patch.dict(ENVIRONMENT):
+        with mock.patch.dict(ENVIRONMENT), tempfile.TemporaryDirectory() as home:   # and not where the shell is begun
             del ENVIRONMENT["SUPERIO_HISTORY"]
-            self.assertEqual({".superio_history": "kr 04\n"}, self.kept("kr 04", HOME=home))
+            self.assertEqual({}, self.kept("kr 04", HOME=home))
+            found = {path.name: path.read_text() for path in Path(home).iterdir()}
+            self.assertEqual({".superio_history": "kr 04\n"}, found)
