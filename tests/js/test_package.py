@@ -266,6 +266,7 @@ def test_the_manifest_can_be_required(user):
 
 
 DECLARED = (PACKAGE / "superio.d.ts").read_text("utf-8")
+ABI = (ROOT / "bindings/python/superio/superio.abi").read_text("ascii")
 OFFSETS = {"ReadOffset": (Serial, "read"), "WriteOffset": (Serial, "write"), "ClockOffset": (Rtc, "read")}
 
 
@@ -287,6 +288,17 @@ def test_ranges_of_numbers(name, comment, kind, call):
     said = {number: int(most, 0) for number, most in re.findall(r"\ban? (\w+), 0 to (\w+)", comment)}
     assert said.items() <= {one.name: (1 << one.kind) - 1 for one in parameters(kind, call)}.items()
     assert said or name not in OFFSETS
+
+
+def test_widths_of_numbers():
+    """superio.d.ts and Python say the most of a moment and of a count as the functions in C have them, in 64 bits."""
+    [in_c] = {one.kind for call in ("read", "write", "alarm_due") for one in parameters(Rtc, call) if one.name == "now"}
+    [said] = re.findall(r"`now`,\s+\* in seconds since 1970, from 0 to 2 \*\* (\d+) - 1\.", DECLARED)
+    assert said == str(in_c)
+    [in_c] = re.findall(r"^function uint(\d+)_t superio_console_dropped\(", ABI, re.M)
+    [said] = re.findall(r"bytes of output were dropped, up to 2 \*\* (\d+) - 1\. \*/\s+dropped\(", DECLARED)
+    [in_python] = re.findall(r"bytes of output were dropped, up to 2\^(\d+) - 1\.", Console.dropped.__doc__)
+    assert said == in_python == in_c
 
 
 @pytest.mark.needs("npm", "tsc")
