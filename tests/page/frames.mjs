@@ -123,12 +123,13 @@ const STEPS = {
     by("run").click();
   },
   line: (number) => by("list").children[number - 1].click(),
-  copy: () => STEPS.through(async (text) => { copied = text; }, "copy"),
-  // A browser that gives no page its clipboard.
-  denied: (id) => STEPS.through(async () => { throw new Error("denied"); }, id),
-  through: async (writeText, id) => {
+  copy: () => STEPS.through({ writeText: async (text) => { copied = text; } }, "copy"),
+  // A browser that gives no page its clipboard, and one that has none for a page that came over HTTP.
+  denied: (id) => STEPS.through({ writeText: async () => { throw new Error("denied"); } }, id),
+  lacking: (id) => STEPS.through(undefined, id),
+  through: async (value, id) => {
     by("said").textContent = copied = "";
-    Object.defineProperty(page.navigator, "clipboard", { value: { writeText }, configurable: true });
+    Object.defineProperty(page.navigator, "clipboard", { value, configurable: true });
     by(id).click();
     await until(() => by("said").textContent);
   },
@@ -266,6 +267,26 @@ function showsFocus(one) {
   return isShown;
 }
 
+/** The controls whose text hardly stands out under a pointer. Rules for that are those of a class meanwhile. */
+function faintUnderPointer(controls) {
+  const style = page.document.querySelector("style");
+  const turn = (from, to) => {
+    style.textContent = style.textContent.replaceAll(from, to);
+    for (const one of controls) one.classList.toggle("pointed-at");
+  };
+  turn(":hover", ".pointed-at");
+  const faint = controls.filter((one) => one.textContent.trim() && !one.disabled && contrast(one) < 4.5);
+  turn(".pointed-at", ":hover");
+  for (const one of controls) if (!one.className) one.removeAttribute("class");
+  return faint;
+}
+
+/** Whether an element moves by itself, or what it has does: this user has asked for less motion. */
+function moves(one) {
+  const { transitionDuration, animationName, scrollBehavior } = page.getComputedStyle(one);
+  return /[1-9]/.test(transitionDuration) || animationName !== "none" || scrollBehavior === "smooth";
+}
+
 /** How an element looks. */
 function look(one) {
   const style = page.getComputedStyle(one);
@@ -308,7 +329,8 @@ function wrongMarks() {
 
 /**
  * Tries whether the page fits its window, each text that is in use stands out, each control has a name of its own with
- * the words that are seen of it, and shows the focus, what names another element finds it, and each class is seen.
+ * the words that are seen of it, and shows the focus, what names another element finds it, nothing moves, and each
+ * class is seen.
  */
 async function tryLooks(width, scheme) {
   await open(shown, width, scheme);
@@ -320,6 +342,8 @@ async function tryLooks(width, scheme) {
     .map((one) => [one, one.computedName]).filter(([, name]) => name);
   const faults = {
     "hardly stands out": visible.filter((one) => hasText(one) && !one.closest(unused) && contrast(one) < 4.5),
+    "hardly stands out under a pointer": faintUnderPointer(controls),
+    "moves": [page.document.documentElement, ...visible].filter(moves),
     "is cut": visible.filter((one) => one.matches("button, label, .bit, .register b") && one.clientWidth &&
       one.scrollWidth > one.clientWidth + 1),
     "has no name": controls.filter((one) => !one.computedName),
