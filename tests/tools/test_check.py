@@ -125,12 +125,12 @@ class Machine:
         for name in names:
             shutil.move(self.bin / name, self.away / name)
 
-    def run(self, tool, *words):
+    def run(self, tool, *words, **options):
         """Its status, what it printed, and what it called, apart from Python."""
         self.log.write_text("", "utf-8")
         ran = run([self.top / tool, *words], env={
             "PATH": str(self.bin), "PYTHONPATH": str(self.stubs), "TEST_SEED": "1", "TOP": str(self.top),
-            "HERE": str(self.bin), "AWAY": str(self.away), "PYTHONDONTWRITEBYTECODE": "1", "HOME": os.devnull})
+            "HERE": str(self.bin), "AWAY": str(self.away), "PYTHONDONTWRITEBYTECODE": "1", "HOME": os.devnull}, **options)
         called = [line for line in self.log.read_text("utf-8").splitlines() if not line.startswith("python3 ")]
         return ran.returncode, ran.stdout, called
 
@@ -235,6 +235,23 @@ def test_workers(machine):
             assert f" -n {number + 1} " in " ".join(machine.run("tools/check")[2])
     finally:
         os.sched_setaffinity(0, usable)
+
+
+@pytest.mark.parametrize("tool", ["tools/check", ".ci/run"])
+def test_each_part_runs_in_the_folder_of_its_sources(tool, machine):
+    """Wherever the tool is started, and it reads nothing of what its user types: `rt ci` and pytest in the repository,
+    and Cargo in a copy of each crate."""
+    noted = machine.top.parent / "noted"
+    notes = f"{{ pwd; cat; }} >> {noted}"
+    (machine.bin / "pwd").symlink_to(shutil.which("pwd"))
+    for name in ("rt", "cargo"):
+        machine.stand_in(name, f"{notes}\n{STAND_INS[name]}")
+    machine.pytest("4 passed in 1s", f"__import__('os').system('{notes}')")
+    status, said, called = machine.run(tool, cwd=machine.bin, input="typed\n")
+    assert (status, said.splitlines()[-1]) == (0, PASSED), said
+    first, *others = noted.read_text("utf-8").splitlines()
+    assert first == str(machine.top) and others.count(first) == 1, others
+    assert [os.path.basename(folder) for folder in others if folder != first] == ["superio", "vm-superio"]
 
 
 def test_pytest_is_missing(machine):
