@@ -95,7 +95,7 @@ def test_no_script_and_no_kit(tmp_path):
 PROVING = """#!/bin/sh
 crate=$(basename "$PWD")
 echo "$* in $crate" >> {0}/log
-[ "$crate" != "$FAILS" ] || {{ echo "no proof of $crate"; exit 1; }}
+[ "$crate" != "$FAILS" ] || {{ echo "no proof of $crate"; echo "a goal of $crate" >&2; exit 1; }}
 [ "$1" != run ] || {{ mkdir out; printf '#!/bin/sh\\ncat\\n' > out/superio; chmod +x out/superio; }}
 """
 BELOW = at_least(2, crates_below("superio"))
@@ -121,19 +121,20 @@ def prove(tmp_path):
 
 
 @pytest.mark.parametrize("variables, jobs", [({}, 2), ({"RT_JOBS": "1"}, 1), ({"RT_JOBS": "7"}, 7)], ids=str)
-def test_a_proof_takes_as_many_processors_as_told(variables, jobs, prove):
-    """In each crate, the lowest first. Then the program runs."""
+def test_a_proof_takes_as_many_processors_as_told(variables, jobs, prove, tmp_path):
+    """In each crate, the lowest first. Then the program runs, and nothing is left where temporary files go."""
     status, said, steps = prove(**variables)
     assert variables or "RT_JOBS is how many processors the proof takes, two if it is not set" in told()
     assert status == 0 and said.endswith("\nsr 05\n"), said
     assert steps == [*(f"lib --jobs {jobs} in {crate}" for crate in BELOW), f"run --jobs {jobs} in superio"]
+    assert {path.name for path in tmp_path.iterdir()} == {"tools", "crates", "crates.txt", "rt", "log"}
 
 
 @pytest.mark.parametrize("crate", [BELOW[0], BELOW[-1], "superio"])
 def test_a_proof_that_fails(crate, prove):
-    """None comes after it, no program runs, and the file that is named has what the kit printed."""
+    """None comes after it, no program runs, and the file that is named has what the kit printed, its errors too."""
     status, said, steps = prove(FAILS=crate)
     assert status == 125 and steps[-1].endswith(f" in {crate}") and "sr 05" not in said, said
     [log] = [word for word in said.split() if word.endswith(".log")]
     with open(log, encoding="ascii") as file:
-        assert file.read().endswith(f"no proof of {crate}\n")
+        assert file.read().endswith(f"no proof of {crate}\na goal of {crate}\n")
