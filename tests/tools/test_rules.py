@@ -396,6 +396,8 @@ CARGO = "test result: ok. 3 passed; 0 failed; {} ignored; 0 measured; 0 filtered
     (1, [*GATE[:3], "6 passed, 1 failed"], (9, 1, 0)),
     (0, [*GATE[:2], "rt: ok; must-fail edits: 4 refused; all", GATE[3]], (10, 1, 0)),
     (0, [*GATE[:2], "rt: ok; must-fail edits: 5 refused, 2 of them only by a limit, 1 bad; all", GATE[3]], (10, 1, 0)),
+    (0, [*GATE[:2], "rt: ok; must-fail edits: 5 refused, 2 of them only by a limit, 10 bad; all", GATE[3]], (10, 1, 0)),
+    (0, [*GATE[:2], "rt: ok; must-fail edits: 5 refused, 0 bad; all", GATE[3]], (10, 0, 0)),
     (0, EACH, (10, 0, 0)),
     (1, EACH, (10, 1, 0)),
     (0, [line for line in EACH if line != EDITS[4]], (10, 1, 0)),
