@@ -6,9 +6,11 @@ import platform
 import re
 import shutil
 import sys
+import time
 
 import pytest
-from harness import ROOT, run
+from common.rattle import CRATES, PROGRAMS, TESTS, path_of
+from harness import ROOT, at_least, run
 
 COPIED = ["tools/check", "tools/recheck", "tools/install-packages", ".ci/run", "tools/common"]
 BASICS = ["bash", "cat", "cp", "dirname", "env", "mkdir", "rm", "sed", "sh", "touch", "uname"]
@@ -62,9 +64,15 @@ def main(said):
     sys.exit({status})
 """
 # By which tools/check hands over what `rt ci` built.
-RTLIB = """def crates_below(root):
+RTLIB = """import os
+class Crate:
+    def __init__(self, folder):
+        self.folder = folder
+    def stamp(self):
+        return "stamp of " + os.path.basename(self.folder)
+def crates_below(root):
     open("{made}", "w").close()
-    return []
+    return [Crate(entry.path) for entry in os.scandir(os.path.join(root, "crates"))]
 """
 PASSED = "13 passed, 0 failed, 0 skipped"
 TABLE = '\nTOOLS = {tool: TOOLS[tool] for tool in ("kit", "pytest", "cargo", "coq")}\n'
@@ -152,6 +160,24 @@ def test_all_pass(tool, machine):
     assert sorted(line.split()[0] for line in called) == ["cargo", "cargo", "pytest", "rt"]
     assert said.count("\n== cargo test\ntest result: ok. 3 passed; 0 failed; 0 ignored\n") == 2
     assert machine.handed_over.exists()
+
+
+def test_what_is_handed_over(machine):
+    """Each library has the stamp of its sources, and each program is no older than now. What was not built stays so."""
+    crates = machine.top / "crates"
+    libraries, programs = [crates / name / "out" / "rlib" for name in ("a", "b", "c")], [
+        crates / path.relative_to(CRATES) for path in at_least(4, [*map(path_of, PROGRAMS), *TESTS.values()])]
+    for path in [*libraries[:2], *(path.parent for path in programs)]:
+        path.mkdir(parents=True)
+    for path in (libraries[0] / "stamp", *programs[1:]):
+        path.touch()
+        os.utime(path, (1000, 1000))
+    libraries[2].parent.parent.mkdir()
+    start = time.time() - 1
+    assert machine.run("tools/check")[0] == 0
+    stamps = [path.read_text("utf-8") for path in sorted(crates.glob("*/out/rlib/stamp"))]
+    assert stamps == ["stamp of a", "stamp of b"]
+    assert not programs[0].exists() and all(path.stat().st_mtime > start for path in programs[1:])
 
 
 def test_what_is_compiled_is_kept(machine):
