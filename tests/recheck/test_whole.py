@@ -16,6 +16,7 @@ import expanded
 import rerun
 import rust2coq
 import rust_tokens
+from around import MANIFESTS
 from c_functions import safe_part
 from c_header import check_header
 
@@ -211,7 +212,7 @@ def changed(sources, root, changes):
     """The sources at `root` with these changes. A file that is not changed is that of `sources`, under another name."""
     shutil.copytree(sources, root, copy_function=os.link)
     for file, old, new in changes:
-        (root / file).parent.mkdir(exist_ok=True)
+        (root / file).parent.mkdir(parents=True, exist_ok=True)
         text = "" if old is None else (root / file).read_text()
         assert old is None or old in text, f"{file} has no {old!r}"
         (root / file).unlink(missing_ok=True)
@@ -297,6 +298,23 @@ BESIDE = [*((folder, name) for folder in (".", "rust", "bindings", "bindings/c")
 def test_no_other_settings(folder, name, sources, tmp_path):
     changed(sources, tmp_path / "root", [(f"{folder}/{name}", None, "")])
     with pytest.raises(rust2coq.Refused, match=f"^{folder}/{name}$|has settings of Cargo$"):
+        rerun.translated(tmp_path / "root")
+
+
+@pytest.mark.parametrize("name", ["main.rs", "bin/other.rs", "bin/other/main.rs"])
+@pytest.mark.parametrize("crate", at_least(3, MANIFESTS))
+def test_no_program_beside_a_library(crate, name, sources, tmp_path):
+    """Cargo would compile it, too, by its name alone."""
+    changed(sources, tmp_path / "root", [(f"{crate}/src/{name}", None, "fn main() {}\n")])
+    with pytest.raises(rust2coq.Refused, match=f"^{crate}/src/(main.rs|bin)$"):
+        rerun.translated(tmp_path / "root")
+
+
+@pytest.mark.parametrize("name", ["other.rs", "other/mod.rs", "lib/other.rs", "table"])
+def test_the_c_functions_are_in_one_file(name, sources, tmp_path):
+    """No other one is read, so there is none that rustc could read."""
+    changed(sources, tmp_path / "root", [(f"{rerun.CRATES['c']}/{name}", None, "")])
+    with pytest.raises(rust2coq.Refused, match=f"^{rerun.CRATES['c']}: more than lib.rs$"):
         rerun.translated(tmp_path / "root")
 
 
