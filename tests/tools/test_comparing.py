@@ -212,9 +212,9 @@ def test_a_seed_gives_the_same_in_each_process(monkeypatch):
 
 # How a test in each language reads the seed, and the tests that say that they have one.
 READS_SEED = re.compile(r"""\b(?:process\.env\.|env::var\("|environ\.get\(")TEST_SEED\b""")
-NAMING_SEED = [path for folder in ("bindings", "rust", "tests/rust") for path in sorted((ROOT / folder).rglob("*"))
-               if path.suffix in (".mjs", ".py", ".rs") and not {*BUILT, "target"} & {*path.parts}
-               and re.search(r"\b[A-Z]+_SEED\b", path.read_text("utf-8"))]
+NAMING_SEED = [ROOT / path for path in sorted(documents.files()) if path.suffix in (".mjs", ".py", ".rs")
+               and path.as_posix().startswith(("bindings/", "rust/", "tests/rust/"))
+               and re.search(r"\b[A-Z]+_SEED\b", (ROOT / path).read_text("utf-8"))]
 
 
 @pytest.mark.parametrize("path", at_least(6, NAMING_SEED), ids=lambda path: path.name)
@@ -607,6 +607,17 @@ def test_a_copy_has_nothing_that_was_built(tmp_path, monkeypatch):
     for copy in copies:
         names = {path.relative_to(copy).as_posix() for path in copy.rglob("*") if path.is_file()}
         assert {name for name in names if not name.startswith(".cargo/")} == {"Cargo.toml", "src/lib.rs"}, copy
+
+
+@pytest.mark.parametrize("above", sorted(BUILT))
+def test_files_of_a_repository(above, tmp_path, monkeypatch):
+    """What was built is none of them, but a repository may be in a folder of such a name."""
+    root = tmp_path / above / "repository"
+    for name in ("one", "deep/two", ".git/three", *(f"deep/{folder}/four" for folder in BUILT)):
+        (root / name).parent.mkdir(parents=True, exist_ok=True)
+        (root / name).touch()
+    monkeypatch.setattr(documents, "ROOT", root)
+    assert sorted(path.as_posix() for path in documents.files()) == ["deep/two", "one"]
 
 
 # Functions of each kind, and what is read of them: the path, whether it is public, the clauses, and the main one.

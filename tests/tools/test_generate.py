@@ -139,7 +139,7 @@ def test_is_current():
 
 def sources(*folders, ending=".rs"):
     found = [at_least(1, (ROOT / folder).rglob(f"*{ending}")) for folder in folders]
-    return [path for paths in found for path in paths if "target" not in path.parts]
+    return [path for paths in found for path in paths if "target" not in path.relative_to(ROOT).parts]
 
 
 # What the code of each step that has a digest names: what it writes, and what that depends on.
@@ -175,7 +175,7 @@ DIGESTS = {
     "module": (libraries, lambda: module.listed()["SOURCES"], sources(module.SOURCES, module.DEVICES)),
     "linux": (booting, booting.sum_of_sources, [
         path for name in booting.SOURCES for path in (ROOT / name, *(ROOT / name).rglob("*"))
-        if path.is_file() and not BUILT & {*path.parts}]),
+        if path.is_file() and not BUILT & {*path.relative_to(ROOT).parts}]),
 }
 
 

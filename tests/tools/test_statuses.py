@@ -15,7 +15,7 @@ import pytest
 from common import installing, rattle, requirements
 from common.comparison import Comparison
 from common.results import counted, run as run_part
-from documents import BUILT
+from documents import BUILT, files
 from generators import module
 from harness import ROOT, at_least, check, run
 from rust_tokens import Refused
@@ -79,8 +79,8 @@ def test_ignored(text, lines):
 
 
 @pytest.mark.parametrize("name", at_least(90, sorted(
-    [*programs(), *(path.relative_to(ROOT).as_posix() for folder in ("tools", "recheck", "tests")
-                    for path in (ROOT / folder).rglob("*.py") if not {*BUILT, "target"} & {*path.parts})])))
+    [*programs(), *(path.as_posix() for path in files() if path.suffix == ".py"
+                    and path.parts[0] in ("tools", "recheck", "tests"))])))
 def test_no_command_is_ignored(name):
     assert not [*ignored((ROOT / name).read_text("utf-8"))]
 
