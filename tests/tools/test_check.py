@@ -22,7 +22,8 @@ STAND_INS = {
     "rustc": "", "cc": "", "gcc": "", "coqc": "", "id": "echo 0", "dpkg": "echo amd64",
     # For root it installs what is named, by making the command that is missing. Without a time to wait for another
     # apt-get it fails, since there is one, and if it would not try again, since a mirror is busy. So it does if it or a
-    # package would ask its user something, or if it would install what is only recommended.
+    # package would ask its user something, if it would install what is only recommended, or if it would write where its
+    # user may not, or read as a user who may not.
     "apt-get": """
 case "$*" in
 *DPkg::Lock::Timeout=[1-9][0-9][0-9]*) ;;
@@ -39,6 +40,19 @@ for option in --yes --no-install-recommends; do
     *) echo "Do you want to continue?" >&2; exit 100 ;;
     esac
 done
+for kept in State::Lists="$TOP/out/apt/lists" Cache="$TOP/out/apt/cache"; do
+    case "$words" in
+    *" Dir::$kept "*) ;;
+    *) echo "E: Unable to lock directory" >&2; exit 100 ;;
+    esac
+done
+for folder in lists cache/archives; do
+    [ -d "$TOP/out/apt/$folder/partial" ] || { echo "E: Directory partial is missing" >&2; exit 100; }
+done
+case "$words" in
+*" APT::Sandbox::User=0 "* | *" APT::Sandbox::User=somebody "*) ;;
+*) echo "E: Could not open file" >&2; exit 100 ;;
+esac
 case "$words$DEBIAN_FRONTEND" in
 *" --simulate "* | *" install "*" noninteractive") ;;
 *" install "*) echo "Please select the geographic area in which you live" >&2; exit 100 ;;
