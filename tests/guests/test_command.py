@@ -1,6 +1,7 @@
 # SPDX-License-Identifier: Apache-2.0 OR BSD-3-Clause
 """What `judge.py` prints at its end, of each part how many checks were as they should be, its status, and what it
 keeps."""
+import gzip
 import hashlib
 import io
 import os
@@ -188,6 +189,25 @@ OTHER_ARCHIVE = """#!/bin/sh
 exec /usr/bin/apt-get "$@"
 """
 RELEASE = f"Codename: trixie\nSHA256:\n {hashlib.sha256().hexdigest()} 0 main/binary-amd64/Packages\n"
+
+
+@pytest.mark.parametrize("is_source", [False, True])
+@pytest.mark.parametrize("place", ["tools/install-packages", "an earlier run"])
+def test_where_a_source_is_found(place, is_source, tmp_path, monkeypatch):
+    """Where tools/install-packages unpacks it for another user than root, and where a run before has put it: its archive
+    with the file that says its version, or nothing."""
+    monkeypatch.setattr(sources, "PACKAGES", tmp_path / "packages")
+    monkeypatch.setattr(sources, "KEPT", tmp_path / "kept")
+    source = sources.Source("It", "it-of-a-test", "bookworm", is_source)
+    monkeypatch.setitem(sources.SOURCES, "it", source)
+    folder = tmp_path / "packages" if place == "tools/install-packages" else source.folder
+    names = ["it-of-a-test_1.2.orig.tar.xz"] if is_source else [
+        "usr/src/it-of-a-test.tar.xz", "usr/share/doc/it-of-a-test/changelog.Debian.gz"]
+    for name in names:
+        assert sources.files("it") == (None, None) and sources.version("it") is None
+        (folder / name).parent.mkdir(parents=True, exist_ok=True)
+        (folder / name).write_bytes(gzip.compress(b"it-of-a-test (1.2) bookworm; urgency=medium\n"))
+    assert sources.files("it") == (folder / names[0], folder / names[-1]) and sources.version("it") == "1.2"
 
 
 @pytest.mark.where("CBMC 6")   # where apt-get is
