@@ -609,6 +609,19 @@ def test_a_copy_has_nothing_that_was_built(tmp_path, monkeypatch):
         assert {name for name in names if not name.startswith(".cargo/")} == {"Cargo.toml", "src/lib.rs"}, copy
 
 
+def test_a_copy_has_the_links_of_the_repository(tmp_path, monkeypatch):
+    """A release that is made of it would otherwise have none, and nobody would see what becomes of them."""
+    root, copy = tmp_path / "root", tmp_path / "copy"
+    (root / "folder").mkdir(parents=True)
+    (root / "file").write_text("a", "ascii")
+    links = {"folder/link": "../file", "link": "folder", "broken": "nowhere"}
+    for name, target in links.items():
+        (root / name).symlink_to(target)
+    monkeypatch.setattr(documents, "ROOT", root)
+    documents.copy_repository(copy)
+    assert {name: os.readlink(copy / name) for name in links} == links and (copy / "file").read_text("ascii") == "a"
+
+
 @pytest.mark.parametrize("above", sorted(BUILT))
 def test_files_of_a_repository(above, tmp_path, monkeypatch):
     """What was built is none of them, but a repository may be in a folder of such a name."""
