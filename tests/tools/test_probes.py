@@ -19,6 +19,7 @@ from places import PLACES, is_place
 
 sys.path.append(str(ROOT / "tests" / "guests"))
 import cbmc  # noqa: E402
+import polling_drivers  # noqa: E402
 import sources  # noqa: E402
 
 LINES = {name: what for name, what in PLACES.items() if what.startswith("import ")}
@@ -127,6 +128,10 @@ def test_source(name, monkeypatch):
     for other in ("0", None):
         monkeypatch.setattr(sources, "version", lambda _, other=other: other)
         assert not holds(name)
+    needed = {driver.source for driver in polling_drivers.DRIVERS.values()} if "each driver" in name else {*asked}
+    for other in needed:   # of several, each has to be there
+        monkeypatch.setattr(sources, "version", lambda source, other=other: None if source == other else version(source))
+        assert not holds(name), other
 
 
 def test_cbmc(tmp_path, monkeypatch):
