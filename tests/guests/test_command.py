@@ -194,8 +194,8 @@ RELEASE = f"Codename: trixie\nSHA256:\n {hashlib.sha256().hexdigest()} 0 main/bi
 @pytest.mark.parametrize("is_source", [False, True])
 @pytest.mark.parametrize("place", ["tools/install-packages", "an earlier run"])
 def test_where_a_source_is_found(place, is_source, tmp_path, monkeypatch):
-    """Where tools/install-packages unpacks it for another user than root, and where a run before has put it: its archive
-    with the file that says its version, or nothing."""
+    """Where tools/install-packages unpacks it for another user than root, and where a run before has put it: its
+    archive with the file that says its version, or nothing."""
     monkeypatch.setattr(sources, "PACKAGES", tmp_path / "packages")
     monkeypatch.setattr(sources, "KEPT", tmp_path / "kept")
     source = sources.Source("It", "it-of-a-test", "bookworm", is_source)

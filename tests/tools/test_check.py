@@ -150,9 +150,9 @@ class Machine:
     def run(self, tool, *words, **options):
         """Its status, what it printed, and what it called, apart from Python."""
         self.log.write_text("", "utf-8")
-        ran = run([self.top / tool, *words], env={
+        ran = run([self.top / tool, *words], **options, env={
             "PATH": str(self.bin), "PYTHONPATH": str(self.stubs), "TEST_SEED": "1", "TOP": str(self.top),
-            "HERE": str(self.bin), "AWAY": str(self.away), "PYTHONDONTWRITEBYTECODE": "1", "HOME": os.devnull}, **options)
+            "HERE": str(self.bin), "AWAY": str(self.away), "PYTHONDONTWRITEBYTECODE": "1", "HOME": os.devnull})
         called = [line for line in self.log.read_text("utf-8").splitlines() if not line.startswith("python3 ")]
         return ran.returncode, ran.stdout, called
 

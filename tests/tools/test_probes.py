@@ -130,7 +130,7 @@ def test_source(name, monkeypatch):
         assert not holds(name)
     needed = {driver.source for driver in polling_drivers.DRIVERS.values()} if "each driver" in name else {*asked}
     for other in needed:   # of several, each has to be there
-        monkeypatch.setattr(sources, "version", lambda source, other=other: None if source == other else version(source))
+        monkeypatch.setattr(sources, "version", lambda name, other=other: None if name == other else version(name))
         assert not holds(name), other
 
 
