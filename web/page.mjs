@@ -207,7 +207,8 @@ function serialRow(register) {
   const place = hex(offset, 2);
   const { name: written, ignored: isIgnored } = serialRegister(offset, latched ? DLAB : 0, true);
   const read = element("button", { type: "button", title: `sr ${place}`, "aria-label": `Read ${name}` }, "Read");
-  const input = element("input", { placeholder: "value", autocomplete: "off", "aria-label": `Value for ${written}` });
+  const input = element("input", { placeholder: "value", autocomplete: "off", autocapitalize: "none", spellcheck: "false",
+    "aria-label": `Value for ${written}` });
   const write = element("button", isIgnored ?
     { title: `sw ${place} ..: ignored`, "aria-label": `Write ${written}, which is ignored`, class: "ignored" } :
     { title: `sw ${place} ..`, "aria-label": `Write ${written}` }, "Write");

@@ -8,11 +8,11 @@ import shutil
 import tempfile
 from pathlib import Path
 
+from documents import BUILT
 from harness import ROOT
 
 FOLDER = Path(os.environ.get("XDG_CACHE_HOME") or Path.home() / ".cache") / "fimolavand"
 MOST = 300   # proofs are kept: those that were made or taken last
-BUILT = {"__pycache__", "out", "target", "Cargo.lock"}   # which git ignores
 again = False   # whether a proof is made also if an earlier run made it
 taken = []      # the names of proofs that earlier runs made
 

@@ -329,8 +329,8 @@ function wrongMarks() {
 
 /**
  * Tries whether the page fits its window, each text that is in use stands out, each control has a name of its own with
- * the words that are seen of it, and shows the focus, what names another element finds it, nothing moves, and each
- * class is seen.
+ * the words that are seen of it, and shows the focus, what is typed stays as it is, what names another element finds it,
+ * nothing moves, and each class is seen.
  */
 async function tryLooks(width, scheme) {
   await open(shown, width, scheme);
@@ -355,6 +355,8 @@ async function tryLooks(width, scheme) {
     "is reached by Tab out of turn": all("*").filter((one) => one.tabIndex > 0),
     "is not reached by Tab": visible.filter((one) => one.tabIndex < 0 && !one.disabled && (controls.includes(one) ||
       /auto|scroll/.test(page.getComputedStyle(one).overflowY) && one.scrollHeight > one.clientHeight + 1)),
+    "is changed by a phone that helps to type": all("input, textarea").filter((one) =>
+      /^text/.test(one.type) && (one.autocapitalize !== "none" || one.spellcheck)),
     "is too wide": [page.document.scrollingElement].filter((one) => one.scrollWidth > width),
     "has no language": [page.document.documentElement].filter((one) => !one.lang),
     "names what is not there": all("*").filter((one) => named(one).some((id) => !by(id))),

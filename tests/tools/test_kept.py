@@ -8,7 +8,7 @@ import pytest
 
 # A folder of two files with one below it, a file beside it, and what has no place of its own.
 TREE = {"folder/a": "ab", "folder/b": "c", "folder/below/c": "", "file": "text"}
-LEFT_BY_TOOLS = ["folder/__pycache__/a", "folder/out/a", "folder/below/target/release/a", "folder/Cargo.lock"]
+LEFT_BY_TOOLS = ["folder/__pycache__/a", "folder/out/a", "folder/below/target/release/a", "folder/build/lib/a"]
 
 
 @pytest.fixture
