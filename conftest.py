@@ -26,13 +26,18 @@ LEFT_OUT = pytest.StashKey()   # of a test that --without leaves out
 TAKEN = kept.taken   # the proofs of earlier runs that were enough, until a report names them
 # The files that take longest, also because they wait. They begin first, so that no worker is left with one of them at
 # the end.
-DEAREST = ["tests/packages/test_releases.py", "tests/rust/test_crates.py", "tests/c/test_programs.py",
-           "tests/recheck/test_proofs.py", "tests/tools/test_mutants.py", "tests/tools/test_changes.py",
-           "tests/guests/test_verifier.py", "tests/documents/test_whole_programs.py", "tests/documents/test_paste.py",
-           "tests/page/test_page.py", "tests/c/test_examples_of_c.py", "tests/kvm/test_monitor.py",
-           "tests/guests/test_clock.py", "tests/python/test_installation.py", "tests/js/test_package.py",
-           "tests/guests/test_linux_driver.py", "tests/tools/test_check.py", "tests/tools/test_comparing.py",
-           "tests/recheck/test_statements.py", "tests/guests/test_polling.py"]
+DEAREST = ["tests/rust/test_crates.py", "tests/packages/test_releases.py", "tests/c/test_programs.py",
+           "tests/tools/test_mutants.py", "tests/tools/test_changes.py", "tests/documents/test_whole_programs.py",
+           "tests/page/test_page.py", "tests/python/test_installation.py", "tests/js/test_package.py",
+           "tests/documents/test_paste.py", "tests/recheck/test_proofs.py", "tests/kvm/test_monitor.py",
+           "tests/guests/test_verifier.py", "tests/guests/test_linux_driver.py", "tests/guests/test_clock.py",
+           "tests/tools/test_comparing.py", "tests/costs/test_counts.py", "tests/tools/test_check.py",
+           "tests/guests/test_polling.py", "tests/c/test_examples_of_c.py", "tests/devices/test_calls.py",
+           "tests/recheck/test_whole.py", "tests/guests/test_xen.py", "tests/packages/test_installation_of_c.py",
+           "tests/tools/test_rules.py", "tests/python/test_traces.py", "bindings/python/tests/test_commandline.py",
+           "tests/python/test_boards.py", "tests/devices/test_random.py", "tests/recheck/test_broken_rules.py",
+           "tests/python/test_recorded_calls.py", "tests/recheck/test_statements.py", "tests/kvm/test_images.py",
+           "tests/tools/test_statuses.py"]
 
 os.environ.setdefault("HYPOTHESIS_STORAGE_DIRECTORY", str(ROOT / "out" / "hypothesis"))
 # Each date that a program of ours tells is of UTC. So tests run where local time is another.

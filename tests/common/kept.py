@@ -18,10 +18,11 @@ taken = []      # the names of proofs that earlier runs made
 
 
 def files_of(part):
-    """The files of what a proof is made of, if it is a file or a folder."""
+    """The files of what a proof is made of, if it is a file or a folder, without what tools leave there."""
     if part.is_file():
         return [part]
-    return sorted(path for path in part.rglob("*") if path.is_file() and BUILT.isdisjoint(path.relative_to(ROOT).parts))
+    return sorted(path for path in part.rglob("*") if path.is_file() and path.name != "Cargo.lock"
+                  and BUILT.isdisjoint(path.relative_to(ROOT).parts))
 
 
 def digest(name, parts):
@@ -56,3 +57,10 @@ def proof(name, parts, make):
         for old in sorted(place.parent.iterdir(), key=lambda path: path.stat().st_mtime)[:-MOST]:
             shutil.rmtree(old)
     return place
+
+
+def text(name, parts, make):
+    """What a prover said, which `make` gives, now or in an earlier run."""
+    def write(folder):
+        (folder / "text").write_bytes(make().encode())
+    return (proof(name, parts, write) / "text").read_bytes().decode()

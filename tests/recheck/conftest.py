@@ -1,6 +1,7 @@
 # SPDX-License-Identifier: Apache-2.0 OR BSD-3-Clause
 """What the tests of the proofs share."""
 import shutil
+import sys
 
 import kept
 import pytest
@@ -18,6 +19,12 @@ READ = [ROOT / name for name in ("bindings/c", "docs/PROOFS.md", "recheck", "rus
 def made_of():
     """What the proofs are made of."""
     return [*READ, *sorted(ROOT.glob("crates/*/specs")), check(["coqc", "--version"])]
+
+
+@pytest.fixture(scope="session")
+def judged_by():
+    """Of what a test is made that has Coq judge the translators and what they tell, by cases of its own."""
+    return [ROOT / "recheck", ROOT / "tests/recheck", ROOT / "tools/common", check(["coqc", "--version"]), sys.version]
 
 
 @pytest.fixture(scope="session")

@@ -18,6 +18,7 @@ from contextlib import contextmanager
 from itertools import islice
 from pathlib import Path
 
+import kept
 import pytest
 import rust_cases
 import shell_cases
@@ -385,7 +386,11 @@ def compiled_once(tmp_path, monkeypatch):
 
 @pytest.mark.needs("coq")
 @pytest.mark.usefixtures("compiled_once")
-def test_broken_rules(tmp_path):
+def test_broken_rules(judged_by, tmp_path):
+    kept.proof("each broken rule shows", judged_by, lambda _: assert_each_shows(tmp_path))
+
+
+def assert_each_shows(tmp_path):
     cases = tmp_path / "cases"
     write_cases(cases)
     right, ran = zip(*(traced(cases, at) for at in range(len(CASES))))

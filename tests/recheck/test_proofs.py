@@ -104,12 +104,13 @@ def said(folder, functions):
 
 
 @pytest.fixture(scope="module")
-def said_of_gaps(checked, functions, tmp_path_factory):
+def said_of_gaps(checked, functions, made_of, judged_by, tmp_path_factory):
     texts = {name: (checked[0] / f"{name}.v").read_text() for name, *_ in GAPS.values()}
     for name, old, new, _ in GAPS.values():
         texts[name], count = re.subn(old, new, texts[name], count=1)
         assert count == 1, old
-    return said(changed(checked, tmp_path_factory.mktemp("gaps") / "all", texts), functions)
+    return kept.text("gaps of the proofs", [*made_of, *judged_by], lambda: said(
+        changed(checked, tmp_path_factory.mktemp("gaps") / "all", texts), functions))
 
 
 @pytest.mark.parametrize("name", GAPS)
@@ -117,12 +118,14 @@ def test_a_gap_fails(name, said_of_gaps):
     assert re.search(GAPS[name][3], said_of_gaps, re.M), said_of_gaps
 
 
-def test_a_law_of_the_same_name_fails(checked, functions, tmp_path):
+def test_a_law_of_the_same_name_fails(checked, functions, made_of, judged_by, tmp_path):
     """A theorem about another law that is named the same. The file has this theorem alone."""
-    found = said(changed(checked, tmp_path / "changed", {"ConsoleLawsDriver": """Require Import Recheck.Definitions.
+    text = """Require Import Recheck.Definitions.
 Definition ResetLaw := True.
 Theorem console_at_reset : ResetLaw. Proof. exact I. Qed.
-"""}), functions)
+"""
+    found = kept.text("a law of the same name", [*made_of, *judged_by], lambda: said(
+        changed(checked, tmp_path / "changed", {"ConsoleLawsDriver": text}), functions))
     assert found.startswith("Audit.v is not proved")
     assert ('has type "ConsoleLawsDriver.ResetLaw" while it is expected to have type "Definitions.ResetLaw"'
             in " ".join(found.split()))
@@ -134,12 +137,15 @@ def test_a_warning_fails(tmp_path):
         coq.coqc(tmp_path, "Warned")
 
 
-def test_another_statement_fails(checked, tmp_path):
+def test_another_statement_fails(checked, made_of, judged_by, tmp_path):
     """As test_statements.py shows on a smaller folder."""
     text, count = re.subn(r"\(\* [^*]*\*\)\nTheorem superio_serial_read (?s:.*?)Qed\.\n", "",
                           (checked[0] / "CFunctions.v").read_text(), count=1)
     assert count == 1
-    folder = changed(checked, tmp_path / "changed", {"CFunctions": text})
-    with pytest.raises(coq.Failed) as failed:
-        statements.compare(folder)
-    assert re.search(r"^-superio_serial_read$", str(failed.value), re.M), failed.value
+
+    def compared():
+        with pytest.raises(coq.Failed) as failed:
+            statements.compare(changed(checked, tmp_path / "changed", {"CFunctions": text}))
+        return str(failed.value)
+    found = kept.text("another statement", [*made_of, *judged_by], compared)
+    assert re.search(r"^-superio_serial_read$", found, re.M), found

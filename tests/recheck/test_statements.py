@@ -1,9 +1,11 @@
 # SPDX-License-Identifier: Apache-2.0 OR BSD-3-Clause
 """claims.txt and statements.txt show each change of what is proved by its name. Shown on a port of a few lines, since Coq
 needs a minute for the real ones."""
+import json
 import re
 import shutil
 
+import kept
 import pytest
 
 import coq
@@ -167,14 +169,31 @@ REFUSED = {
 }
 
 
-@pytest.fixture(scope="module")
-def small(tmp_path_factory):
-    """A folder with the small port, checked, and its two files."""
-    folder = tmp_path_factory.mktemp("small")
+def told(folder):
+    """What is told of the small port, and of it after each change: the two files, or why there are none."""
     for name, text in FILES.items():
-        (folder / f"{name}.v").write_text(text)
-    coq.check(folder, 1)
-    return folder, statements.Statements(folder).files(PAGE)
+        (folder / "small" / f"{name}.v").write_text(text)
+    coq.check(folder / "small", 1)
+    found = {"": statements.Statements(folder / "small").files(PAGE)}
+    for number, (name, (file, old, new, _)) in enumerate({**CHANGES, **REFUSED}.items()):
+        try:
+            found[name] = changed(folder / "small", folder / str(number), file, old, new)
+        except coq.Failed as failed:
+            found[name] = str(failed)
+    return found
+
+
+@pytest.fixture(scope="module")
+def all_told(judged_by, tmp_path_factory):
+    folder = tmp_path_factory.mktemp("statements")
+    (folder / "small").mkdir()
+    return json.loads(kept.text("statements of a small port", judged_by, lambda: json.dumps(told(folder))))
+
+
+@pytest.fixture(scope="module")
+def small(all_told):
+    """The two files of the small port."""
+    return all_told[""]
 
 
 def changed(small, folder, file, old, new):
@@ -190,39 +209,37 @@ def changed(small, folder, file, old, new):
 
 
 @pytest.mark.parametrize("name", CHANGES)
-def test_a_change_shows(name, small, tmp_path):
-    file, old, new, lines = CHANGES[name]
-    found = changed(small[0], tmp_path / "changed", file, old, new)
+def test_a_change_shows(name, small, all_told):
+    lines, found = CHANGES[name][3], all_told[name]
+    assert isinstance(found, dict), found
     for changed_file in found:
-        said = statements.differences({changed_file: small[1][changed_file]}, {changed_file: found[changed_file]})
+        said = statements.differences({changed_file: small[changed_file]}, {changed_file: found[changed_file]})
         for line in lines.get(changed_file, []):
             assert any(each.startswith(line) for each in said), said
         shown = [each for each in said[2:] if each[0] in "+-" and not each.startswith(("-All of both", "+All of both"))]
         assert bool(shown) == bool(lines.get(changed_file)) or name == "what Coq does not show", said
-    assert bool(lines) == (found != small[1])
+    assert bool(lines) == (found != small)
 
 
 def test_each_difference_shows(small):
     """Also of a file that is empty, or that is not there, and of lines at either end."""
-    for file, text in small[1].items():
+    for file, text in small.items():
         first, *rest = text.splitlines(keepends=True)
-        for kept in ({}, {file: ""}, {file: first}, {file: "".join(rest)}, {file: "".join([first, *rest[:-1]])},
+        for other in ({}, {file: ""}, {file: first}, {file: "".join(rest)}, {file: "".join([first, *rest[:-1]])},
                      {file: f"more\n{text}"}, {file: f"{text}more\n"}):
-            assert statements.differences(kept, {file: text}), kept
-        assert statements.differences(small[1], {file: text}) == []
+            assert statements.differences(other, {file: text}), other
+        assert statements.differences(small, {file: text}) == []
 
 
 @pytest.mark.parametrize("name", REFUSED)
-def test_refused(name, small, tmp_path):
-    file, old, new, why = REFUSED[name]
-    with pytest.raises(coq.Failed) as failed:
-        changed(small[0], tmp_path / "changed", file, old, new)
-    assert re.search(why, str(failed.value)), failed.value
+def test_refused(name, all_told):
+    found = all_told[name]
+    assert isinstance(found, str) and re.search(REFUSED[name][3], found), found
 
 
 def test_what_a_reviewer_reads(small):
     """The page's claims come first, in its order and by its words, and then the definitions, each after those that it uses."""
-    claims = small[1]["claims.txt"]
+    claims = small["claims.txt"]
     parts = ["==== Claim 1. A new port fits, always.", "A new port fits.\nport_new\n     : exists",
              "==== Claims 1 and 2. A write is `kept`. It has room:\n     - for a byte\n     - for two, if it is new\n     No more.\n",
              "A write is kept, and no call panics.\nport_write\n",
@@ -235,10 +252,10 @@ def test_what_a_reviewer_reads(small):
 
 def test_what_the_rest_is(small):
     """Each theorem and definition is in one of the files, once; a law stands under its theorem."""
-    rest = small[1]["statements.txt"]
+    rest = small["statements.txt"]
     assert "==== numbers (recheck/proofs/Clock.v)\n\nDoubling is adding.\ndoubles\n     : DoubleLaw\nDoubleLaw = forall n : nat, double n = n + n\n" in rest
     assert "\none of two\nwidth_of_usize\n     : {bits : nat | bits = 4 \\/ bits = 8}\n" in rest
-    both = small[1]["claims.txt"] + rest
+    both = small["claims.txt"] + rest
     for name in ("port_new", "port_write", "doubles", "zero", "most =", "Fits =", "kind_of =", "double =", "plain =", "writes =",
                  "DoubleLaw ="):
         assert len(re.findall(rf"^{name}", both, re.M)) == 1, name

@@ -254,7 +254,7 @@ def test_words(tool, machine):
     machine.lacks("coqc")
     status, said, called = machine.run(tool, "--no-install", "--without", "cargo,coq")
     assert (status, said.splitlines()[-1]) == (0, "7 passed, 0 failed, 1 skipped"), said
-    workers = len(os.sched_getaffinity(0)) + 1
+    workers = 2 * len(os.sched_getaffinity(0))
     words_of_pytest = f"pytest -q -n {workers} --dist loadfile --sums --without=cargo,coq"
     assert called == ["rt ci", words_of_pytest]
     assert machine.run(tool, "--again", "--no-install", "--without", "cargo,coq")[2] == ["rt ci", f"{words_of_pytest} --again"]
@@ -267,12 +267,12 @@ def test_words(tool, machine):
 
 
 def test_workers(machine):
-    """One more than the processors that it may use: a container may have fewer than the machine."""
+    """Two for each processor that it may use: a container may have fewer than the machine."""
     usable = os.sched_getaffinity(0)
     try:
         for number in {1, len(usable)}:
             os.sched_setaffinity(0, [*usable][:number])
-            assert f" -n {number + 1} " in " ".join(machine.run("tools/check")[2])
+            assert f" -n {2 * number} " in " ".join(machine.run("tools/check")[2])
     finally:
         os.sched_setaffinity(0, usable)
 

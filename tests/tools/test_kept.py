@@ -8,7 +8,8 @@ import pytest
 
 # A folder of two files with one below it, a file beside it, and what has no place of its own.
 TREE = {"folder/a": "ab", "folder/b": "c", "folder/below/c": "", "file": "text"}
-LEFT_BY_TOOLS = ["folder/__pycache__/a", "folder/out/a", "folder/below/target/release/a", "folder/build/lib/a"]
+LEFT_BY_TOOLS = ["folder/__pycache__/a", "folder/out/a", "folder/below/target/release/a", "folder/build/lib/a",
+                 "folder/below/Cargo.lock"]
 
 
 @pytest.fixture
@@ -116,6 +117,13 @@ def test_the_last_stay(top, monkeypatch):
     assert len([*(kept.FOLDER / "proofs").iterdir()]) == 3
     taken = [kept.FOLDER / "proofs" / kept.digest(name, []) for name in "abcd"]
     assert [path.exists() for path in taken] == [True, False, True, True]
+
+
+def test_what_was_said_is_the_same_again(top):
+    """By whichever letters, and at any length."""
+    said = ["", "a\r\nb\n\n", "\u221a\U0001f40d" * 1000]
+    assert [kept.text(text[:1], parts(top), lambda text=text: text) for text in said] == said
+    assert [kept.text(text[:1], parts(top), pytest.fail) for text in said] == said
 
 
 def test_two_runs_at_once(top):
