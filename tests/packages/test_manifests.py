@@ -148,7 +148,10 @@ def test_cargo(crate):
 
 
 def test_npm():
-    assert json.loads(contents("bindings/js/package.json")) == NPM
+    """Of the conditions of an export, tools take the first that matches, so their order counts too."""
+    found = json.loads(contents("bindings/js/package.json"))
+    assert found == NPM
+    assert json.dumps(found["exports"]) == json.dumps(NPM["exports"])
 
 
 def test_python():
