@@ -4,7 +4,7 @@
  * receives. All of it comes back in order, whatever the controller refuses, for drivers that read IIR once or until
  * nothing is pending, and take few bytes or many, in machines that slept and were reset before. Input goes in at once
  * while the guest polls, and otherwise once its driver is ready, also after a sleep and after a reset. The loop comes
- * back soon, and sleeps while IER enables nothing.
+ * back soon, and sleeps while IER enables nothing. After a restore it comes back for bytes that the guest has left.
  */
 #include <stdio.h>
 #include <stdlib.h>
@@ -17,6 +17,7 @@ void turn(void);
 void reset(void);
 void suspend(void);
 void set_polled(bool polls); /* the monitor's own: sets what a machine begins with */
+void restore(const superio_serial *saved); /* and takes the steps of a restore */
 
 enum { INPUT = 2000, ROOM = 100 };
 static uint8_t input[ROOM];    /* what waits for the guest */
@@ -168,6 +169,31 @@ static bool goes_in_by_rule(bool polls) {
     return true;
 }
 
+/* Ports are restored that hold a byte or none, whose interrupt the guest has ended or not. The event loop, which polls
+ * first, comes back until the guest is interrupted for a byte that IER enables, and otherwise leaves it alone. */
+static bool comes_back_after_a_restore(void) {
+    for (unsigned kind = 0; kind < 64; kind++) {
+        superio_serial saved = superio_serial_new();
+        bool is_due = (kind & 0x05) == 0x05; /* IER enables RDA, and a byte is held */
+        saved.interrupt_enable = kind & 0x03;
+        bool is_held = superio_serial_enqueue(&saved, (const uint8_t *)"x", kind >> 2 & 1).accepted == 1;
+        if (kind & 0x08)
+            superio_serial_read(&saved, 2); /* IIR: the guest ends the interrupt, and leaves the byte */
+        if (is_held != (kind >> 2 & 1))
+            return false;
+        edges = waiting = 0;
+        is_timed = false;
+        restore(&saved);
+        for (unsigned turns = 0; turns < 100 && is_timed && !(takes_levels ? is_up : edges > 0); turns++) {
+            is_timed = false;
+            turn();
+        }
+        if ((takes_levels ? is_up : edges > 0) != is_due)
+            return false;
+    }
+    return true;
+}
+
 int main(void) {
     typed = INPUT; /* no more comes from the source */
     if (!goes_in_when_it_may(false) || !goes_in_when_it_may(true) || !goes_in_by_rule(false) || !goes_in_by_rule(true)) {
@@ -175,6 +201,10 @@ int main(void) {
         return 1;
     }
     set_polled(false);
+    if (!comes_back_after_a_restore()) {
+        puts("the event loop does not come back after a restore, or interrupts for nothing");
+        return 1;
+    }
     static const unsigned most[] = {1, 7, 64, 256};
     for (unsigned seed = 0; seed < 400; seed++) {
         srand(seed);
