@@ -243,6 +243,16 @@ for (outer, inner), name in product(product(LOOPS, repeat=2), LEAVING):
     REFUSED |= {f"{name} in {outer}, {place} {inner}": (f"a {name} in a loop", with_loops(LOOPS[outer].format(body)))
                 for place, body in places.items()}
 
+# A constant is an arm of its own, and no part of one: there, a name that is no constant would be a variable, which any
+# value fits.
+WITHIN = {"[FIVE, _rest @ ..]": "let x: &[u8] = &[4, 5];", "[_, FIVE]": "let x: &[u8] = &[4, 6];",
+          "[_first, FIVE, _rest @ ..]": "let x: &[u8] = &[4, 6, 7];", "Some(FIVE)": "let x: Option<u8> = Some(4);",
+          "Ok(FIVE)": "let x: Result<u8, u8> = Ok(4);", "Err(FIVE)": "let x: Result<u8, u8> = Err(4);",
+          "Color::Value(SIX)": "let x = Color::Value(5);"}
+REFUSED |= {f"a constant in {pattern}": ("a constant as a pattern", COLOR + f"""pub const FIVE: u8 = 5;
+        pub const SIX: u32 = 6; pub fn case() -> u32 {{ {made} match x {{ {pattern} => 1, _ => 2 }} }}""")
+            for pattern, made in WITHIN.items()}
+
 RIGHT = {
     **{f"{name} behind {outer} and {inner}": with_loops(LOOPS[outer].format(LOOPS[inner].format("")) + LEAVING[name])
        for (outer, inner), name in product(product(LOOPS, repeat=2), LEAVING)},
