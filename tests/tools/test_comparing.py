@@ -334,6 +334,68 @@ def test_guards_of_replay(tmp_path):
     assert ends.pop("nothing") == 1 and {*ends.values()} == {-signal.SIGSEGV}, ends
 
 
+# In place of functions that replay.c calls by itself, beside that of a line: they spoil a part of what they return, if
+# SPOILT names it.
+SPOILING = """#include <superio.h>
+#include <stdlib.h>
+#include <string.h>
+static bool spoils(const char *part) { return strcmp(getenv("SPOILT"), part) == 0; }
+superio_console_work __real_superio_console_refuse(superio_console *console);
+superio_console_work __wrap_superio_console_refuse(superio_console *console) {
+    superio_console_work work = __real_superio_console_refuse(console);
+    work.interrupts += spoils("one interrupt");
+    work.interrupts += 2 * spoils("two interrupts");
+    work.is_up ^= spoils("the level");
+    work.wakes ^= spoils("the wake");
+    return work;
+}
+uint8_t __real_superio_serial_interrupts_due(const superio_serial *port);
+uint8_t __wrap_superio_serial_interrupts_due(const superio_serial *port) {
+    return spoils("what is due") ? 0 : __real_superio_serial_interrupts_due(port);
+}
+uint32_t __real_superio_abi(void);
+uint32_t __wrap_superio_abi(void) { return __real_superio_abi() + spoils("the interface"); }
+size_t __real_superio_serial_save(const superio_serial *port, uint8_t *bytes);
+size_t __wrap_superio_serial_save(const superio_serial *port, uint8_t *bytes) {
+    size_t count = __real_superio_serial_save(port, bytes);
+    bytes[16] ^= spoils("the last register");
+    bytes[count - 1] ^= spoils("the last byte");
+    return count - spoils("the size");
+}
+size_t __real_superio_serial_fifo_capacity(const superio_serial *port);
+size_t __wrap_superio_serial_fifo_capacity(const superio_serial *port) {
+    return __real_superio_serial_fifo_capacity(port) + spoils("the room");
+}
+"""
+# Beside calls, all that they show of it: a console of which an interrupt is refused, by which the loop is woken or not;
+# a port that asks for one; and the state of a port, which is put in its own place.
+SHOWN_BY = {("ln", "lw 01 02 1", "lr 02", "lw 00 41 1", "lw 00 42 1"): ["one interrupt", "two interrupts", "the level",
+                                                                        "the wake", "the interface"],
+            ("sw 01 02",): ["what is due", "the interface"],
+            ("sq 6869", "sw 01 01", "ss"): ["what is due", "the last register", "the last byte", "the size",
+                                            "the room"]}
+
+
+@pytest.mark.needs("cc")
+def test_what_replay_looks_at(tmp_path):
+    """Also at what no reply shows: a refused interrupt leaves nothing else to do, and one that is asked for is due."""
+    (tmp_path / "spoiling.c").write_text(SPOILING, "ascii")
+    wrapped = sorted({f"-Wl,--wrap={name}" for name in re.findall(r"__wrap_(\w+)", SPOILING)})
+    words = ["-I", ROOT / "bindings/c", ROOT / "tests/c/replay.c", tmp_path / "spoiling.c", *wrapped, prebuilt(HOST)]
+    check(["cc", *words, "-o", tmp_path / "replay"], "")
+
+    def replayed(rows, spoilt="nothing"):
+        text, told = "".join(f"{row}\n" for row in rows), {**os.environ, "SPOILT": spoilt}
+        ran = run([tmp_path / "replay"], input=text, env=told)
+        return ran.returncode, ran.stdout
+    for calls, parts in SHOWN_BY.items():
+        said = replayed([f"{call} = ?" for call in calls])[1]
+        rows = [f"{call} = {got}" for call, got in zip(calls, re.findall("^got: +(.*)$", said, re.M))]
+        assert replayed(rows) == (0, f"{len(calls)} calls did the same, 0 did not\n")
+        assert [part for part in parts if replayed(rows, part)[0] == 0] == []
+    assert {part for parts in SHOWN_BY.values() for part in parts} == {*re.findall(r'spoils\("(.*?)"\)', SPOILING)}
+
+
 # In place of a call of the library: one that returns something else, once, at the call of this number.
 ONCE_OTHER = """#include <stdatomic.h>
 #include <stdlib.h>
