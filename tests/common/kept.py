@@ -6,6 +6,7 @@ import hashlib
 import os
 import shutil
 import tempfile
+from contextlib import suppress
 from pathlib import Path
 
 from documents import BUILT
@@ -41,10 +42,11 @@ def proof(name, parts, make):
     """The folder of a proof. `make` fills it, or fails if there is no proof. It isn't called if an earlier run on this
     machine made the proof of the same parts: texts, and files and folders of the repository. Nobody else writes there."""
     place = FOLDER / "proofs" / digest(name, parts)
-    if place.exists() and not again:
-        taken.append(name)
-        os.utime(place)
-        return place
+    if not again:
+        with suppress(FileNotFoundError):   # it is not there, or another run has just dropped it
+            os.utime(place)
+            taken.append(name)
+            return place
     place.parent.mkdir(parents=True, exist_ok=True)
     with tempfile.TemporaryDirectory(dir=FOLDER) as new, (FOLDER / "lock").open("w") as lock:
         made = Path(new) / "made"
@@ -52,8 +54,9 @@ def proof(name, parts, make):
         make(made)
         os.utime(made)
         fcntl.flock(lock, fcntl.LOCK_EX)   # runs beside this one
-        shutil.rmtree(place, ignore_errors=True)
-        made.rename(place)
+        if again or not place.exists():   # what another run has made meanwhile is as good, and may be in use
+            shutil.rmtree(place, ignore_errors=True)
+            made.rename(place)
         for old in sorted(place.parent.iterdir(), key=lambda path: path.stat().st_mtime)[:-MOST]:
             shutil.rmtree(old)
     return place

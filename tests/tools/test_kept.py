@@ -1,6 +1,7 @@
 # SPDX-License-Identifier: Apache-2.0 OR BSD-3-Clause
 """A proof of an earlier run counts only if nothing has changed of what it was made of."""
 import os
+import shutil
 from concurrent.futures import ThreadPoolExecutor
 
 import kept
@@ -124,6 +125,27 @@ def test_what_was_said_is_the_same_again(top):
     said = ["", "a\r\nb\n\n", "\u221a\U0001f40d" * 1000]
     assert [kept.text(text[:1], parts(top), lambda text=text: text) for text in said] == said
     assert [kept.text(text[:1], parts(top), pytest.fail) for text in said] == said
+
+
+def test_another_run_is_quicker(top):
+    """What it has made meanwhile stays, since it may be in use."""
+    def slow(folder):
+        (folder / "left").write_text("slow", "utf-8")
+        kept.proof("one", parts(top), lambda other: (other / "left").write_text("quick", "utf-8"))
+    place = kept.proof("one", parts(top), slow)
+    assert (place / "left").read_text("utf-8") == "quick" and [*place.parent.iterdir()] == [place]
+
+
+def test_another_run_drops_a_proof(top, monkeypatch):
+    """Just when it is to be taken. It is made again, and counts as made."""
+    place, touch = kept.proof("one", parts(top), lambda folder: None), os.utime
+
+    def dropped(path):
+        monkeypatch.setattr(os, "utime", touch)
+        shutil.rmtree(place)
+        touch(path)
+    monkeypatch.setattr(os, "utime", dropped)
+    assert makes("one", parts(top)) and kept.taken == []
 
 
 def test_two_runs_at_once(top):
