@@ -177,7 +177,7 @@ def test_each_part_counts(counts, monkeypatch):
 
 
 def test_jobs(monkeypatch):
-    """As many as are asked for, or two more than the processors that the tool may use."""
+    """As many as are asked for, or three for each processor that the tool may use."""
     usable, asked = os.sched_getaffinity(0), []
     monkeypatch.setattr(TOOL, "PARTS", {"one": None})
     monkeypatch.setattr(TOOL, "Copies", lambda root, folder, count: asked.append(count) or nullcontext())
@@ -189,7 +189,7 @@ def test_jobs(monkeypatch):
             assert TOOL.main() == 0
     finally:
         os.sched_setaffinity(0, usable)
-    assert asked == [len(usable) + 2, 3, 7]
+    assert asked == [3 * len(usable), 3, 7]
 
 
 def test_all_parts_are_in_one_queue(monkeypatch, capsys):
