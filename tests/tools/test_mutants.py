@@ -406,11 +406,11 @@ def test_a_command_has_an_end(copy, command):
     assert ended.how == "late" and ended.processor < processor + 9
 
 
-# What a command does between two looks: the seconds of a processor that it takes, of which two count as work, and the
-# state of a thread of it.
-BETWEEN_LOOKS = {"idles": (0, "S"), "hardly works": (1, "S"), "works": (2, "S"), "wants a processor": (0, "R"),
-                 "wants a disk": (0, "D")}
-IDLE, PATIENCE = {"idles", "hardly works"}, 3   # in a row
+# What a command does between two looks: the seconds of a processor that it takes and for which it waits, of which two
+# count as work, and the state of a thread of it.
+BETWEEN_LOOKS = {"idles": (0, 0, "S"), "hardly works": (1, 0, "S"), "works": (2, 0, "S"), "polls": (0, 1, "R"),
+                 "wants a processor": (0, 2, "R"), "gets half of one": (1, 1, "R"), "wants a disk": (0, 0, "D")}
+IDLE, PATIENCE = {"idles", "hardly works", "polls"}, 3   # in a row
 
 
 def test_a_command_that_waits_is_late(monkeypatch):
@@ -426,10 +426,27 @@ def test_a_command_that_waits_is_late(monkeypatch):
                 looked.append((*did, *PATIENCE * ["idles"])[len(looked)])
                 return sum(BETWEEN_LOOKS[one][0] for one in looked)
             monkeypatch.setattr(runner, "taken", taken)
-            monkeypatch.setattr(runner, "stats", lambda *pattern: [BETWEEN_LOOKS[looked[-1]][1]])
+            monkeypatch.setattr(runner, "waited", lambda: sum(BETWEEN_LOOKS[one][1] for one in looked))
+            monkeypatch.setattr(runner, "stats", lambda *pattern: [BETWEEN_LOOKS[looked[-1]][2]])
             assert runner.is_late(process.pid, 1000, 1000)
             was_idle = [IDLE.issuperset(looked[end - PATIENCE:end]) for end in range(PATIENCE, len(looked) + 1)]
             assert was_idle == [*(len(was_idle) - 1) * [False], True], looked
+
+
+# What the system says of threads: the nanoseconds for which each ran and waited, and how often it ran.
+THREADS = {"1/task/1": "9 9 9", f"{os.getpid()}/task/{os.getpid()}": "9 9 9", "70/task/70": "4000000000 250000000 3",
+           "70/task/71": "5 500000000 1", "812/task/812": "0 0 0", "813/task/813": "7 1000000000 2"}
+
+
+def test_what_wants_a_processor_waits(tmp_path, monkeypatch):
+    """What all threads waited, but not those of the two processes that try a command."""
+    for name, text in THREADS.items():
+        (tmp_path / name).mkdir(parents=True)
+        (tmp_path / name / "schedstat").write_text(text + "\n", encoding="ascii")
+    (tmp_path / "70/schedstat").write_text("0 3000000000 1\n", encoding="ascii")   # a process is no thread
+    (tmp_path / "814/task/814").mkdir(parents=True)   # it has ended meanwhile
+    monkeypatch.setattr(runner, "PROCESSES", tmp_path)
+    assert runner.waited() == 1.75
 
 
 @pytest.mark.needs("mutants", "pytest")

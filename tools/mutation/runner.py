@@ -25,10 +25,11 @@ IMPORTED = ["pytest", "hypothesis", "hypothesis.strategies", "xdist.plugin", "xd
             "unittest.mock", "zlib"]
 SUBREAPER = 36                # PR_SET_CHILD_SUBREAPER: a process that has lost its parent becomes a child of this one
 TEMPORARY = ["/tmp", "/dev/shm"]
+PROCESSES = Path("/proc")
 MOST_WRITTEN = 200_000 << 10  # how many bytes a file can have
 TICKS = os.sysconf("SC_CLK_TCK")   # how many ticks a second has
 QUIET, LOOKS = 20, 2          # after how many idle seconds a command is late, and how often per second we look
-LEAST = 0.05                  # a command that took fewer seconds of a processor between two looks waits, or only polls
+LEAST = 0.05                  # a command that took, or wanted, fewer seconds of a processor between two looks is idle
 
 
 class Told:
@@ -68,12 +69,18 @@ def begin(command, memory, told):
     return import_module("pytest").main(command, plugins=[Told(told)])
 
 
-def stats(*pattern):
-    """The numbers of the system about each process but these two, or about their threads, from their state on."""
-    for path in Path("/proc").glob("/".join(["[0-9]*", *pattern, "stat"])):
-        if int(path.parts[2]) not in (1, os.getpid()):
+def told_of_others(*pattern):
+    """What the system's files of these names tell of each process but these two, or of its threads."""
+    for path in PROCESSES.glob("/".join(["[0-9]*", *pattern])):
+        if int(path.relative_to(PROCESSES).parts[0]) not in (1, os.getpid()):
             with suppress(OSError):
-                yield path.read_text(encoding="utf-8", errors="replace").rpartition(")")[2].split()
+                yield path.read_text(encoding="utf-8", errors="replace")
+
+
+def stats(*pattern):
+    """The numbers about each process but these two, or about their threads, from their state on."""
+    for text in told_of_others(*pattern, "stat"):
+        yield text.rpartition(")")[2].split()
 
 
 def taken():
@@ -81,21 +88,26 @@ def taken():
     return sum(sum(map(int, numbers[11:15])) for numbers in stats()) / TICKS
 
 
+def waited():
+    """How many seconds the threads of all processes here have waited for a processor."""
+    return sum(int(text.split()[1]) for text in told_of_others("task", "[0-9]*", "schedstat")) / 1e9
+
+
 def goes_on(before, now):
-    """Whether a process did something between two looks, or would have if it had got a processor or a disk: a busy
-    machine leaves its threads in the states R or D, and a thread that waits for something else has another state."""
-    return now - before >= LEAST or any(numbers[0] in "RD" for numbers in stats("task", "[0-9]*"))
+    """Whether a process did something between two looks, or would have if it had got a processor or a disk. It did not
+    if it only polls, whatever state a look finds it in."""
+    return sum(now) - sum(before) >= LEAST or any(numbers[0] == "D" for numbers in stats("task", "[0-9]*"))
 
 
 def is_late(child, seconds, processor):
     """Waits for a child. Returns whether it was late: it took too many seconds, too many of a processor, or was
     idle."""
-    end, before, quiet = time.monotonic() + seconds, 0, 0
+    end, before, quiet = time.monotonic() + seconds, (0, 0), 0
     with open(os.pidfd_open(child), "rb", 0) as file:
         while not select.select([file], [], [], 1 / LOOKS)[0]:
-            now = taken()
+            now = taken(), waited()
             quiet = 0 if goes_on(before, now) else quiet + 1
-            if time.monotonic() >= end or now >= processor or quiet >= QUIET * LOOKS:
+            if time.monotonic() >= end or now[0] >= processor or quiet >= QUIET * LOOKS:
                 return True
             before = now
     return False
