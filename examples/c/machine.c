@@ -366,8 +366,9 @@ static uint8_t in(uint16_t port) {
 }
 
 static void store(uint16_t offset, uint8_t value) {
+    const uint8_t bytes[4] = {value};
     begin();
-    memory_write(here, CLOCK + offset, (uint8_t[]){value, 0, 0, 0}, 4);
+    memory_write(here, CLOCK + offset, bytes, sizeof bytes);
     end();
 }
 
