@@ -50,6 +50,18 @@ def test_levels():
     assert len(found) == 6 and [name for comment, name in found if "level-triggered" not in comment] == []
 
 
+# The call that saves a device, and the size that its array has at least.
+OF_SAVES = r"(?ms)^\w+ superio_(\w+)_save\([^)]*?SUPERIO_AT_LEAST\((\w+)\)\]\)"
+
+
+def test_arrays_of_saves():
+    """Each has the size of its own device."""
+    found = re.findall(OF_SAVES, (ROOT / "bindings/c/superio.h").read_text("ascii"))
+    sizes = {name for name in read_header().constants if re.fullmatch(r"SUPERIO_\w+_SAVED_(?:MAX|SIZE)", name)}
+    assert len(found) == 3 and {size for _, size in found} == sizes
+    assert [name for name, size in found if not size.startswith(f"SUPERIO_{name.upper()}_SAVED_")] == []
+
+
 def test_version():
     constants = read_header().constants
     version = (ROOT / "VERSION").read_text("ascii").strip()
