@@ -2,15 +2,17 @@
 //! What a monitor in Rust alone sees of the devices: their writers and objects, the host's time, long input, texts,
 //! conversions and what threads may do. What any monitor sees is in the lines of tests/data/calls and
 //! tests/c/shared.txt of the repository.
+use std::cell::RefCell;
 use std::error::Error as StdError;
 use std::io;
 use std::panic::{RefUnwindSafe, UnwindSafe};
 use std::sync::atomic::{AtomicU32, Ordering};
+use std::sync::Arc;
 use std::time::{SystemTime, UNIX_EPOCH};
 
-use vm_superio::rtc_pl031::{self, AlarmIsSet, RtcSnapshot};
+use vm_superio::rtc_pl031::{self, AlarmIsSet, RtcEvents, RtcSnapshot};
 use vm_superio::saved::SavedStateError;
-use vm_superio::serial::{self, Error, NoEvents};
+use vm_superio::serial::{self, Error, NoEvents, SerialEvents};
 use vm_superio::{I8042Device, Rtc, RtcState, Serial, SerialState, Trigger};
 
 /// A trigger that counts its calls from any thread.
@@ -50,6 +52,62 @@ fn output_goes_to_the_writer_which_comes_back() {
     assert_eq!(serial.writer(), b"a-b");
     assert_eq!(serial.interrupt_evt().0.load(Ordering::SeqCst), 0);
     assert_eq!(serial.into_writer(), b"a-b");
+}
+
+/// An events object that keeps the names of what it is told.
+#[derive(Default)]
+struct Told(RefCell<Vec<&'static str>>);
+
+impl Told {
+    fn tell(&self, name: &'static str) {
+        self.0.borrow_mut().push(name);
+    }
+}
+
+impl SerialEvents for Told {
+    fn buffer_read(&self) {
+        self.tell("buffer_read");
+    }
+
+    fn out_byte(&self) {
+        self.tell("out_byte");
+    }
+
+    fn tx_lost_byte(&self) {
+        self.tell("tx_lost_byte");
+    }
+
+    fn in_buffer_empty(&self) {
+        self.tell("in_buffer_empty");
+    }
+}
+
+impl RtcEvents for Told {
+    fn invalid_read(&self) {
+        self.tell("invalid_read");
+    }
+
+    fn invalid_write(&self) {
+        self.tell("invalid_write");
+    }
+}
+
+/// Tells an object of each event once.
+fn tell_each<EV: SerialEvents + RtcEvents>(events: &EV) {
+    events.buffer_read();
+    events.out_byte();
+    events.tx_lost_byte();
+    events.in_buffer_empty();
+    events.invalid_read();
+    events.invalid_write();
+}
+
+#[test]
+fn an_events_object_in_an_arc_is_told_the_same() {
+    let shared = Arc::new(Told::default());
+    tell_each(&shared);
+    let names = ["buffer_read", "out_byte", "tx_lost_byte", "in_buffer_empty", "invalid_read", "invalid_write"];
+    assert_eq!(*shared.0.borrow(), names);
 }
 
 #[test]
