@@ -2,12 +2,11 @@
 //! What a monitor in Rust alone sees of the devices: their writers and objects, the host's time, long input, texts,
 //! conversions and what threads may do. What any monitor sees is in the lines of tests/data/calls and
 //! tests/c/shared.txt of the repository.
-use std::cell::RefCell;
 use std::error::Error as StdError;
 use std::io;
 use std::panic::{RefUnwindSafe, UnwindSafe};
 use std::sync::atomic::{AtomicU32, Ordering};
-use std::sync::Arc;
+use std::sync::{Arc, Mutex};
 use std::time::{SystemTime, UNIX_EPOCH};
 
 use vm_superio::rtc_pl031::{self, AlarmIsSet, RtcEvents, RtcSnapshot};
@@ -56,11 +55,11 @@ fn output_goes_to_the_writer_which_comes_back() {
 
 /// An events object that keeps the names of what it is told.
 #[derive(Default)]
-struct Told(RefCell<Vec<&'static str>>);
+struct Told(Mutex<Vec<&'static str>>);
 
 impl Told {
     fn tell(&self, name: &'static str) {
-        self.0.borrow_mut().push(name);
+        self.0.lock().unwrap().push(name);
     }
 }
 
@@ -107,7 +106,7 @@ fn an_events_object_in_an_arc_is_told_the_same() {
     let shared = Arc::new(Told::default());
     tell_each(&shared);
     let names = ["buffer_read", "out_byte", "tx_lost_byte", "in_buffer_empty", "invalid_read", "invalid_write"];
-    assert_eq!(*shared.0.borrow(), names);
+    assert_eq!(*shared.0.lock().unwrap(), names);
 }
 
 #[test]
