@@ -35,7 +35,8 @@ BROWSER = ["chromium", "--headless", "--disable-gpu", "--no-first-run", "--hide-
 # So a browser knows each element's name all the time. Otherwise it finds those of a whole page whenever it is asked for
 # one; but to know them costs more than that where few are asked for.
 FOR_A_READER = "--force-renderer-accessibility=basic"
-TOLD = re.compile(r'CONSOLE\S+ "(.*)", source: ')
+# Pages of the browser's own, such as the list below its address bar, tell how slow the machine is.
+TOLD = re.compile(r'CONSOLE\S+ "(.*)", source: (?!chrome:)')
 # A Linux whose driver reads 256 bytes of a paste, as it does at an interrupt, while 17 more arrive. As many wait then.
 BOOT = ";".join(f"sw 00 {byte:02x}" for byte in b"ttyS0 at I/O 0x3f8 is a 16550A\r\n\r\n~ # head -c 4096 | md5sum\r\n")
 PASTE = b"Linux takes 256 bytes at an interrupt, and leaves the others. " * 5
