@@ -28,14 +28,17 @@ from superio import Board, parse
 HERE = Path(__file__).parent
 MOST_BYTES, RANDOM_SCRIPTS = 72_000, 2_000
 MOST_RUNS = 70_000   # of functions and of their parts, until the page is there
-# Frames of files may be read, and elements have the names that a screen reader says. The super-user has no sandbox.
+# Frames of files may be read, and elements have the names that a screen reader says. The list below the address bar is
+# a page, too, which would take as long to begin as ours. The super-user has no sandbox.
 BROWSER = ["chromium", "--headless", "--disable-gpu", "--no-first-run", "--hide-scrollbars", "--window-size=1300,900",
            "--force-prefers-reduced-motion", "--enable-logging=stderr", "--allow-file-access-from-files",
-           "--enable-blink-features=ComputedAccessibilityInfo", *(["--no-sandbox"] if os.geteuid() == 0 else [])]
+           "--enable-blink-features=ComputedAccessibilityInfo",
+           "--disable-features=WebUIOmniboxPopup,WebUIOmniboxFullPopup,WebUIOmniboxAimPopup",
+           *(["--no-sandbox"] if os.geteuid() == 0 else [])]
 # So a browser knows each element's name all the time. Otherwise it finds those of a whole page whenever it is asked for
 # one; but to know them costs more than that where few are asked for.
 FOR_A_READER = "--force-renderer-accessibility=basic"
-# Pages of the browser's own, such as the list below its address bar, tell how slow the machine is.
+# The browser's own pages, too, say something there, such as that the machine is slow.
 TOLD = re.compile(r'CONSOLE\S+ "(.*)", source: (?!chrome:)')
 # A Linux whose driver reads 256 bytes of a paste, as it does at an interrupt, while 17 more arrive. As many wait then.
 BOOT = ";".join(f"sw 00 {byte:02x}" for byte in b"ttyS0 at I/O 0x3f8 is a 16550A\r\n\r\n~ # head -c 4096 | md5sum\r\n")

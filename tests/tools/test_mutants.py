@@ -406,11 +406,10 @@ def test_a_command_has_an_end(copy, command):
     assert ended.how == "late" and ended.processor < processor + 9
 
 
-# What a command does between two looks: the seconds of a processor that it takes and for which it waits, of which two
-# count as work, and the state of a thread of it.
-BETWEEN_LOOKS = {"idles": (0, 0, "S"), "hardly works": (1, 0, "S"), "works": (2, 0, "S"), "polls": (0, 1, "R"),
-                 "wants a processor": (0, 2, "R"), "gets half of one": (1, 1, "R"), "wants a disk": (0, 0, "D")}
-IDLE, PATIENCE = {"idles", "hardly works", "polls"}, 3   # in a row
+# What a command does between two looks: the seconds of a processor that it takes, of which two count as work, and the
+# state of a thread of it.
+BETWEEN_LOOKS = {"idles": (0, "S"), "polls": (1, "R"), "works": (2, "S"), "works more": (3, "R"), "wants a disk": (0, "D")}
+IDLE, PATIENCE = {"idles", "polls"}, 3   # in a row
 
 
 def test_a_command_that_waits_is_late(monkeypatch):
@@ -426,27 +425,10 @@ def test_a_command_that_waits_is_late(monkeypatch):
                 looked.append((*did, *PATIENCE * ["idles"])[len(looked)])
                 return sum(BETWEEN_LOOKS[one][0] for one in looked)
             monkeypatch.setattr(runner, "taken", taken)
-            monkeypatch.setattr(runner, "waited", lambda: sum(BETWEEN_LOOKS[one][1] for one in looked))
-            monkeypatch.setattr(runner, "stats", lambda *pattern: [BETWEEN_LOOKS[looked[-1]][2]])
+            monkeypatch.setattr(runner, "stats", lambda *pattern: [BETWEEN_LOOKS[looked[-1]][1]])
             assert runner.is_late(process.pid, 1000, 1000)
             was_idle = [IDLE.issuperset(looked[end - PATIENCE:end]) for end in range(PATIENCE, len(looked) + 1)]
             assert was_idle == [*(len(was_idle) - 1) * [False], True], looked
-
-
-# What the system says of threads: the nanoseconds for which each ran and waited, and how often it ran.
-THREADS = {"1/task/1": "9 9 9", f"{os.getpid()}/task/{os.getpid()}": "9 9 9", "70/task/70": "4000000000 250000000 3",
-           "70/task/71": "5 500000000 1", "812/task/812": "0 0 0", "813/task/813": "7 1000000000 2"}
-
-
-def test_what_wants_a_processor_waits(tmp_path, monkeypatch):
-    """What all threads waited, but not those of the two processes that try a command."""
-    for name, text in THREADS.items():
-        (tmp_path / name).mkdir(parents=True)
-        (tmp_path / name / "schedstat").write_text(text + "\n", encoding="ascii")
-    (tmp_path / "70/schedstat").write_text("0 3000000000 1\n", encoding="ascii")   # a process is no thread
-    (tmp_path / "814/task/814").mkdir(parents=True)   # it has ended meanwhile
-    monkeypatch.setattr(runner, "PROCESSES", tmp_path)
-    assert runner.waited() == 1.75
 
 
 @pytest.mark.needs("mutants", "pytest")
@@ -454,7 +436,7 @@ def test_words_of_pytest(copy, monkeypatch):
     """Each run finds the code as it is then, also where Python keeps what it has compiled, and tells what has failed, or
     what it has found, and what it took."""
     monkeypatch.setenv("PYTEST_DISABLE_PLUGIN_AUTOLOAD", "1")
-    monkeypatch.delenv("PYTHONDONTWRITEBYTECODE", raising=False)
+    monkeypatch.setenv("PYTHONDONTWRITEBYTECODE", "1")   # which no command is given
     [compiles] = TOOL.PARTS["python"].compiles
     test = "import code_of\n\ndef test_it():\n    assert code_of.sum_of(range({})) {}\n"
     for value, how in ((1, "failed"), (2, "passed"), (3, "failed")):
@@ -465,6 +447,7 @@ def test_words_of_pytest(copy, monkeypatch):
             how, ["test_one.py::test_it"] if how == "failed" else [])
     found = copy.run(f"{TOOL.PYTEST} test_one.py --collect-only")
     assert found.tests == ["test_one.py::test_it"] and 0.01 < found.processor < 60
+    assert [*copy.folder.glob("__pycache__/test_one.*.pyc")]
 
 
 @pytest.mark.parametrize("part", [part for part in TOOL.PARTS.values() if part.language == "python"],

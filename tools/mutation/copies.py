@@ -47,9 +47,10 @@ class Copy:
     def begin(self):
         """Starts the runner of commands, in the sandbox."""
         words = [*SANDBOX, "--bind", self.folder, self.folder, "--chdir", self.folder, *RUNNER]
-        path = os.pathsep.join([str(self.folder / "compilers"), os.environ["PATH"]])
+        environment = {**os.environ, "PATH": os.pathsep.join([str(self.folder / "compilers"), os.environ["PATH"]])}
+        environment.pop("PYTHONDONTWRITEBYTECODE", None)   # each command would compile all tests again
         return subprocess.Popen(words, stdin=subprocess.PIPE, stdout=subprocess.PIPE, stderr=subprocess.DEVNULL,
-                                encoding="utf-8", env={**os.environ, "PATH": path})
+                                encoding="utf-8", env=environment)
 
     def run(self, command, memory=None, seconds=LONGEST, processor=LONGEST):
         """Runs a command within limits, because a mutant may run, print or take memory without end. Each process gets

@@ -29,7 +29,7 @@ PROCESSES = Path("/proc")
 MOST_WRITTEN = 200_000 << 10  # how many bytes a file can have
 TICKS = os.sysconf("SC_CLK_TCK")   # how many ticks a second has
 QUIET, LOOKS = 20, 2          # after how many idle seconds a command is late, and how often per second we look
-LEAST = 0.05                  # a command that took, or wanted, fewer seconds of a processor between two looks is idle
+LEAST = 0.05                  # a command that took fewer seconds of a processor between two looks is idle
 
 
 class Told:
@@ -69,18 +69,12 @@ def begin(command, memory, told):
     return import_module("pytest").main(command, plugins=[Told(told)])
 
 
-def told_of_others(*pattern):
-    """What the system's files of these names tell of each process but these two, or of its threads."""
-    for path in PROCESSES.glob("/".join(["[0-9]*", *pattern])):
-        if int(path.relative_to(PROCESSES).parts[0]) not in (1, os.getpid()):
-            with suppress(OSError):
-                yield path.read_text(encoding="utf-8", errors="replace")
-
-
 def stats(*pattern):
     """The numbers about each process but these two, or about their threads, from their state on."""
-    for text in told_of_others(*pattern, "stat"):
-        yield text.rpartition(")")[2].split()
+    for path in PROCESSES.glob("/".join(["[0-9]*", *pattern, "stat"])):
+        if int(path.relative_to(PROCESSES).parts[0]) not in (1, os.getpid()):
+            with suppress(OSError):
+                yield path.read_text(encoding="utf-8", errors="replace").rpartition(")")[2].split()
 
 
 def taken():
@@ -88,26 +82,22 @@ def taken():
     return sum(sum(map(int, numbers[11:15])) for numbers in stats()) / TICKS
 
 
-def waited():
-    """How many seconds the threads of all processes here have waited for a processor."""
-    return sum(int(text.split()[1]) for text in told_of_others("task", "[0-9]*", "schedstat")) / 1e9
-
-
-def goes_on(before, now):
-    """Whether a process did something between two looks, or would have if it had got a processor or a disk. It did not
-    if it only polls, whatever state a look finds it in."""
-    return sum(now) - sum(before) >= LEAST or any(numbers[0] == "D" for numbers in stats("task", "[0-9]*"))
+def goes_on(processor):
+    """Whether a command did something between two looks, for which it took so much of a processor, or waits for a disk.
+    It did not if it only polls, whatever state a look finds it in. Only on a machine with ten times as much to do as it
+    has processors does one that works get less."""
+    return processor >= LEAST or any(numbers[0] == "D" for numbers in stats("task", "[0-9]*"))
 
 
 def is_late(child, seconds, processor):
     """Waits for a child. Returns whether it was late: it took too many seconds, too many of a processor, or was
     idle."""
-    end, before, quiet = time.monotonic() + seconds, (0, 0), 0
+    end, before, quiet = time.monotonic() + seconds, 0, 0
     with open(os.pidfd_open(child), "rb", 0) as file:
         while not select.select([file], [], [], 1 / LOOKS)[0]:
-            now = taken(), waited()
-            quiet = 0 if goes_on(before, now) else quiet + 1
-            if time.monotonic() >= end or now[0] >= processor or quiet >= QUIET * LOOKS:
+            now = taken()
+            quiet = 0 if goes_on(now - before) else quiet + 1
+            if time.monotonic() >= end or now >= processor or quiet >= QUIET * LOOKS:
                 return True
             before = now
     return False
