@@ -530,7 +530,7 @@ def test_the_fastest_tests_that_reach_a_line_come_first():
     assert [[test.name for test in some] for some in (reaching, others)] == [["quick", "good", "slow"], ["other"]]
     commands = [*reach.commands(mutant, reaching)]
     assert named(commands) == [["quick", "good"], ["slow"]]
-    assert [limits for _, *limits in commands] == [[60, 8], [645, 86]]
+    assert [limits for _, *limits in commands] == [[60, 5], [645, 63.5]]
     assert reach.of(TOOL.Mutant("a.c", 4, "", ""))[0] == []
     assert len(reach.of(TOOL.Mutant("b.c", 4, "", ""))[1]) == 4
 

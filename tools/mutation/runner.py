@@ -28,7 +28,7 @@ TEMPORARY = ["/tmp", "/dev/shm"]
 PROCESSES = Path("/proc")
 MOST_WRITTEN = 200_000 << 10  # how many bytes a file can have
 TICKS = os.sysconf("SC_CLK_TCK")   # how many ticks a second has
-QUIET, LOOKS = 20, 2          # after how many idle seconds a command is late, and how often per second we look
+QUIET, LOOKS = 10, 2          # after how many idle seconds a command is late, and how often per second we look
 LEAST = 0.05                  # a command that took fewer seconds of a processor between two looks is idle
 
 
