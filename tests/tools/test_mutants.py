@@ -408,7 +408,8 @@ def test_a_command_has_an_end(copy, command):
 
 # What a command does between two looks: the seconds of a processor that it takes, of which two count as work, and the
 # state of a thread of it.
-BETWEEN_LOOKS = {"idles": (0, "S"), "polls": (1, "R"), "works": (2, "S"), "works more": (3, "R"), "wants a disk": (0, "D")}
+BETWEEN_LOOKS = {"idles": (0, "S"), "polls": (1, "R"), "works": (2, "S"), "works more": (3, "R"),
+                 "wants a disk": (0, "D")}
 IDLE, PATIENCE = {"idles", "polls"}, 3   # in a row
 
 
