@@ -188,9 +188,9 @@ class Told:
 def told(request, tmp_path_factory):
     """Opens the browsers once, for the tests of this file that are run."""
     items = [item for item in request.session.items if item.path == Path(__file__)]
-    names = {item.callspec.params.get("name") for item in items if hasattr(item, "callspec")}
+    names = dict.fromkeys(item.callspec.params.get("name") for item in items if hasattr(item, "callspec"))
     has_scripts = any(item.name == "test_scripts" for item in items)
-    tried = {kind: [row for name, row in rows.items() if name in names] for kind, rows in (
+    tried = {kind: [rows[name] for name in names if name in rows] for kind, rows in (
         ("features", FEATURES), ("looks", LOOKS), ("pictures", PICTURES))}
     tried["scripts"] = board_scripts("page", RANDOM_SCRIPTS) if has_scripts else []
     more = browse_all(tmp_path_factory, tried)

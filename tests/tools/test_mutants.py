@@ -474,7 +474,7 @@ def test_an_object_is_made_once(copy):
         return copy.run(f"cc -Wall -Werror {words} -o program && test $(./program) = {number}").how == "passed"
 
     def made():
-        return {path.name for path in (copy.folder / "compilers" / "objects").glob("*.o")}
+        return {path.name for path in (copy.folder / "programs" / "objects").glob("*.o")}
     write("main.c", "#include <stdio.h>\nint other(void);\nint main(void) { printf(\"%d\", other()); }\n")
     write("other.c", "#include \"other.h\"\nint other(void) { return VALUE; }\n")
     write("other.h", "#define VALUE 1\n")
@@ -487,6 +487,12 @@ def test_an_object_is_made_once(copy):
     write("other.c", "int other(void) { int unused; return 3; }\n")
     assert not is_built() and is_built("-Wno-error main.c other.c", 3) and len(made()) == 7
     assert copy.run("test \"$(cc -Wall main.c other.c -o program 2>&1 | grep -c unused)\" -gt 0").how == "passed"
+
+
+@pytest.mark.needs("mutants", "chromium")
+def test_a_browser_begins_without_its_script(copy):
+    """Which takes a third of its start, and nothing of what it sets matters to a test."""
+    assert copy.run("cmp $(readlink -f $(command -v chromium)) /usr/lib/chromium/chromium").how == "passed"
 
 
 def a_test(name, seconds, reaches=True, command="run"):
@@ -511,15 +517,19 @@ class Recording:
         return Ended("passed", 1)
 
 
-def test_each_command_of_a_mutant_has_its_limits(tmp_path):
-    """Those of its part in memory, and those of its tests in time. Tests that do not reach its line come too."""
+@pytest.mark.parametrize("is_listed", [False, True])
+def test_each_command_of_a_mutant_has_its_limits(is_listed, tmp_path):
+    """Those of its part in memory, and those of its tests in time. Tests that do not reach its line come too, but not for
+    a mutant that may survive."""
     part = TOOL.Part("a.c", ["compile {file}"], ["one", "other"], memory=1234)
     tests = [TOOL.Test(name, "", 1, 1, {"a.c": {1: name == "one"}}) for name in part.tests]
     reach, copy = TOOL.Reach(tests), Recording(tmp_path)
     mutant = TOOL.Mutant("a.c", 0, "", "")
-    assert TOOL.end_of(mutant, part, reach, copy) == ("survive", 3)
+    assert TOOL.end_of(mutant, part, reach, copy, is_listed) == ("survive", 2 if is_listed else 3)
+    if is_listed:
+        tests.pop()
     assert [(command, memory) for command, memory, _ in copy.ran] == [
-        ("compile a.c", 1234), ("one", 1234), ("other", 1234)]
+        ("compile a.c", 1234), *((test.command, 1234) for test in tests)]
     assert [limits for *_, limits in copy.ran] == [
         (300,), *(tuple(limits) for test in tests for _, *limits in reach.commands(mutant, [test]))]
 
@@ -531,7 +541,7 @@ def test_the_fastest_tests_that_reach_a_line_come_first():
     assert [[test.name for test in some] for some in (reaching, others)] == [["quick", "good", "slow"], ["other"]]
     commands = [*reach.commands(mutant, reaching)]
     assert named(commands) == [["quick", "good"], ["slow"]]
-    assert [limits for _, *limits in commands] == [[60, 5], [645, 63.5]]
+    assert [limits for _, *limits in commands] == [[60, 4], [645, 43]]
     assert reach.of(TOOL.Mutant("a.c", 4, "", ""))[0] == []
     assert len(reach.of(TOOL.Mutant("b.c", 4, "", ""))[1]) == 4
 
@@ -580,6 +590,6 @@ def test_each_command_may_end_a_mutant(place, end, how, monkeypatch, tmp_path):
     monkeypatch.setattr(copy, "run", lambda command, *limits: Recording.run(copy, command, *limits)._replace(
         how=how if len(copy.ran) == place + 1 else "passed"))
     wanted = "late" if (end, how) == ("killed", "late") else end
-    assert TOOL.end_of(TOOL.Mutant("a.c", 0, "", ""), part, reach, copy) == (wanted, place + 1)
+    assert TOOL.end_of(TOOL.Mutant("a.c", 0, "", ""), part, reach, copy, False) == (wanted, place + 1)
     assert len(copy.ran) == place + 1
     assert [f"{test}" for _, test in reach.refusals] == [f"{test}" for test in tests if test.command == copy.ran[-1][0]]

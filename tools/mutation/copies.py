@@ -21,6 +21,7 @@ SANDBOX = ["bwrap", "--ro-bind", "/", "/", "--dev", "/dev", "--dev-bind-try", "/
            "--new-session"]
 RUNNER = ["/usr/bin/python3", "-c", Path(__file__).with_name("runner.py").read_text(encoding="utf-8")]
 COMPILERS = ["cc", "gcc"]
+BROWSER = Path("/usr/lib/chromium/chromium")   # Debian's script around it takes a third of its start
 PYTEST = "/usr/bin/python3 -m pytest -q -x"   # the runner has pytest imported already, and takes the words after this
 LONGEST = 3600  # seconds
 
@@ -40,14 +41,16 @@ class Copy:
         self.folder, self.runner = folder, None
         shutil.copytree(root, folder, ignore=IGNORED, dirs_exist_ok=True)
         Cargo(folder, settings=folder)   # which needs no network then
-        (folder / "compilers").mkdir()
+        (folder / "programs").mkdir()
         for name in COMPILERS:
-            shutil.copy(Path(__file__).with_name("compiler"), folder / "compilers" / name)
+            shutil.copy(Path(__file__).with_name("compiler"), folder / "programs" / name)
+        if BROWSER.exists():
+            (folder / "programs" / "chromium").symlink_to(BROWSER)
 
     def begin(self):
         """Starts the runner of commands, in the sandbox."""
         words = [*SANDBOX, "--bind", self.folder, self.folder, "--chdir", self.folder, *RUNNER]
-        environment = {**os.environ, "PATH": os.pathsep.join([str(self.folder / "compilers"), os.environ["PATH"]])}
+        environment = {**os.environ, "PATH": os.pathsep.join([str(self.folder / "programs"), os.environ["PATH"]])}
         environment.pop("PYTHONDONTWRITEBYTECODE", None)   # each command would compile all tests again
         return subprocess.Popen(words, stdin=subprocess.PIPE, stdout=subprocess.PIPE, stderr=subprocess.DEVNULL,
                                 encoding="utf-8", env=environment)

@@ -207,4 +207,4 @@ class Reach:
             for command in dict.fromkeys(test.command for test in group):
                 found, start = [test for test in group if test.command == command], self.start[command]
                 seconds = start.seconds + self.total("seconds", found)
-                yield found, 30 + 15 * seconds, 2 + 3 * (start.processor + self.total("processor", found))
+                yield found, 30 + 15 * seconds, 2 + 2 * (start.processor + self.total("processor", found))
