@@ -148,8 +148,8 @@ def sample(monkeypatch, tmp_path):
     monkeypatch.setattr(TOOL, "LISTED", tmp_path / "survivors.txt")
     monkeypatch.setenv("PYTEST_DISABLE_PLUGIN_AUTOLOAD", "1")   # which the sample needs not, and which begin slowly
 
-    def call(*listed, every=1):
-        monkeypatch.setattr(sys, "argv", ["mutants", "--jobs", "1", "--every", f"{every}"])
+    def call(*listed, words=""):
+        monkeypatch.setattr(sys, "argv", ["mutants", "--jobs", "1", *words.split()])
         (tmp_path / "survivors.txt").write_text("\n".join(f"{entry}  a reason\n" for entry in listed), encoding="utf-8")
         return TOOL.main()
     return call
@@ -157,11 +157,11 @@ def sample(monkeypatch, tmp_path):
 
 @pytest.mark.needs("mutants", "pytest")
 def test_an_unlisted_survivor_is_an_error(sample, capsys):
-    """Of five mutants one is refused by the test that reaches it, one by the test that does not run it."""
+    """Of four mutants one is refused by the test that reaches it, one by the test that does not run it."""
     assert sample(SAME) == "1 survivors are not in survivors.txt"
     said = capsys.readouterr().out
-    assert said.startswith(f"{SAME}survive\n\n{UNREACHED}survive, and no test reaches it: NOT LISTED\n\n"), said
-    assert "\nsample: 2 killed, 2 survive, 0 do not compile; 0 did not end in time; " in said
+    assert said.startswith(f"{UNREACHED}survive, and no test reaches it: NOT LISTED\n\nsample: "), said
+    assert "\nsample: 2 killed, 1 survive, 0 do not compile, 1 left out; 0 did not end in time; " in said
 
 
 @pytest.mark.parametrize("counts", [(0, 0), (1, 0), (0, 2), (2, 1)])
@@ -170,7 +170,7 @@ def test_each_part_counts(counts, monkeypatch):
     parts = {f"part {place}": count for place, count in enumerate(counts)}
     monkeypatch.setattr(TOOL, "PARTS", parts)
     monkeypatch.setattr(TOOL, "Copies", lambda *given: nullcontext())
-    monkeypatch.setattr(TOOL, "tried", lambda name, every, copies: iter([None, parts[name]]))
+    monkeypatch.setattr(TOOL, "tried", lambda name, *given: iter([None, parts[name]]))
     for names, total in ([], sum(counts)), ([*parts], sum(counts)), (["part 0"], counts[0]):
         monkeypatch.setattr(sys, "argv", ["mutants", *names])
         assert TOOL.main() == (f"{total} survivors are not in tests/tools/survivors.txt" if total else 0)
@@ -181,7 +181,7 @@ def test_jobs(monkeypatch):
     usable, asked = os.sched_getaffinity(0), []
     monkeypatch.setattr(TOOL, "PARTS", {"one": None})
     monkeypatch.setattr(TOOL, "Copies", lambda root, folder, count: asked.append(count) or nullcontext())
-    monkeypatch.setattr(TOOL, "tried", lambda name, every, copies: iter([0]))
+    monkeypatch.setattr(TOOL, "tried", lambda *given: iter([0]))
     try:
         for number, *words in ([len(usable)], [1], [1, "--jobs", "7"]):
             os.sched_setaffinity(0, [*usable][:number])
@@ -213,8 +213,14 @@ def test_all_parts_are_in_one_queue(monkeypatch, capsys):
 
 @pytest.mark.needs("mutants", "pytest")
 def test_listed_survivors_are_none(sample, capsys):
-    assert sample(SAME, every=4) == 0
-    assert "\nsample: 0 killed, 1 survive, 0 do not compile; " in capsys.readouterr().out
+    """They are tried only if asked for, and no others then. Each tells how it ended, also one that a test refuses."""
+    refused = "sample.py\n- return a + 1\n+ return a - 1\n"
+    assert sample(SAME, refused, words="--every 4") == 0
+    assert "sample: 0 killed, 0 survive, 0 do not compile, 1 left out; " in capsys.readouterr().out
+    assert sample(SAME, refused, words="--listed") == 0
+    said = capsys.readouterr().out
+    assert said.startswith(f"{SAME}survive\n\n{refused}killed\n\nsample: 1 killed, 1 survive, 0 do not compile, 2 left "
+                           "out; 0 did not end in time; "), said
 
 
 @pytest.mark.needs("mutants", "pytest")
@@ -226,7 +232,8 @@ def test_an_entry_lists_one_mutant(sample):
         "+ return b if a > b else a", new[:-1], f"{new} + 1", f"{new}  a"]
     rows = [name, old, new]
     entries = [[*rows[:place], other, *rows[place + 1:]] for place in range(3) for other in others[place]]
-    assert sample(*("\n".join([*entry, ""]) for entry in entries), every=4) == "1 survivors are not in survivors.txt"
+    assert sample(*("\n".join([*entry, ""]) for entry in entries), words="--every 4") == (
+        "1 survivors are not in survivors.txt")
 
 
 @pytest.mark.needs("mutants", "pytest")
@@ -517,19 +524,15 @@ class Recording:
         return Ended("passed", 1)
 
 
-@pytest.mark.parametrize("is_listed", [False, True])
-def test_each_command_of_a_mutant_has_its_limits(is_listed, tmp_path):
-    """Those of its part in memory, and those of its tests in time. Tests that do not reach its line come too, but not for
-    a mutant that may survive."""
+def test_each_command_of_a_mutant_has_its_limits(tmp_path):
+    """Those of its part in memory, and those of its tests in time. Tests that do not reach its line come too."""
     part = TOOL.Part("a.c", ["compile {file}"], ["one", "other"], memory=1234)
     tests = [TOOL.Test(name, "", 1, 1, {"a.c": {1: name == "one"}}) for name in part.tests]
     reach, copy = TOOL.Reach(tests), Recording(tmp_path)
     mutant = TOOL.Mutant("a.c", 0, "", "")
-    assert TOOL.end_of(mutant, part, reach, copy, is_listed) == ("survive", 2 if is_listed else 3)
-    if is_listed:
-        tests.pop()
+    assert TOOL.end_of(mutant, part, reach, copy) == ("survive", 3)
     assert [(command, memory) for command, memory, _ in copy.ran] == [
-        ("compile a.c", 1234), *((test.command, 1234) for test in tests)]
+        ("compile a.c", 1234), ("one", 1234), ("other", 1234)]
     assert [limits for *_, limits in copy.ran] == [
         (300,), *(tuple(limits) for test in tests for _, *limits in reach.commands(mutant, [test]))]
 
@@ -590,6 +593,6 @@ def test_each_command_may_end_a_mutant(place, end, how, monkeypatch, tmp_path):
     monkeypatch.setattr(copy, "run", lambda command, *limits: Recording.run(copy, command, *limits)._replace(
         how=how if len(copy.ran) == place + 1 else "passed"))
     wanted = "late" if (end, how) == ("killed", "late") else end
-    assert TOOL.end_of(TOOL.Mutant("a.c", 0, "", ""), part, reach, copy, False) == (wanted, place + 1)
+    assert TOOL.end_of(TOOL.Mutant("a.c", 0, "", ""), part, reach, copy) == (wanted, place + 1)
     assert len(copy.ran) == place + 1
     assert [f"{test}" for _, test in reach.refusals] == [f"{test}" for test in tests if test.command == copy.ran[-1][0]]
