@@ -598,11 +598,12 @@ def test_sums_of_prebuilt(monkeypatch):
 
 
 def test_lines_of_sums_are_replaced(tmp_path):
-    """Those of what is no longer there go, and the others stay."""
+    """Those of what is no longer there go, also if it is one folder of several, and the others stay."""
     (tmp_path / "a").mkdir()
     (tmp_path / "a/kept").touch()
-    (tmp_path / "SUMS").write_text("1  a/kept\n2  a/gone\n3  tests/gone\n4  the sources in docs and tests/tools\n",
-                                   "ascii")
+    (tmp_path / "SUMS").write_text("1  a/kept\n2  a/gone\n3  tests/gone\n4  the sources in docs and tests/tools\n"
+                                   "7  the sources in tests/tools and tests/gone\n"
+                                   "8  the sources in tests/gone and tests/tools\n", "ascii")
     replace_lines(tmp_path / "SUMS", ["5  a/kept", "6  tests/data"])
     assert (tmp_path / "SUMS").read_text("ascii").splitlines() == [
         "5  a/kept", "4  the sources in docs and tests/tools", "6  tests/data"]
