@@ -82,6 +82,17 @@ def test_header(compiler, tmp_path):
         check([*words.split(), *WARNINGS, "-Werror", "-fsyntax-only", source], "")
 
 
+@pytest.mark.needs("clang")
+@pytest.mark.parametrize("language", ["c", "c++"])
+@pytest.mark.parametrize("target", ["i386-linux-gnu", "arm-linux-gnueabi", "mips-linux-gnu", "powerpc-linux-gnu",
+                                    "riscv32-linux-gnu"])
+def test_header_of_32_bits(target, language, tmp_path):
+    """Also where a uint64_t may stand at each fourth byte, as on i386, which makes a console smaller."""
+    (tmp_path / "header.h").write_text("#include <superio.h>\n", "ascii")
+    check(["clang", f"--target={target}", "-ffreestanding", f"-x{language}", *WARNINGS, "-Werror",
+           "-fsyntax-only", tmp_path / "header.h"], "")
+
+
 @pytest.mark.parametrize("known", ["", "#define __has_attribute(name) 0\n"], ids=["not asked", "none"])
 @pytest.mark.parametrize("compiler", COMPILERS.values())
 def test_a_compiler_without_attributes(compiler, known, tmp_path):

@@ -4,7 +4,8 @@
  * receives. All of it comes back in order, whatever the controller refuses, for drivers that read IIR once or until
  * nothing is pending, and take few bytes or many, in machines that slept and were reset before. Input goes in at once
  * while the guest polls, and otherwise once its driver is ready, also after a sleep and after a reset. The loop comes
- * back soon, and sleeps while IER enables nothing. After a restore it comes back for bytes that the guest has left.
+ * back soon, and sleeps while IER enables nothing. After a restore it comes back for bytes that the guest has left. A
+ * controller that takes levels always has the port's.
  */
 #include <stdio.h>
 #include <stdlib.h>
@@ -18,13 +19,14 @@ void reset(void);
 void suspend(void);
 void set_polled(bool polls); /* the monitor's own: sets what a machine begins with */
 void restore(const superio_serial *saved); /* and takes the steps of a restore */
+bool level(void); /* and tells the level of the port's line */
 
 enum { INPUT = 2000, ROOM = 100 };
 static uint8_t input[ROOM];    /* what waits for the guest */
 static size_t waiting, typed;  /* how much, and how much has come from the source so far */
 static size_t sent, in_order;  /* output, and how much of it is what was typed */
 static unsigned edges;         /* that the guest has not taken */
-static bool takes_levels, is_up, is_timed, is_restless;
+static bool takes_levels, is_up, is_timed, is_restless, is_level_wrong;
 
 bool raise_interrupt(void) {
     if (takes_levels || rand() % 4 == 0)
@@ -51,6 +53,8 @@ void remove_input(size_t count) {
     waiting -= count;
     memmove(input, input + count, waiting);
 }
+
+static void compare_levels(void) { is_level_wrong = is_level_wrong || (takes_levels && is_up != level()); }
 
 /* The guest reads a register, and the event loop may make a turn before. */
 static uint8_t look(uint8_t offset) {
@@ -99,6 +103,7 @@ static bool exchange(unsigned most, bool is_until_none) {
     is_timed = false;
     reset();
     for (unsigned calls = 0; calls < 1000000; calls++) {
+        compare_levels();
         if (calls == 20)
             start();
         else if (calls > 20 && rand() % 8 == 0)
@@ -163,6 +168,7 @@ static bool goes_in_by_rule(bool polls) {
             write_access(1, value);
             is_ready = is_ready || (value & 0x03) == 0x01;
         }
+        compare_levels();
         if (goes_in() != is_ready)
             return false;
     }
@@ -184,6 +190,7 @@ static bool comes_back_after_a_restore(void) {
         edges = waiting = 0;
         is_timed = false;
         restore(&saved);
+        compare_levels();
         for (unsigned turns = 0; turns < 100 && is_timed && !(takes_levels ? is_up : edges > 0); turns++) {
             is_timed = false;
             turn();
@@ -213,6 +220,8 @@ int main(void) {
             return 1;
         }
     }
-    puts(is_restless ? "the event loop comes back for nothing" : "all came back");
-    return is_restless;
+    puts(is_level_wrong ? "the line is not at the port's level"
+         : is_restless  ? "the event loop comes back for nothing"
+                        : "all came back");
+    return is_level_wrong || is_restless;
 }

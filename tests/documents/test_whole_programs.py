@@ -36,6 +36,7 @@ WRITE = re.compile(r"^    if \(interrupt\(superio_console_write\(.*\n.*\n", re.M
 INTERRUPT = re.compile(r"(?:^/\*[^/]*\*/\n)?^static \w+ interrupt\(.*?^\}\n", re.M | re.S)
 # What a monitor adds to the functions of docs/PORT.md for a guest that begins to poll, or no longer does.
 SET_POLLED = "void set_polled(bool polls);\nvoid set_polled(bool polls) { is_polled = is_ready = polls; }\n"
+LEVEL = "bool level(void);\nbool level(void) { return superio_serial_interrupt_line(&port); }\n"
 # And for a machine that is restored, by what the page says of a snapshot for each kind of line.
 RESTORE = ("void restore(const superio_serial *saved);\n"
            "void restore(const superio_serial *saved) {{ port = *saved; {} }}\n")
@@ -706,7 +707,7 @@ def test_bare_port(line, tmp_path):
         level = code("docs/PORT.md", "c", "set_line")
         functions, count = INTERRUPT.subn(f"void set_line(bool is_up);\n{level}", functions)
         assert count == 1
-    functions += SET_POLLED + RESTORE.format(STEPS[line])
+    functions += SET_POLLED + LEVEL + RESTORE.format(STEPS[line])
     compile_c(tmp_path, "port", functions, ROOT / "tests/documents/bare_port.c", LIBRARY, "-o", "port")
     check(["./port"], "all came back\n", cwd=tmp_path)
 
