@@ -133,37 +133,6 @@ def test_rules_of_a_monitor(tmp_path):
     assert ran.returncode == 0, ran.stdout
 
 
-# The machine's interrupt controller takes no pulse. Says, for work that wakes the event loop or does not, whether it is
-# woken, and which interrupts its next turn asks for.
-FULL = """#define main main_of_the_example
-#include "machine.c"
-#undef main
-#include <stdio.h>
-int main(void) {
-    for (int wakes = 0; wakes < 2; wakes++) {
-        static struct machine machine;
-        machine.irq = eventfd(0, EFD_NONBLOCK);
-        eventfd_write(machine.irq, UINT64_MAX - 1);
-        superio_console_new(&machine.console, false);
-        interrupt(&machine, superio_console_write(&machine.console, 1, 0x01)); /* IER: the driver is ready */
-        superio_console_work work = superio_console_receive(&machine.console, (const uint8_t *)"x", 1).work;
-        work.wakes = wakes;
-        bool is_woken = interrupt(&machine, work);
-        printf("%d: %d %d %d\\n", wakes, work.interrupts, is_woken, superio_console_turn(&machine.console).interrupts);
-    }
-}
-"""
-
-
-def test_a_machine_whose_controller_is_full(tmp_path):
-    """Its next turn asks for the interrupt again, whether the call wakes the event loop or not. For a byte that is held, a
-    turn comes anyway."""
-    (tmp_path / "full.c").write_text(FULL, "ascii")
-    check(["cc", "-I", ROOT / "bindings/c", "-I", ROOT / "examples/c", tmp_path / "full.c",
-           PREBUILT / f"{platform.machine()}-linux" / STATIC, "-pthread", "-o", tmp_path / "full"], "")
-    check([tmp_path / "full"], "0: 1 0 1\n1: 1 1 1\n")
-
-
 MACHINE = (ROOT / "examples/c/machine.c").read_text("utf-8")
 # What the lock of a machine is of, but where the guest is in place of the interrupt controller.
 OF_LOCK = re.compile(r"\b(machine|from|to)->(console|clock|ahead|now|clock_was_up|is_\w+|irq|clock_line)\b(?! = must)")
